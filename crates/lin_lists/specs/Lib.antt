@@ -1,0 +1,5 @@
+pub mod Totals
+pub mod TotalLemmas
+pub mod Division
+pub mod DivisionLemmas
+pub mod PlaceLemmas
