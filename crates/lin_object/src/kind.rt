@@ -1,0 +1,40 @@
+ghost use Rattle.std.specs.Prelude.{◌≡◌};
+ghost use Rattle.lin_object.specs.Words.{beside, kinds};
+
+/// The kinds of object that a history may declare.
+#[derive(Clone, Copy, PartialEq, Eq, Hash, Debug)]
+pub enum Kind {
+    /// One value, to be written, read, or compared and set.
+    Register,
+    /// A number that is added to.
+    Counter,
+    /// Items that come out in the order in which they went in.
+    Queue,
+    /// Items of which the newest comes out first.
+    Stack,
+    /// Items that are in it or not.
+    Set,
+    /// A lock that one process at a time holds.
+    Mutex,
+}
+
+/// The kind that a declaration calls by this name; `None` where there is none.
+pub fn kind_of_name(name: &str) -> Option<Kind>
+    ensures { result ≡ beside kinds name.now }
+{
+    if name == "register" {
+        Some(Kind::Register)
+    } else if name == "counter" {
+        Some(Kind::Counter)
+    } else if name == "queue" {
+        Some(Kind::Queue)
+    } else if name == "stack" {
+        Some(Kind::Stack)
+    } else if name == "set" {
+        Some(Kind::Set)
+    } else if name == "mutex" {
+        Some(Kind::Mutex)
+    } else {
+        None
+    }
+}

@@ -1,0 +1,56 @@
+ghost use Rattle.std.specs.Prelude.{◌≡◌, ℕ, Bool, true, Option, IfOk};
+ghost use Rattle.lin_object.specs.Step.{SameStep};
+ghost use Rattle.lin_object.specs.Lawful.{IsLawful};
+
+use std::alloc::{AllocError, Global};
+use std::hash::Hash;
+
+/// A sequential object: what its operations do when they are called one at a time.
+///
+/// It is deterministic: state, process and operation alone decide the next state and the reply. Where
+/// it has no step, no call of that operation is legal (Herlihy and Wing 1990, section 2).
+pub trait SeqObject: Eq + Drop {
+    /// What the object remembers from one call to the next.
+    type State: Eq + Hash + Drop;
+
+    /// An operation with its arguments.
+    type Op: Eq + Drop;
+
+    /// What a call answers.
+    type Reply: Eq + Drop;
+
+    // The state after an operation of a process, and its reply; none where it has no step.
+    ghost after: { Self → Self.State → ℕ → Self.Op → Option (Self.State × Self.Reply) };
+
+    /// Applies an operation of a process to a state: the next state and the reply, or `None` where the
+    /// object has no step. `AllocError` where memory for the next state was refused.
+    fn step(
+        &self,
+        alloc: Global,
+        state: &Self::State,
+        process: u32,
+        op: &Self::Op,
+    ) -> Result<Option<(Self::State, Self::Reply)>, AllocError>
+        ensures { IfOk result (λ answer. answer ≡ after self.now state.now process op.now) };
+
+    /// A state equal to this one. `AllocError` where memory for it was refused.
+    fn copy_state(&self, alloc: Global, state: &Self::State) -> Result<Self::State, AllocError>
+        ensures { IfOk result (λ copy. Self.State.eq copy state.now ≡ true) };
+
+    // Equal objects step alike on equal states and equal operations.
+    ghost steps_alike: { (x y : Self) (s t : Self.State) (process : ℕ) (a b : Self.Op) → Self.eq x y ≡ true → Self.State.eq s t ≡ true → Self.Op.eq a b ≡ true → SameStep Self.State.eq Self.Reply.eq (after x s process a) (after y t process b) };
+}
+
+/// A sequential object that several threads may use at one time. Every `SeqObject` that can be is one.
+pub trait SharedObject: SeqObject<State: Send + Sync, Op: Send + Sync, Reply: Send + Sync>
+    + Send
+    + Sync {}
+
+impl<
+    T: SeqObject<State: Send + Sync, Op: Send + Sync, Reply: Send + Sync> + Send + Sync,
+> SharedObject for T {}
+
+/// The laws of an object and its three types, as one fact that a proof may cite. It does nothing.
+pub fn lawful<O: SeqObject>()
+    ensures { IsLawful O.after O.eq O.State.eq O.Op.eq O.Reply.eq }
+{}
