@@ -1,0 +1,10 @@
+pub mod NumberLemmas
+pub mod SameLemmas
+pub mod ListLemmas
+pub mod EventLemmas
+pub mod OutcomeLemmas
+pub mod ObjectLemmas
+pub mod FollowLemmas
+pub mod KeptLemmas
+pub mod PlacingLemmas
+pub mod Rows

@@ -1,0 +1,15 @@
+use Rattle.std.proofs.Common.{◌≡◌, ◌++◌, ◌∷◌, [], rules}
+use Rattle.std.specs.List.{slice_get}
+use Rattle.lin_history.specs.Seen.{call_seen}
+use Rattle.lin_history.proofs.PlacingLemmas.{index_pushed, index_kept}
+use Rattle.lin_history.proofs.placing.indices_on.Goals as goal
+use Rattle.lin_history.proofs.placing.indices_on.Goals.{then-call-object+in_ok-push, else-call-object}
+
+pub loop-index-preserved : goal.loop-index-preserved
+loop-index-preserved c =
+    elim c.if-call-object.branch [
+      | then-call-object+in_ok-push w ↦
+          rw (w.indices-is, w.in_ok-push.ensures.items) (index_pushed c.args.object c.args.history.now.calls c.loop-index.index (call_seen c.call.result.now) c.loop-index.indices.items _ c.call.ensures.call w.if-call-object.true c.loop-index.invariant)
+      | else-call-object w ↦
+          rw w.indices-is (index_kept c.args.object c.args.history.now.calls c.loop-index.index (call_seen c.call.result.now) c.loop-index.indices.items _ c.call.ensures.call w.if-call-object.false c.loop-index.invariant)
+    ]

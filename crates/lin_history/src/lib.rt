@@ -1,0 +1,24 @@
+//! Histories of concurrent objects, the part of a history on one object, and what makes an order of
+//! its calls a linearization (Herlihy and Wing 1990).
+#![tactic(auto)]
+
+mod builder;
+mod fault;
+mod history;
+mod name;
+mod order;
+mod placed;
+mod placing;
+mod problem;
+
+pub use builder::Builder;
+pub use fault::BuildFault;
+pub use history::{CallInfo, History, ObjectInfo};
+pub use name::is_name;
+pub use order::Order;
+pub use placed::{Placed, WholeOrder};
+pub use placing::place;
+pub use problem::{Problem, ProblemCall, ProblemFault};
+
+#[cfg(test)]
+mod tests;

@@ -1,0 +1,55 @@
+ghost use Rattle.std.specs.Prelude.{◌≡◌, ◌<◌, length, IfOk};
+ghost use Rattle.lin_object.specs.declared.state.ObjState.{ObjState};
+ghost use Rattle.lin_history.specs.Legal.{Legal};
+ghost use Rattle.lin_history.specs.Joined.{indices_from, Places};
+ghost use Rattle.lin_history.specs.WholeOf.{whole_of, part_of, start_at};
+
+use crate::history::History;
+use crate::order::Order;
+use crate::placed::Placed;
+use lin_object::{AnyObject, SeqObject, start_state};
+use std::alloc::{AllocError, Global};
+
+// The indices of the calls on the object.
+fn indices_on(alloc: Global, history: &History, object: usize) -> Result<Vec<usize>, AllocError>
+    ensures { IfOk result (λ indices. indices.items ≡ indices_from object 0 history.now.calls) }
+{
+    let mut indices = Vec::new(alloc);
+    for index in 0..history.call_count() {
+        if history.call(index).object == object {
+            indices.push(index)?;
+        }
+    }
+    Ok(indices)
+}
+
+/// The calls of one object's order, by their indices in the history, each with the reply of its step. `AllocError` where
+/// memory was refused.
+///
+/// Conditions: the object is declared, and the order is legal on it from its start.
+pub fn place(
+    alloc: Global,
+    history: &History,
+    object: usize,
+    order: &Order,
+) -> Result<Vec<Placed>, AllocError>
+    requires object { object < length history.now.objects }
+    requires legal { (t : ObjState) × Legal (part_of history.now object) (start_at history.now object) order.now t }
+    ensures { IfOk result (λ placed. Places (whole_of history.now) object (start_at history.now object) order.now placed.items) }
+{
+    let indices = indices_on(alloc, history, object)?;
+    let info = history.object(object);
+    let mut state = start_state(alloc, info.kind, info.start);
+    let mut placed = Vec::new(alloc);
+    let calls = order.calls();
+    for number in calls {
+        let index = indices[*number];
+        let call = history.call(index);
+        let Some((next, reply)) = AnyObject.step(alloc, &state, call.process, &call.op)? else {
+            unreachable!()
+        };
+        placed.push(Placed { call: index, reply })?;
+        state = next;
+    }
+    Ok(placed)
+}
