@@ -1,0 +1,5 @@
+pub mod Tried
+pub mod LookupLemmas
+pub mod ClosedLemmas
+pub mod SizeLemmas
+pub mod RunLemmas

@@ -1,0 +1,176 @@
+use Rattle.std.proofs.Common.{◌≡◌, ℕ, suc, ◌+◌, ◌-◌, Option, Some, None, ◌<◌, ◌≤◌, Bool, List, [], ◌∷◌, ◌++◌, length, ◌⊎◌, inl, inr, refl, sym, ◌∙◌, ap, subst, arith, length-append}
+use Rattle.std.specs.Prelude.{IfSome, IsSome, IsSomeAnd}
+use Rattle.lin_history.specs.Posed.{Posed}
+use Rattle.lin_history.specs.Continuations.{IsContinuation}
+use Rattle.lin_search.specs.CallSet.{with_call}
+use Rattle.lin_search.specs.Next.{IsNext}
+use Rattle.lin_search.specs.declared.outcome.Outcome.{Outcome}
+use Rattle.lin_search.specs.declared.outcome.Outcome.TheVariants.{Found, Refuted, Undecided, Stopped}
+use Rattle.lin_search.specs.Size.{IsOneOf, AllDifferent, EachOf, HasMany, HasMoreThan}
+use Rattle.lin_search.specs.Answer.{IsAnswer}
+use Rattle.lin_search.specs.DepthFirst.{IsFinding, IsCounted, IsTold}
+use Rattle.lin_search.specs.FirstCallLemmas.{continuation_join, none_continues}
+use Rattle.lin_search.proofs.Tried.{IsBelow}
+
+module _ (P : List ℕ → Type 0) where
+  each_append : (xs ys : List (List ℕ)) → EachOf P xs → EachOf P ys → EachOf P (xs ++ ys)
+  each_append [] ys a b = b
+  each_append (x ∷ xs) ys a b = (a.0, each_append xs ys a.1 b)
+
+  each_at : (xs : List (List ℕ)) (l : List ℕ) → EachOf P xs → IsOneOf l xs → P l
+  each_at [] l a h = absurd h
+  each_at (x ∷ xs) l a h = elim h [ inl q ↦ subst P (sym q) a.0 | inr q ↦ each_at xs l a.1 q ]
+
+each_map : (P Q : List ℕ → Type 0) → ((l : List ℕ) → P l → Q l) → (xs : List (List ℕ)) → EachOf P xs → EachOf Q xs
+each_map P Q f [] a = tt
+each_map P Q f (x ∷ xs) a = (f x a.0, each_map P Q f xs a.1)
+
+one_append : (xs ys : List (List ℕ)) (l : List ℕ) → IsOneOf l (xs ++ ys) → IsOneOf l xs ⊎ IsOneOf l ys
+one_append [] ys l h = inr h
+one_append (x ∷ xs) ys l h = elim h [ inl q ↦ inl (inl q) | inr q ↦ elim (one_append xs ys l q) [ inl r ↦ inl (inr r) | inr r ↦ inr r ] ]
+
+different_append : (xs ys : List (List ℕ)) → AllDifferent xs → AllDifferent ys → ((l : List ℕ) → IsOneOf l xs → IsOneOf l ys → ⊥) → AllDifferent (xs ++ ys)
+different_append [] ys a b apart = b
+different_append (x ∷ xs) ys a b apart = (
+  λ h. elim (one_append xs ys x h) [ inl q ↦ a.0 q | inr q ↦ apart x (inl refl) q ],
+  different_append xs ys a.1 b (λ l h k. apart l (inr h) k),
+)
+
+-- each list, behind i
+abbrev behind : ℕ → List (List ℕ) → List (List ℕ)
+behind i [] = []
+behind i (l ∷ ls) = (i ∷ l) ∷ behind i ls
+
+one_behind : (i : ℕ) (ls : List (List ℕ)) (l : List ℕ) → IsOneOf l (behind i ls) → (m : List ℕ) × (l ≡ i ∷ m) × IsOneOf m ls
+one_behind i [] l h = absurd h
+one_behind i (x ∷ ls) l h = elim h [ inl q ↦ (x, q, inl refl) | inr q ↦ (let r = one_behind i ls l q in (r.0, r.1, inr r.2)) ]
+
+tails_same : (i : ℕ) (a b : List ℕ) → i ∷ a ≡ i ∷ b → a ≡ b
+tails_same i a b e = cc
+
+different_behind : (i : ℕ) (ls : List (List ℕ)) → AllDifferent ls → AllDifferent (behind i ls)
+different_behind i [] a = tt
+different_behind i (x ∷ ls) a =
+    (λ h. (let r = one_behind i ls (i ∷ x) h in a.0 (subst (λ (m : List ℕ). IsOneOf m ls) (sym (tails_same i x r.0 r.1)) r.2)), different_behind i ls a.1)
+
+length_behind : (i : ℕ) (ls : List (List ℕ)) → length (behind i ls) ≡ length ls
+length_behind i [] = refl
+length_behind i (x ∷ ls) = ap suc (length_behind i ls)
+
+each_behind : (P Q : List ℕ → Type 0) (i : ℕ) → ((l : List ℕ) → P l → Q (i ∷ l)) → (ls : List (List ℕ)) → EachOf P ls → EachOf Q (behind i ls)
+each_behind P Q i f [] a = tt
+each_behind P Q i f (x ∷ ls) a = (f x a.0, each_behind P Q i f ls a.1)
+
+below_next : (i : ℕ) (l : List ℕ) → IsBelow i l → IsBelow (i + 1) l
+below_next i [] b = tt
+below_next i (c ∷ cs) b = omega arith
+
+not_below_itself : (i : ℕ) (l m : List ℕ) → l ≡ i ∷ m → IsBelow i l → ⊥
+not_below_itself i l m e b = let h : i < i = subst (λ (x : List ℕ). IsBelow i x) e b in omega (arith, h)
+
+not_empty : (i : ℕ) (l : List ℕ) → i ∷ l ≡ [] → ⊥
+not_empty i l e = cc
+
+pub many_none : (P : List ℕ → Type 0) → HasMany P 0
+many_none P = record { lists = []; different = tt; each = tt; count = refl }
+
+module _ {State Op Reply : Type 0} (p : Posed State Op Reply) (set : List Bool) (s : State) where
+  -- continuations that begin with a call below i
+  abbrev pub Begun : ℕ → List ℕ → Type 0
+  Begun i l = IsContinuation p set s l × IsBelow i l
+
+  pub many_skip : (i n : ℕ) → HasMany (Begun i) n → HasMany (Begun (i + 1)) n
+  many_skip i n k = record {
+    lists = k.lists;
+    different = k.different;
+    each = each_map (λ (l : List ℕ). Begun i l × (l ≡ [] → ⊥)) (λ (l : List ℕ). Begun (i + 1) l × (l ≡ [] → ⊥)) (λ l h. ((h.0.0, below_next i l h.0.1), h.1)) k.lists k.each;
+    count = k.count;
+  }
+
+  pub many_all : (i n : ℕ) → HasMany (Begun i) n → HasMany (IsContinuation p set s) n
+  many_all i n k = record {
+    lists = k.lists;
+    different = k.different;
+    each = each_map (λ (l : List ℕ). Begun i l × (l ≡ [] → ⊥)) (λ (l : List ℕ). IsContinuation p set s l × (l ≡ [] → ⊥)) (λ l h. (h.0.0, h.1)) k.lists k.each;
+    count = k.count;
+  }
+
+  -- one for the call i itself, and one for each continuation after it
+  pub many_step : (i : ℕ) (t : State) (n k : ℕ) → length set ≡ length p.calls → IsNext p set s i t → HasMany (Begun i) n → HasMany (IsContinuation p (with_call set i) t) k → HasMany (Begun (i + 1)) (n + 1 + k)
+  many_step i t n k flags is_next a b = record {
+    lists = a.lists ++ here;
+    different = different_append a.lists here a.different (fresh, different_behind i b.lists b.different) apart;
+    each = each_append Good a.lists here (each_map (λ (l : List ℕ). Begun i l × (l ≡ [] → ⊥)) Good (λ l h. ((h.0.0, below_next i l h.0.1), h.1)) a.lists a.each) (one, each_behind (λ (l : List ℕ). IsContinuation p (with_call set i) t l × (l ≡ [] → ⊥)) Good i (λ l h. ((continuation_join p set s i l t flags is_next h.0, omega arith), not_empty i l)) b.lists b.each);
+    count = let x = length-append a.lists here in let y = length_behind i b.lists in let u = a.count in let v = b.count in omega (arith, x, y, u, v);
+  }
+    where
+      here : List (List ℕ)
+      here = (i ∷ []) ∷ behind i b.lists
+
+      Good : List ℕ → Type 0
+      Good l = Begun (i + 1) l × (l ≡ [] → ⊥)
+
+      one : Good (i ∷ [])
+      one = ((continuation_join p set s i [] t flags is_next (none_continues p (with_call set i) t), omega arith), not_empty i [])
+
+      fresh : IsOneOf (i ∷ []) (behind i b.lists) → ⊥
+      fresh h =
+          let r = one_behind i b.lists (i ∷ []) h in
+          (each_at (λ (l : List ℕ). IsContinuation p (with_call set i) t l × (l ≡ [] → ⊥)) b.lists r.0 b.each r.2).1 (sym (tails_same i [] r.0 r.1))
+
+      apart : (l : List ℕ) → IsOneOf l a.lists → IsOneOf l here → ⊥
+      apart l h m =
+          let below = (each_at (λ (l : List ℕ). Begun i l × (l ≡ [] → ⊥)) a.lists l a.each h).0.1 in
+          elim m [ inl q ↦ not_below_itself i l [] q below | inr q ↦ (let r = one_behind i b.lists l q in not_below_itself i l r.0 r.1 below) ]
+
+pub many_as : (P : List ℕ → Type 0) (n m : ℕ) → n ≡ m → HasMany P n → HasMany P m
+many_as P n m e k = record { lists = k.lists; different = k.different; each = k.each; count = k.count ∙ e }
+
+pub one_less : (a b : ℕ) → a ≤ b → (a ≡ b → ⊥) → a + 1 ≤ b
+one_less a b h ne = elim (less_or_same a b h) [ inl q ↦ omega (arith, q) | inr q ↦ absurd (ne q) ]
+  where
+    less_or_same : (a b : ℕ) → a ≤ b → (a < b) ⊎ (a ≡ b)
+    less_or_same a b h = grind arith
+
+pub count_start : (a : ℕ) → 0 ≡ a - a
+count_start a = omega arith
+
+pub count_gave_up : (old now limit : ℕ) → old ≤ now → now ≡ limit → (now - old) + 1 + 0 ≡ (limit - old) + 1
+count_gave_up old now limit h e = omega (arith, h, e)
+
+pub count_below_gave_up : (old now limit : ℕ) → old ≤ now → now + 1 ≤ limit → (now - old) + 1 + ((limit - (now + 1)) + 1) ≡ (limit - old) + 1
+count_below_gave_up old now limit h e = omega (arith, h, e)
+
+pub count_went_on : (old now new : ℕ) → old ≤ now → now + 1 ≤ new → (now - old) + 1 + (new - (now + 1)) ≡ new - old
+count_went_on old now new h e = omega (arith, h, e)
+
+module _ {State Op Reply : Type 0} (p : Posed State Op Reply) (set : List Bool) (s : State) (i : ℕ) (t : State) (flags : length set ≡ length p.calls) (is_next : IsNext p set s i t) where
+  -- a lift that was counted, and what the child's search counted
+  pub sized_on : (limit : Option ℕ) (old now mid new : ℕ) → old ≤ now → mid ≤ new → IfSome limit (λ (most : ℕ). mid ≡ now + 1) → (IsSome limit → HasMany (Begun p set s i) (now - old)) → (IsSome limit → HasMany (IsContinuation p (with_call set i) t) (new - mid)) → IsSome limit → HasMany (Begun p set s (i + 1)) (new - old)
+  sized_on None old now mid new a b e k m h = absurd (cc)
+  sized_on (Some most) old now mid new a b e k m h =
+      many_as (Begun p set s (i + 1)) ((now - old) + 1 + (new - mid)) (new - old) (omega (arith, a, b, e)) (many_step p set s i t (now - old) (new - mid) flags is_next (k h) (m h))
+
+  -- the limit was met at this lift
+  pub sized_here : (limit : Option ℕ) (old now : ℕ) → old ≤ now → IsSomeAnd limit (λ (most : ℕ). now ≡ most) → (IsSome limit → HasMany (Begun p set s i) (now - old)) → IsSomeAnd limit (λ (most : ℕ). HasMany (IsContinuation p set s) ((most - old) + 1))
+  sized_here None old now a e k = absurd e
+  sized_here (Some most) old now a e k =
+      many_as (IsContinuation p set s) ((now - old) + 1 + 0) ((most - old) + 1) (omega (arith, a, e)) (many_all p set s (i + 1) ((now - old) + 1 + 0) (many_step p set s i t (now - old) 0 flags is_next (k refl) (many_none (IsContinuation p (with_call set i) t))))
+
+  -- or below it
+  pub sized_below : (limit : Option ℕ) (old now mid : ℕ) → old ≤ now → IfSome limit (λ (most : ℕ). mid ≤ most) → IfSome limit (λ (most : ℕ). mid ≡ now + 1) → (IsSome limit → HasMany (Begun p set s i) (now - old)) → IsSomeAnd limit (λ (most : ℕ). HasMany (IsContinuation p (with_call set i) t) ((most - mid) + 1)) → IsSomeAnd limit (λ (most : ℕ). HasMany (IsContinuation p set s) ((most - old) + 1))
+  sized_below None old now mid a b e k m = absurd m
+  sized_below (Some most) old now mid a b e k m =
+      many_as (IsContinuation p set s) ((now - old) + 1 + ((most - mid) + 1)) ((most - old) + 1) (omega (arith, a, b, e)) (many_all p set s (i + 1) ((now - old) + 1 + ((most - mid) + 1)) (many_step p set s i t (now - old) ((most - mid) + 1) flags is_next (k refl) m))
+
+-- what the recursion tells of a configuration, when no lift was counted before
+module _ {State Op Reply : Type 0} (p : Posed State Op Reply) (set : List Bool) (s : State) where
+  more_than : (limit : Option ℕ) → IsSomeAnd limit (λ (most : ℕ). HasMany (IsContinuation p set s) ((most - 0) + 1)) → IsSomeAnd limit (λ (most : ℕ). HasMoreThan (IsContinuation p set s) most)
+  more_than None k = absurd k
+  more_than (Some most) k = many_as (IsContinuation p set s) ((most - 0) + 1) (most + 1) (omega arith) k
+
+  pub answer_of : (limit : Option ℕ) (new : ℕ) (tells : ℕ → Type 0) (o : Outcome) → IsFinding p set s o → IsCounted p set s limit 0 new o → IsTold tells o → IsAnswer p set s limit tells o
+  answer_of limit new tells (Found order) k m h = k
+  answer_of limit new tells (Refuted longest) k m h = k
+  answer_of limit new tells Undecided k m h = more_than limit m
+  answer_of limit new tells (Stopped told) k m h = h

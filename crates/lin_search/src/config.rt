@@ -1,0 +1,226 @@
+ghost use Rattle.std.specs.Prelude.{◌≡◌, ℕ, ◌<◌, ◌↔◌, true, length, IfOk, IfSome, IfNone, IsTrue};
+ghost use Rattle.lin_history.specs.Posed.{posed};
+ghost use Rattle.lin_history.specs.Legal.{next};
+ghost use Rattle.lin_history.specs.Precedence.{Before};
+ghost use Rattle.lin_history.specs.Continuations.{has, no_calls};
+ghost use Rattle.lin_history.specs.Configurations.{IsReachable};
+ghost use Rattle.lin_search.specs.CallSet.{with_call};
+ghost use Rattle.lin_search.specs.Next.{IsNext, HasEveryCompleted};
+
+use crate::call_set::CallSet;
+use lin_history::Problem;
+use lin_object::{SeqObject, lawful};
+use std::alloc::{AllocError, Global};
+use std::hash::{Hash, Hasher};
+use std::marker::Model;
+
+/// A configuration of a problem: the set of the calls that are lifted, and the state that they lead to
+/// (Lowe 2017). Two are equal, and are hashed alike, where their sets are the same and their states equal.
+#[derive(Drop)]
+pub struct Config<O: SeqObject> {
+    lifted: CallSet,
+    state: O::State,
+}
+
+impl<O: SeqObject> Model for Config<O> {
+    ghost use Rattle.lin_search.specs.Configuration.{Configuration};
+
+    ghost Value = { Configuration O.State };
+
+    ghost view = { λ config. record { lifted = config.lifted; state = config.state } };
+}
+
+impl<O: SeqObject> PartialEq for Config<O> {
+    ghost use Rattle.lin_search.specs.Configuration.{same_configuration};
+    ghost use Rattle.lin_search.specs.ConfigurationLemmas.{same_configuration_partial};
+
+    ghost eq = { same_configuration O.State.eq };
+
+    ghost laws = { same_configuration_partial O.State.PartialEq.laws };
+
+    fn eq(&self, other: &Config<O>) -> bool {
+        self.lifted == other.lifted && self.state == other.state
+    }
+}
+
+impl<O: SeqObject> Eq for Config<O> {
+    ghost use Rattle.lin_search.specs.ConfigurationLemmas.{same_configuration_equivalence};
+
+    ghost laws = { same_configuration_equivalence O.State.Eq.laws };
+}
+
+impl<O: SeqObject> Hash for Config<O> {
+    ghost use Rattle.std.specs.Prelude.{◌++◌};
+    ghost use Rattle.std.specs.Hash as fed;
+    ghost use Rattle.lin_search.specs.ConfigurationLemmas.{same_input};
+
+    ghost hash_input = { λ config. fed.slice fed.bool config.lifted ++ O.State.hash_input config.state };
+
+    ghost respects_eq = { λ x y same. same_input O.State.eq O.State.hash_input O.State.Hash.respects_eq x y same };
+
+    fn hash<H: Hasher>(&self, state: &mut H) {
+        self.lifted.hash(state);
+        self.state.hash(state);
+    }
+}
+
+// Whether call a returned before call b was called.
+fn before<O: SeqObject>(problem: &Problem<O>, a: usize, b: usize) -> bool
+    requires a { a < length problem.now.calls }
+    requires b { b < length problem.now.calls }
+    ensures { IsTrue result ↔ Before (posed O.after O.State.eq O.Reply.eq problem.now) a b }
+{
+    match &problem.call(a).returned {
+        Some((returned, _)) => *returned < problem.call(b).called,
+        None => false,
+    }
+}
+
+// Whether every call that returned before the call was called is in the set.
+fn is_preceded<O: SeqObject>(problem: &Problem<O>, set: &CallSet, call: usize) -> bool
+    requires { call < length problem.now.calls }
+    ensures { IsTrue result ↔ ((a : ℕ) → Before (posed O.after O.State.eq O.Reply.eq problem.now) a call → has set.now a ≡ true) }
+{
+    for other in 0..problem.len() {
+        if before(problem, other, call) && !set.has(other) {
+            return false;
+        }
+    }
+    true
+}
+
+// The state after the call, where it has a step whose reply is the recorded one.
+fn state_after<O: SeqObject>(
+    alloc: Global,
+    problem: &Problem<O>,
+    state: &O::State,
+    call: usize,
+) -> Result<Option<O::State>, AllocError>
+    requires { call < length problem.now.calls }
+    ensures { IfOk result (λ answer. answer ≡ next (posed O.after O.State.eq O.Reply.eq problem.now) state.now call) }
+{
+    let taken = problem.call(call);
+    let Some((state, reply)) = problem
+        .object()
+        .step(alloc, state, taken.process, &taken.op)?
+    else {
+        return Ok(None);
+    };
+    match &taken.returned {
+        None => Ok(Some(state)),
+        Some((_, recorded)) => {
+            if reply == *recorded {
+                Ok(Some(state))
+            } else {
+                Ok(None)
+            }
+        }
+    }
+}
+
+impl<O: SeqObject> Config<O> {
+    /// The configuration in which a search begins: no call is lifted, and the state is the problem's at
+    /// the start. `AllocError` where memory was refused.
+    pub fn root(alloc: Global, problem: &Problem<O>) -> Result<Config<O>, AllocError>
+        ensures lifted { IfOk result (λ root. root.lifted ≡ no_calls (posed O.after O.State.eq O.Reply.eq problem.now)) }
+        ensures state { IfOk result (λ root. O.State.eq root.state problem.now.start ≡ true) }
+        ensures reachable { IfOk result (λ root. IsReachable (posed O.after O.State.eq O.Reply.eq problem.now) root.lifted root.state) }
+    {
+        lawful::<O>();
+        Ok(Config {
+            lifted: CallSet::none(alloc, problem.len())?,
+            state: problem.object().copy_state(alloc, problem.start())?,
+        })
+    }
+
+    /// The configuration that the call leads to. `None` exactly where the call can't follow: it is lifted,
+    /// or a call that precedes it is not, or it has no step from the state, or its step's reply is not the
+    /// recorded one. `AllocError` where memory was refused.
+    ///
+    /// Conditions: the configuration is reachable in the problem, and the call is below `problem.len()`.
+    pub fn child(
+        &self,
+        alloc: Global,
+        problem: &Problem<O>,
+        call: usize,
+    ) -> Result<Option<Config<O>>, AllocError>
+        requires reachable { IsReachable (posed O.after O.State.eq O.Reply.eq problem.now) self.now.lifted self.now.state }
+        requires call { call < length problem.now.calls }
+        ensures some { IfOk result (λ answer. IfSome answer (λ child. (child.lifted ≡ with_call self.now.lifted call) × IsNext (posed O.after O.State.eq O.Reply.eq problem.now) self.now.lifted self.now.state call child.state)) }
+        ensures reachable { IfOk result (λ answer. IfSome answer (λ child. IsReachable (posed O.after O.State.eq O.Reply.eq problem.now) child.lifted child.state)) }
+        ensures none { IfOk result (λ answer. IfNone answer ((t : O.State) → IsNext (posed O.after O.State.eq O.Reply.eq problem.now) self.now.lifted self.now.state call t → ⊥)) }
+    {
+        lawful::<O>();
+        if self.lifted.has(call) || !is_preceded(problem, &self.lifted, call) {
+            return Ok(None);
+        }
+        let Some(state) = state_after(alloc, problem, &self.state, call)? else {
+            return Ok(None);
+        };
+        Ok(Some(Config {
+            lifted: self.lifted.with_call(alloc, call)?,
+            state,
+        }))
+    }
+
+    /// A configuration equal to this one. `AllocError` where memory was refused.
+    ///
+    /// Condition: the configuration is reachable in the problem.
+    pub fn copy(&self, alloc: Global, problem: &Problem<O>) -> Result<Config<O>, AllocError>
+        requires { IsReachable (posed O.after O.State.eq O.Reply.eq problem.now) self.now.lifted self.now.state }
+        ensures lifted { IfOk result (λ copy. copy.lifted ≡ self.now.lifted) }
+        ensures state { IfOk result (λ copy. O.State.eq copy.state self.now.state ≡ true) }
+        ensures reachable { IfOk result (λ copy. IsReachable (posed O.after O.State.eq O.Reply.eq problem.now) copy.lifted copy.state) }
+    {
+        lawful::<O>();
+        Ok(Config {
+            lifted: self.lifted.copy(alloc)?,
+            state: problem.object().copy_state(alloc, &self.state)?,
+        })
+    }
+
+    /// The configuration with these calls lifted and this state.
+    pub fn from_parts(lifted: CallSet, state: O::State) -> Self
+        ensures { result ≡ record { lifted = lifted; state = state } }
+    {
+        Config { lifted, state }
+    }
+
+    /// The calls that are lifted, and the state.
+    pub fn into_parts(self) -> (CallSet, O::State)
+        ensures lifted { result.0 ≡ self.lifted }
+        ensures state { result.1 ≡ self.state }
+    {
+        (self.lifted, self.state)
+    }
+
+    /// Whether the call is lifted.
+    pub fn has(&self, call: usize) -> bool
+        ensures { result ≡ has self.now.lifted call }
+    {
+        self.lifted.has(call)
+    }
+
+    /// The state that the lifted calls lead to.
+    pub fn state(&self) -> &O::State
+        ensures { result.now ≡ self.now.state }
+    {
+        &self.state
+    }
+
+    /// Whether every completed call is lifted, whatever pending calls remain: then nothing more has to
+    /// follow.
+    ///
+    /// Condition: the configuration is reachable in the problem.
+    pub fn is_complete(&self, problem: &Problem<O>) -> bool
+        requires { IsReachable (posed O.after O.State.eq O.Reply.eq problem.now) self.now.lifted self.now.state }
+        ensures { IsTrue result ↔ HasEveryCompleted (posed O.after O.State.eq O.Reply.eq problem.now) self.now.lifted }
+    {
+        for call in 0..problem.len() {
+            if problem.call(call).returned.is_some() && !self.lifted.has(call) {
+                return false;
+            }
+        }
+        true
+    }
+}

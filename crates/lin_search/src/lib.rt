@@ -1,0 +1,32 @@
+//! The search for a linearization of one problem: configurations, and the depth-first search over them
+//! (Wing and Gong 1993; Lowe 2017).
+#![tactic(auto)]
+
+mod alone;
+mod call_set;
+mod config;
+mod depth_first;
+mod longest;
+mod longest_runs;
+mod memo;
+mod outcome;
+mod own_memo;
+mod plain;
+mod refutation;
+mod stop;
+
+pub use alone::search_alone;
+pub use call_set::CallSet;
+pub use config::Config;
+pub use depth_first::search;
+pub use longest::Longest;
+pub use longest_runs::longest_run;
+pub use memo::{Memo, Noted};
+pub use outcome::Outcome;
+pub use own_memo::OwnMemo;
+pub use plain::search_plain;
+pub use refutation::Refutation;
+pub use stop::{NoStop, Stop};
+
+#[cfg(test)]
+mod tests;

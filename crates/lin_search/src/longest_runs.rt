@@ -1,0 +1,88 @@
+ghost use Rattle.std.specs.Prelude.{ℕ, List, IfOk, IsTrue};
+ghost use Rattle.lin_history.specs.Lists.{IsLongest};
+ghost use Rattle.lin_history.specs.Posed.{posed};
+ghost use Rattle.lin_history.specs.Continuations.{IsContinuation};
+ghost use Rattle.lin_history.specs.Configurations.{IsReachable};
+ghost use Rattle.lin_history.specs.Linearizations.{IsLinearization, IsRun};
+ghost use Rattle.lin_search.specs.Answer.{HasNoCompletion};
+ghost use Rattle.lin_search.specs.LongestRun.{IsFirstLongest};
+
+use crate::config::Config;
+use crate::depth_first::{look_at, search_from};
+use crate::longest::Longest;
+use crate::memo::Memo;
+use crate::outcome::Outcome;
+use crate::stop::NoStop;
+use lin_history::{Order, Problem};
+use lin_object::{SeqObject, lawful};
+use std::alloc::{AllocError, Global};
+
+// What the longest continuations of a configuration with no completion tell: by a look, or by a search where
+// the memo does not know it. `here` tells that the memo names the problem.
+fn longest_of<O: SeqObject, M: Memo<O>>(
+    alloc: Global,
+    problem: &Problem<O>,
+    config: &Config<O>,
+    memo: &mut M,
+    here: bool,
+) -> Result<Longest, AllocError>
+    requires reachable { IsReachable (posed O.after O.State.eq O.Reply.eq problem.now) config.now.lifted config.now.state }
+    requires none { HasNoCompletion (posed O.after O.State.eq O.Reply.eq problem.now) config.now.lifted config.now.state }
+    requires here { IsTrue here → M.is_of memo.old problem.now }
+    ensures longest { IfOk result (λ longest. IsLongest (IsContinuation (posed O.after O.State.eq O.Reply.eq problem.now) config.now.lifted config.now.state) longest.more longest.first) }
+    ensures memo { M.changes memo.old memo.new }
+{
+    lawful::<O>();
+    if let Some(longest) = look_at(problem, config, memo, here) {
+        return Ok(longest);
+    }
+    let copy = config.copy(alloc, problem)?;
+    let mut lifts = 0;
+    let ended = search_from(
+        alloc,
+        problem,
+        copy,
+        memo,
+        here,
+        None,
+        &mut lifts,
+        &mut NoStop,
+    )?;
+    match ended.outcome {
+        Outcome::Refuted(longest) => Ok(longest),
+        Outcome::Found(_) => unreachable!(),
+        Outcome::Undecided => unreachable!(),
+        Outcome::Stopped(_) => unreachable!(),
+    }
+}
+
+/// The first, in lexicographic order, of the longest runs of a problem that has no linearization. The root
+/// and each configuration of the run is searched where the memo does not know it, with no limit and no stop;
+/// a hit never cuts the run short. `AllocError` where memory was refused; what was noted before stays in the
+/// memo.
+///
+/// Condition: the root is refuted, that is, the problem has no linearization.
+pub fn longest_run<O: SeqObject, M: Memo<O>>(
+    alloc: Global,
+    problem: &Problem<O>,
+    memo: &mut M,
+) -> Result<Order, AllocError>
+    requires { (l : List ℕ) → IsLinearization (posed O.after O.State.eq O.Reply.eq problem.now) l → ⊥ }
+    ensures run { IfOk result (λ order. IsFirstLongest (IsRun (posed O.after O.State.eq O.Reply.eq problem.now)) order) }
+    ensures memo { M.changes memo.old memo.new }
+{
+    lawful::<O>();
+    let here = memo.is_for(problem);
+    let mut calls = Vec::new(alloc);
+    let mut config = Config::root(alloc, problem)?;
+    let mut longest = longest_of(alloc, problem, &config, memo, here)?;
+    while let Some(call) = longest.first {
+        calls.push(call)?;
+        let Some(child) = config.child(alloc, problem, call)? else {
+            unreachable!()
+        };
+        config = child;
+        longest = longest_of(alloc, problem, &config, memo, here)?;
+    }
+    Ok(Order::new(calls))
+}

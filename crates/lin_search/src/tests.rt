@@ -1,0 +1,7 @@
+mod configurations;
+mod fakes;
+mod limits;
+mod longest;
+mod memos;
+mod problems;
+mod searches;
