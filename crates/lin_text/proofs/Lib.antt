@@ -1,0 +1,7 @@
+pub mod Causes
+pub mod Json
+pub mod Lines
+pub mod Walk
+pub mod Wholes
+pub mod Limits
+pub mod Operations

@@ -1,0 +1,27 @@
+use Rattle.std.proofs.Common.{◌≡◌, ap, ◌∙◌, arith}
+use Rattle.serde_json.specs.View.{view}
+use Rattle.lin_history.specs.Recorded.{kind_named}
+use Rattle.lin_text.specs.Causes.{cause_of}
+use Rattle.lin_text.specs.Line.{seen, IsLineEventIn}
+use Rattle.lin_text.proofs.Causes.{IsRead, refused_value, refused_event, leads_by}
+use Rattle.lin_text.proofs.text.take_line.Goals as goal
+
+pub returns-in-Err-read_value-clause-err : goal.returns-in-Err-read_value-clause-err
+returns-in-Err-read_value-clause-err c =
+    let read : IsRead c.args.builder.now c.args.line.now (view c.in-Ok.value) =
+    record { short = omega arith; there = cc (c.is_blank.ensures, c.if-is_blank.false); value = c.in-Ok.ensures.ok } in
+    λ other. refused_value _ _ _ _ read (c.in-Err-read_value.ensures other)
+
+pub returns-in-Ok-take_event-clause-ok : goal.returns-in-Ok-take_event-clause-ok
+returns-in-Ok-take_event-clause-ok c =
+    let read : IsRead c.args.builder.now c.args.line.now (view c.in-Ok.value) =
+    record { short = omega arith; there = cc (c.is_blank.ensures, c.if-is_blank.false); value = c.in-Ok.ensures.ok } in
+    let event : IsLineEventIn (kind_named c.args.builder.now) (view c.in-Ok.value) (seen c.in-Ok-read_value.event) = c.in-Ok-read_value.ensures in
+    leads_by _ _ _ _ _ read event c.in-Ok-take_event.ensures.sound c.in-Ok-take_event.ensures.ok
+
+pub returns-clause-err : goal.returns-clause-err
+returns-clause-err c =
+    let read : IsRead c.args.builder.now c.args.line.now (view c.in-Ok.value) =
+    record { short = omega arith; there = cc (c.is_blank.ensures, c.if-is_blank.false); value = c.in-Ok.ensures.ok } in
+    let event : IsLineEventIn (kind_named c.args.builder.now) (view c.in-Ok.value) (seen c.in-Ok-read_value.event) = c.in-Ok-read_value.ensures in
+    λ other. rw c.cause_of.ensures (refused_event _ _ _ _ _ read event (c.in-Err-take_event.ensures.err (λ memory. other (c.cause_of.ensures ∙ ap cause_of memory))))

@@ -1,0 +1,4 @@
+pub mod Causes
+pub mod Fields
+pub mod Line
+pub mod Text

@@ -1,0 +1,137 @@
+ghost use Rattle.std.specs.Prelude.{◌≡◌, ◌≢◌, option_map, is_some, IfOk, IfErr, Ok, Err};
+ghost use Rattle.serde_json.specs.View.{view, items_view};
+ghost use Rattle.lin_object.specs.Words.{beside, operations};
+ghost use Rattle.lin_text.specs.Fields.{what_in, process_in, name_in, kind_in, start_at, reply_in, arguments_in, op_at, wholes};
+
+use crate::cause::Cause;
+use crate::line::What;
+use lin_history::is_name;
+use lin_object::{Kind, Op, OpFault, Reply, is_op, kind_of_name, read_op};
+use serde_json::Value;
+use std::alloc::{AllocError, Global};
+
+#[tactic(auto, unfolding(crate::specs::Fields::what_in))]
+pub(crate) fn what_of(value: &Value) -> Option<What>
+    ensures { result ≡ what_in (view value.now) }
+{
+    let word = value.get("event").and_then(Value::as_str)?;
+    if word == "object" {
+        Some(What::Declaration)
+    } else if word == "call" {
+        Some(What::Call)
+    } else if word == "return" {
+        Some(What::Return)
+    } else {
+        None
+    }
+}
+
+#[tactic(auto, unfolding(crate::specs::Fields::process_in))]
+pub(crate) fn process_of(value: &Value) -> Option<u32>
+    ensures { result ≡ process_in (view value.now) }
+{
+    let number = value.get("process").and_then(Value::as_i64)?;
+    u32::try_from(number).ok()
+}
+
+#[tactic(auto, unfolding(crate::specs::Fields::name_in))]
+pub(crate) fn name_of(value: &Value) -> Option<&str>
+    ensures { option_map (λ name. name.now) result ≡ name_in (view value.now) }
+{
+    let name = value.get("object").and_then(Value::as_str)?;
+    if is_name(name) { Some(name) } else { None }
+}
+
+#[tactic(auto, unfolding(crate::specs::Fields::kind_in))]
+pub(crate) fn kind_of(value: &Value) -> Option<Kind>
+    ensures { result ≡ kind_in (view value.now) }
+{
+    let word = value.get("kind").and_then(Value::as_str)?;
+    kind_of_name(word)
+}
+
+#[tactic(auto, unfolding(crate::specs::Fields::start_at))]
+pub(crate) fn start_of(kind: Kind, value: &Value) -> Option<i64>
+    ensures { result ≡ start_at kind (view value.now) }
+{
+    match value.get("start") {
+        None => Some(0),
+        Some(start) => match kind {
+            Kind::Register | Kind::Counter => start.as_i64(),
+            Kind::Queue | Kind::Stack | Kind::Set | Kind::Mutex => None,
+        },
+    }
+}
+
+#[tactic(auto, unfolding(crate::specs::Fields::reply_in))]
+pub(crate) fn reply_of(value: &Value) -> Option<Reply>
+    ensures { result ≡ reply_in (view value.now) }
+{
+    match value.get("result")? {
+        Value::Null => Some(Reply::Empty),
+        Value::Bool(flag) => Some(Reply::Flag(*flag)),
+        Value::Number(number) => match number.as_i64() {
+            Some(number) => Some(Reply::Int(number)),
+            None => None,
+        },
+        Value::String(text) => {
+            if text.as_str() == "ok" {
+                Some(Reply::Okay)
+            } else {
+                None
+            }
+        }
+        Value::Array(_) | Value::Object(_) => None,
+    }
+}
+
+/// The whole numbers of a list, or none where an item is something else.
+fn wholes_of(alloc: Global, list: &[Value]) -> Result<Option<Vec<i64>>, AllocError>
+    ensures { IfOk result (λ found. option_map (λ v. v.items) found ≡ wholes (items_view list.now)) }
+{
+    let mut found = Vec::with_capacity(alloc, list.len())?;
+    for item in list {
+        match item.as_i64() {
+            Some(number) => found.push(number)?,
+            None => return Ok(None),
+        }
+    }
+    Ok(Some(found))
+}
+
+#[tactic(auto, unfolding(crate::specs::Fields::arguments_in))]
+fn arguments_of(alloc: Global, value: &Value) -> Result<Option<Vec<i64>>, AllocError>
+    ensures { IfOk result (λ found. option_map (λ v. v.items) found ≡ arguments_in (view value.now)) }
+{
+    match value.get("args") {
+        None => Ok(Some(Vec::new(alloc))),
+        Some(args) => match args.as_array() {
+            Some(list) => wholes_of(alloc, list),
+            None => Ok(None),
+        },
+    }
+}
+
+#[tactic(auto, unfolding(crate::specs::Fields::maker_at))]
+pub(crate) fn op_of(alloc: Global, kind: Kind, value: &Value) -> Result<Op, Cause>
+    ensures ok { IfOk result (λ op. op_at kind (view value.now) ≡ Ok op) }
+    ensures err { IfErr result (λ cause. cause ≢ Cause.OutOfMemory → op_at kind (view value.now) ≡ Err cause) }
+{
+    let Some(word) = value.get("op").and_then(Value::as_str) else {
+        return Err(Cause::BadOp);
+    };
+    if !is_op(kind, word) {
+        return Err(Cause::BadOp);
+    }
+    let Ok(arguments) = arguments_of(alloc, value) else {
+        return Err(Cause::OutOfMemory);
+    };
+    let Some(arguments) = arguments else {
+        return Err(Cause::BadArgs);
+    };
+    match read_op(kind, word, arguments.as_slice()) {
+        Ok(op) => Ok(op),
+        Err(OpFault::BadOp) => Err(Cause::BadOp),
+        Err(OpFault::BadArgs) => Err(Cause::BadArgs),
+    }
+}

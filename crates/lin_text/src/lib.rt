@@ -1,0 +1,13 @@
+//! The text of a history: JSON Lines, and what they mean.
+#![tactic(auto)]
+
+mod cause;
+mod fields;
+mod line;
+mod reading;
+#[cfg(test)]
+mod tests;
+mod text;
+
+pub use cause::{Cause, TextFault};
+pub use text::read_history;

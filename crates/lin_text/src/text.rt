@@ -1,0 +1,146 @@
+ghost use Rattle.std.specs.Prelude.{position, IfSome, ◌≡◌, ◌≢◌, ◌<◌, ◌≤◌, ◌∷◌, length, Some, None, Ok, Err, IfOk, IfErr, OnOk, OnErr};
+ghost use Rattle.std.specs.List.{list_all};
+ghost use Rattle.serde_json.specs.View.{view};
+ghost use Rattle.lin_text.specs.Line.{json, seen};
+ghost use Rattle.lin_history.specs.Recorded.{nothing_recorded, max_objects};
+ghost use Rattle.lin_text.specs.Text.{is_newline, lines, is_blank, is_blank_byte, max_line, max_input, refusals, taken, HasCause, Leads, MeansHistory, MeansFault, RanOutAt};
+ghost use Rattle.lin_history.specs.Refusals.{first_that_holds};
+
+use crate::cause::{Cause, TextFault, cause_of};
+use crate::line::Line;
+use crate::reading::read_value;
+use lin_history::{BuildFault, Builder, History};
+use serde_json::{Category, Value};
+use std::alloc::Global;
+
+const MAX_LINE: usize = 65536;
+
+const MAX_INPUT: usize = 67108864;
+
+fn is_blank(line: &[u8]) -> bool
+    ensures { result ≡ is_blank line.now }
+{
+    line.iter()
+        .all(|byte| matches!(*byte, b' ' | b'\t' | b'\r'))
+}
+
+/// The value of a line.
+#[tactic(auto, unfolding(crate::specs::Line::json))]
+fn json_of(alloc: Global, line: &[u8]) -> Result<Value, Cause>
+    ensures ok { IfOk result (λ value. json line.now ≡ Some (view value)) }
+    ensures err { IfErr result (λ cause. cause ≢ Cause.OutOfMemory → json line.now ≡ None) }
+    ensures cause { IfErr result (λ cause. cause ≢ Cause.OutOfMemory → cause ≡ Cause.NotJson) }
+{
+    match Value::from_slice(alloc, line) {
+        Ok(value) => Ok(value),
+        Err(error) => match error.classify() {
+            Category::Memory => Err(Cause::OutOfMemory),
+            _ => Err(Cause::NotJson),
+        },
+    }
+}
+
+// Gives an event to the builder. An `Err` changes nothing.
+fn take_event(alloc: Global, builder: &mut Builder, event: Line<'_>) -> Result<(), BuildFault>
+    ensures sound { OnOk result (first_that_holds (refusals builder.old (seen event.entry)) ≡ None) }
+    ensures ok { OnOk result (builder.new ≡ taken builder.old (seen event.entry)) }
+    ensures err { IfErr result (λ fault. fault ≢ BuildFault.OutOfMemory → first_that_holds (refusals builder.old (seen event.entry)) ≡ Some fault) }
+    ensures same { OnErr result (builder.new ≡ builder.old) }
+{
+    match event {
+        Line::Declare(name, kind, start) => builder.declare(alloc, name, kind, start),
+        Line::Call(process, name, op) => builder.call(process, name, op),
+        Line::Return(process, name, reply) => builder.ret(process, name, reply),
+    }
+}
+
+// Takes the event of a line. An `Err` changes nothing.
+fn take_line(alloc: Global, builder: &mut Builder, line: &[u8]) -> Result<(), Cause>
+    ensures ok { OnOk result (Leads builder.old line.now builder.new) }
+    ensures err { IfErr result (λ cause. cause ≢ Cause.OutOfMemory → HasCause builder.old line.now cause) }
+    ensures memory { IfErr result (λ cause. cause ≡ Cause.OutOfMemory → length line.now ≤ max_line) }
+    ensures same { OnErr result (builder.new ≡ builder.old) }
+{
+    if line.len() > MAX_LINE {
+        return Err(Cause::LineTooLong);
+    }
+    if is_blank(line) {
+        return Ok(());
+    }
+    let value = match json_of(alloc, line) {
+        Ok(value) => value,
+        Err(cause) => return Err(cause),
+    };
+    let event = match read_value(alloc, builder, &value) {
+        Ok(event) => event,
+        Err(cause) => return Err(cause),
+    };
+    match take_event(alloc, builder, event) {
+        Ok(()) => Ok(()),
+        Err(fault) => Err(cause_of(fault)),
+    }
+}
+
+fn newline_in(text: &[u8]) -> Option<usize>
+    ensures value { result ≡ position is_newline text.now }
+    ensures within { IfSome result (λ end. end < length text.now) }
+{
+    text.iter().position(|byte| *byte == b'\n')
+}
+
+/// The first line of a text that is not empty, and what stands after it.
+fn first_line(text: &[u8]) -> (&[u8], &[u8])
+    requires { 0 < length text.now }
+    ensures lines { lines text.now ≡ result.0.now ∷ lines result.1.now }
+    ensures shorter { length result.1.now < length text.now }
+{
+    match newline_in(text) {
+        Some(end) => (&text[..end], &text[end + 1..]),
+        None => (text, &[]),
+    }
+}
+
+// Takes the events of a text, line by line.
+fn read_lines(alloc: Global, builder: &mut Builder, text: &[u8]) -> Result<(), TextFault>
+    requires start { builder.old ≡ nothing_recorded }
+    requires short { length text.now ≤ max_input }
+    ensures history { OnOk result (MeansHistory text.now builder.new) }
+    ensures fault { IfErr result (λ fault. fault.cause ≢ Cause.OutOfMemory → MeansFault text.now fault.line fault.cause) }
+    ensures memory { IfErr result (λ fault. fault.cause ≡ Cause.OutOfMemory → RanOutAt text.now fault.line) }
+{
+    let mut rest = text;
+    let mut number = 0u64;
+    'lines: while !rest.is_empty() {
+        let (line, more) = first_line(rest);
+        number += 1;
+        if let Err(cause) = take_line(alloc, builder, line) {
+            return Err(TextFault {
+                line: number,
+                cause,
+            });
+        }
+        rest = more;
+    }
+    Ok(())
+}
+
+/// The history that a text means, or the first line that is refused, with its first cause.
+///
+/// `OutOfMemory` stands only where memory was refused while its line was read; it may stand in place of that line's own
+/// causes, the length of the line apart.
+pub fn read_history(alloc: Global, text: &[u8]) -> Result<History, TextFault>
+    ensures history { IfOk result (MeansHistory text.now) }
+    ensures objects { IfOk result (λ history. length history.objects ≤ max_objects) }
+    ensures fault { IfErr result (λ fault. fault.cause ≢ Cause.OutOfMemory → MeansFault text.now fault.line fault.cause) }
+    ensures memory { IfErr result (λ fault. fault.cause ≡ Cause.OutOfMemory → RanOutAt text.now fault.line) }
+{
+    if text.len() > MAX_INPUT {
+        return Err(TextFault {
+            line: 0,
+            cause: Cause::InputTooLong,
+        });
+    }
+    let mut builder = Builder::new(alloc);
+    read_lines(alloc, &mut builder, text)?;
+    Ok(builder.finish())
+}
