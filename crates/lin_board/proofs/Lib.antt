@@ -1,0 +1,5 @@
+pub mod Keeps
+pub mod Allows
+pub mod Gathers
+pub mod Seats
+pub mod Settles

@@ -1,0 +1,7 @@
+pub mod Rule
+pub mod Steps
+pub mod Facts
+pub mod Board
+pub mod Seat
+pub mod Gather
+pub mod Tally
