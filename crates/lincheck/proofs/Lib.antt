@@ -1,0 +1,4 @@
+pub mod Bytes
+pub mod ReportLemmas
+pub mod JudgeLemmas
+pub mod PrintLemmas

@@ -1,0 +1,59 @@
+-- What is printed of what was read is printed of the text.
+use Rattle.std.proofs.Common.{◌≡◌, ℕ, ◌+◌, ◌<◌, ◌≤◌, List, [], ◌∷◌, ◌++◌, length, length-append, take, Option, Some, None, IfSome, Ok, Err, ◌⊎◌, inl, inr, refl, sym, ap, subst, ◌∙◌, arith}
+use Rattle.std.specs.List.{slice_get}
+use Rattle.std.proofs.lemmas.Option.{slice_get_within}
+use Rattle.lin_object.specs.declared.reply.Reply.{Reply}
+use Rattle.lin_object.specs.declared.state.ObjState.{ObjState}
+use Rattle.lin_history.specs.declared.placed.Placed.{Placed}
+use Rattle.lin_history.specs.Recorded.{Recorded}
+use Rattle.lin_history.specs.Whole.{Replays, with_state}
+use Rattle.lin_history.specs.WholeOf.{whole_of, start_at}
+use Rattle.lin_text.specs.declared.cause.Cause.{Cause}
+use Rattle.lin_text.specs.Text.{max_input, MeansHistory, MeansFault}
+use Rattle.lincheck.specs.declared.status.Status.{Status}
+use Rattle.lincheck.specs.declared.status.Status.TheVariants.{Yes, No, Undecided, Refused}
+use Rattle.lincheck.specs.declared.verdict.Verdict.{Verdict}
+use Rattle.lincheck.specs.declared.verdict.Verdict.TheVariants as verdicts
+use Rattle.lincheck.specs.Reading.{IsReadOf}
+use Rattle.lincheck.specs.Verdict.{IsVerdict, IsOf, AreCalls}
+use Rattle.std.specs.Io.KnownBytes.{Appends}
+use Rattle.lincheck.specs.declared.fault.RunFault.TheVariants.{Write}
+use Rattle.lincheck.specs.Prints.{Prints}
+use Rattle.lincheck.specs.Ran.{Ran}
+
+means_history : (text read : List ℕ) (h : Recorded) → IsReadOf text read → MeansHistory read h → MeansHistory text h
+means_history text read h (inl same) m = subst (λ (t : List ℕ). MeansHistory t h) (sym same) m
+means_history text read h (inr long) m = absurd (let s = m.short in let l = long.0 in omega (arith, s, l))
+
+means_fault : (text read : List ℕ) (line : ℕ) (cause : Cause) → IsReadOf text read → MeansFault read line cause → MeansFault text line cause
+means_fault text read line cause (inl same) m = subst (λ (t : List ℕ). MeansFault t line cause) (sym same) m
+means_fault text read line cause (inr long) (inl m) =
+    let l = long.0 in
+    let n : length text ≡ length read + length long.1.0 = ap length long.1.1 ∙ length-append read long.1.0 in
+    inl (omega (arith, l, n), m.1, m.2)
+means_fault text read line cause (inr long) (inr m) = absurd (let s = m.2.short in let l = long.0 in omega (arith, s, l))
+
+pub prints_read : (text read : List ℕ) (status : Status) (printed : List ℕ) → IsReadOf text read → Prints read status printed → Prints text status printed
+prints_read text read Yes printed r p = (p.0, means_history text read p.0 r p.1, p.2, p.3)
+prints_read text read No printed r p = (p.0, means_history text read p.0 r p.1, p.2, p.3)
+prints_read text read Undecided printed r p = absurd p
+prints_read text read Refused printed r p = ((p.0.0, p.0.1, means_fault text read p.0.0 p.0.1 r p.0.2), p.1)
+
+replayed_calls : (h : Recorded) (states : ℕ → ObjState) (l : List (Placed Reply)) → Replays (whole_of h) states l → AreCalls (length h.calls) l
+replayed_calls h states [] r = tt
+replayed_calls h states (x ∷ xs) r = (slice_get_within h.calls x.call r.0 r.2.call, replayed_calls h (with_state (whole_of h) states r.0.object r.1) xs r.3)
+
+-- a right verdict names calls and objects of the history
+pub verdict_of : (h : Recorded) (v : Verdict) → IsVerdict h v → IsOf h v
+verdict_of h (verdicts.Yes l) v = replayed_calls h (start_at h) l v.1.legal
+verdict_of h (verdicts.No object) v = v.0.declared
+
+-- ---- a run on what was read
+
+pub ran_ok : (source old new : Option (List ℕ)) (read : List ℕ) (status : Status) (printed : List ℕ) → IfSome source (λ text. IsReadOf text read) → Prints read status printed → Appends old new printed → IfSome source (λ text. Ran text old new (Ok status))
+ran_ok None old new read status printed r p a = tt
+ran_ok (Some text) old new read status printed r p a = (printed, prints_read text read status printed r p, a)
+
+pub ran_write : (source old new : Option (List ℕ)) (read : List ℕ) (status : Status) (printed : List ℕ) → IfSome source (λ text. IsReadOf text read) → Prints read status printed → ((n : ℕ) × Appends old new (take n printed)) → IfSome source (λ text. Ran text old new (Err Write))
+ran_write None old new read status printed r p a = tt
+ran_write (Some text) old new read status printed r p a = (status, printed, a.0, prints_read text read status printed r p, a.1)

@@ -1,0 +1,71 @@
+-- One line more of a report.
+use Rattle.std.proofs.Common.{◌≡◌, ℕ, zero, suc, ◌+◌, ◌<◌, ◌≤◌, ◌==◌, ◌||◌, Bool, true, false, cond, List, [], ◌∷◌, ◌++◌, drop, take, set, length, get_or, Option, Some, None, refl, sym, ap, subst, ◌∙◌, append_assoc, append-nil, add-one, drop-cons, inl, inr, arith}
+use Rattle.std.specs.List.{slice_get}
+use Rattle.std.proofs.lemmas.Option.{slice_get_cases}
+use Rattle.lin_object.specs.declared.op.Op.{Op}
+use Rattle.lin_object.specs.declared.reply.Reply.{Reply}
+use Rattle.lin_history.specs.declared.placed.Placed.{Placed}
+use Rattle.lin_history.specs.Events.{Call}
+use Rattle.lin_history.specs.Recorded.{Recorded}
+use Rattle.lincheck.specs.Report.{call_line, call_lines, dropped_line, dropped_lines, is_placed}
+use Rattle.lincheck.specs.Verdict.{AreCalls}
+
+dropped_at : {A : Type 0} (xs : List A) (n : ℕ) (x : A) → slice_get xs n ≡ Some x → drop n xs ≡ x ∷ drop (n + 1) xs
+dropped_at [] n x e = absurd (cc)
+dropped_at {A} (y ∷ ys) zero x e = (let same : y ≡ x = cc in ap (λ (z : A). z ∷ ys) same)
+dropped_at (y ∷ ys) (suc n) x e = rw add-one (dropped_at ys n x e ∙ rw add-one refl)
+
+over : {A : Type 0} (xs : List A) (i : ℕ) → length xs ≤ i → drop i xs ≡ []
+over [] zero h = refl
+over [] (suc i) h = refl
+over (x ∷ xs) zero h = absurd (omega arith)
+over (x ∷ xs) (suc i) h = over xs i (omega arith)
+
+-- the calls of an order are calls of the history
+pub call_within : (n : ℕ) (xs : List (Placed Reply)) (i : ℕ) (x : Placed Reply) → AreCalls n xs → slice_get xs i ≡ Some x → x.call < n
+call_within n [] i x all e = absurd (cc)
+call_within n (y ∷ ys) zero x all e = let same : y ≡ x = cc in subst (λ (z : Placed Reply). z.call < n) same all.0
+call_within n (y ∷ ys) (suc i) x all e = call_within n ys i x all.1 e
+
+-- the lines so far and the lines of what is left are the lines of all
+pub record CallsWritten (h : Recorded) (order : List (Placed Reply)) (old out : List ℕ) (i : ℕ) : Type 0 where
+  pub lines : out ++ call_lines h (i + 1) (drop i order) ≡ old ++ call_lines h 1 order
+
+pub calls_none : (h : Recorded) (order : List (Placed Reply)) (old : List ℕ) → CallsWritten h order old old 0
+calls_none h order old = record { lines = refl }
+
+pub calls_more : (h : Recorded) (order : List (Placed Reply)) (old out new : List ℕ) (i : ℕ) (x : Placed Reply) → slice_get order i ≡ Some x → CallsWritten h order old out i
+    → new ≡ out ++ call_line h (i + 1) x.reply (slice_get h.calls x.call) → CallsWritten h order old new (i + 1)
+calls_more h order old out new i x there w e = record {
+  lines = rw (e, append_assoc) (rw (dropped_at order i x there) at w.lines);
+}
+
+pub calls_all : (h : Recorded) (order : List (Placed Reply)) (old out : List ℕ) (i : ℕ) → length order ≤ i → CallsWritten h order old out i → out ≡ old ++ call_lines h 1 order
+calls_all h order old out i end w = sym (append-nil out) ∙ rw (over order i end) at w.lines
+
+-- ---- the calls that are dropped
+
+pub record DropsWritten (h : Recorded) (order : List (Placed Reply)) (old out : List ℕ) (i : ℕ) : Type 0 where
+  pub lines : out ++ dropped_lines h order i (drop i h.calls) ≡ old ++ dropped_lines h order 0 h.calls
+
+pub drops_none : (h : Recorded) (order : List (Placed Reply)) (old : List ℕ) → DropsWritten h order old old 0
+drops_none h order old = record { lines = refl }
+
+pub drops_more : (h : Recorded) (order : List (Placed Reply)) (old out new : List ℕ) (i : ℕ) (c : Call Op Reply) → slice_get h.calls i ≡ Some c → DropsWritten h order old out i
+    → is_placed order i ≡ false → new ≡ out ++ dropped_line h c → DropsWritten h order old new (i + 1)
+drops_more h order old out new i c there w off e = record {
+  lines = rw (e, append_assoc) (rw (dropped_at h.calls i c there, off) at w.lines);
+}
+
+pub drops_skip : (h : Recorded) (order : List (Placed Reply)) (old out : List ℕ) (i : ℕ) (c : Call Op Reply) → slice_get h.calls i ≡ Some c → DropsWritten h order old out i
+    → is_placed order i ≡ true → DropsWritten h order old out (i + 1)
+drops_skip h order old out i c there w on = record {
+  lines = rw (dropped_at h.calls i c there, on) at w.lines;
+}
+
+pub drops_all : (h : Recorded) (order : List (Placed Reply)) (old out : List ℕ) (i : ℕ) → length h.calls ≤ i → DropsWritten h order old out i → out ≡ old ++ dropped_lines h order 0 h.calls
+drops_all h order old out i end w = sym (append-nil out) ∙ rw (over h.calls i end) at w.lines
+
+-- the call of an index of the history
+pub call_at : (h : Recorded) (i : ℕ) → i < length h.calls → (c : Call Op Reply) × (slice_get h.calls i ≡ Some c)
+call_at h i within = elim (slice_get_cases h.calls i).1 [ inl k ↦ (k.0, k.2) | inr k ↦ absurd (let past = k.0 in omega (arith, within, past)) ]

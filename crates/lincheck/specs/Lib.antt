@@ -1,0 +1,7 @@
+pub mod Reading
+pub mod Options
+pub mod Report
+pub mod Verdict
+pub mod Prints
+pub mod Ran
+pub mod Status

@@ -1,0 +1,15 @@
+-- What a run writes.
+use Rattle.std.specs.Prelude.{◌≡◌, ℕ, Option, List, take, Result, Ok, Err}
+use Rattle.std.specs.Io.KnownBytes.{Appends, Keeps}
+use Rattle.lincheck.specs.declared.status.Status.{Status}
+use Rattle.lincheck.specs.declared.fault.RunFault.{RunFault}
+use Rattle.lincheck.specs.declared.fault.RunFault.TheVariants.{Read, Write, Memory}
+use Rattle.lincheck.specs.Prints.{Prints}
+
+-- What a run on the text leaves written, which began with the bytes of old and ended with those of new: with a status
+-- what the text prints; after a failed write a prefix of it; after another fault nothing.
+abbrev pub Ran : List ℕ → Option (List ℕ) → Option (List ℕ) → Result Status RunFault → Type 0
+Ran text old new (Ok status) = (printed : List ℕ) × Prints text status printed × Appends old new printed
+Ran text old new (Err Write) = (status : Status) × (printed : List ℕ) × (n : ℕ) × Prints text status printed × Appends old new (take n printed)
+Ran text old new (Err Read) = Keeps old new
+Ran text old new (Err Memory) = Keeps old new

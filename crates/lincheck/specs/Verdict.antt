@@ -1,0 +1,45 @@
+-- What a verdict says of a history, and what is reported of it.
+use Rattle.std.specs.Prelude.{◌≡◌, ℕ, ◌<◌, Some, List, [], ◌∷◌, length, slice_get}
+use Rattle.lin_object.specs.declared.reply.Reply.{Reply}
+use Rattle.lin_history.specs.declared.placed.Placed.{Placed}
+use Rattle.lin_history.specs.Lists.{IsLeast}
+use Rattle.lin_history.specs.Linearizations.{IsLinearization}
+use Rattle.lin_history.specs.Recorded.{Recorded}
+use Rattle.lin_history.specs.Whole.{IsLinearizationOfWhole}
+use Rattle.lin_history.specs.Joined.{IsJoined}
+use Rattle.lin_history.specs.WholeOf.{whole_of, part_of}
+use Rattle.lincheck.specs.declared.verdict.Verdict.{Verdict}
+use Rattle.lincheck.specs.declared.verdict.Verdict.TheVariants.{Yes, No}
+use Rattle.lincheck.specs.Report.{yes_report, no_report}
+
+-- One order for each object, in the order of declaration, each the least linearization of its object.
+pub record AreLeast (h : Recorded) (orders : List (List ℕ)) : Type 0 where
+  pub count : length orders ≡ length h.objects
+  pub each : (object : ℕ) (order : List ℕ) → slice_get orders object ≡ Some order → IsLeast (IsLinearization (part_of h object)) order
+
+-- The object is the first, in the order of declaration, that has no linearization.
+pub record IsFirstWithout (h : Recorded) (object : ℕ) : Type 0 where
+  pub declared : object < length h.objects
+  pub none : (l : List ℕ) → IsLinearization (part_of h object) l → ⊥
+  pub earlier : (i : ℕ) → i < object → (l : List ℕ) × IsLinearization (part_of h i) l
+
+-- The verdict is right: yes, with the least linearizations of the objects joined, which is a linearization of the whole;
+-- or no, with the first object that has none, and then the whole has none.
+abbrev pub IsVerdict : Recorded → Verdict → Type 0
+IsVerdict h (Yes l) = ((orders : List (List ℕ)) × AreLeast h orders × IsJoined (whole_of h) orders l) × IsLinearizationOfWhole (whole_of h) l
+IsVerdict h (No object) = IsFirstWithout h object × ((l : List (Placed Reply)) → IsLinearizationOfWhole (whole_of h) l → ⊥)
+
+-- Each of the calls is one of the first n.
+abbrev pub AreCalls : ℕ → List (Placed Reply) → Type 0
+AreCalls n [] = Unit {0}
+AreCalls n (x ∷ xs) = (x.call < n) × AreCalls n xs
+
+-- What the verdict names are calls and objects of the history.
+abbrev pub IsOf : Recorded → Verdict → Type 0
+IsOf h (Yes l) = AreCalls (length h.calls) l
+IsOf h (No object) = object < length h.objects
+
+-- The report of the verdict.
+abbrev pub report_of : Recorded → Verdict → List ℕ
+report_of h (Yes l) = yes_report h l
+report_of h (No object) = no_report h object

@@ -1,0 +1,13 @@
+use lin_history::WholeOrder;
+
+/// What a check found of a history.
+#[derive(Debug, Drop)]
+pub enum Verdict {
+    /// It is linearizable, by this order.
+    Yes(WholeOrder),
+    /// It is not: the object of this index is the first without a linearization.
+    No {
+        /// The index of the object.
+        object: usize,
+    },
+}
