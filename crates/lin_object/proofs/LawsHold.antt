@@ -1,10 +1,9 @@
 -- The laws of the kinds hold of their tables.
-use Rattle.std.proofs.Common.{◌≡◌, ℕ, ◌==◌, ◌<◌, ◌≤◌, Bool, true, false, not, cond, Option, Some, None, List, [], ◌∷◌, ◌++◌, take, drop, filter, refl, sym, ap, subst, ◌∙◌, append_assoc, append-nil, eqb-true, ◌||◌, ◌&&◌, if◌then◌else◌}
-use Rattle.std.specs.Prelude.{ℤ, pos, ◌+ℤ◌, int_lt, insert}
-use Rattle.std.specs.List.{list_any, position_or_len}
+use Rattle.std.proofs.Common.{◌≡◌, ℕ, ◌==◌, Bool, true, false, not, Option, Some, None, List, [], ◌∷◌, ◌++◌, take, drop, refl, sym, ap, subst, ◌∙◌, append_assoc, append-nil, eqb-true, ◌||◌, ◌&&◌, if◌then◌else◌}
+use Rattle.std.specs.Prelude.{ℤ, ◌+ℤ◌, int_lt, insert}
+use Rattle.std.specs.List.{position_or_len}
 use Rattle.std.specs.Ordering.{int_eq}
 use Rattle.std.specs.Cmp.{signed_Decides}
-use Rattle.std.proofs.lemmas.Cmp.{int_eq_equiv}
 use Rattle.std.proofs.lemmas.List.Folds.{list_any-append}
 use Rattle.std.proofs.lemmas.List.{take-append-drop}
 use Rattle.std.proofs.lemmas.Map.Views.{any-filter_same}
@@ -12,12 +11,12 @@ use Rattle.std.proofs.Math.IntN.{+ℤ_assoc, +ℤ_idr}
 use Rattle.lin_object.specs.declared.op.Op.{Op}
 use Rattle.lin_object.specs.declared.op.Op.TheVariants.{Write, Read, Cas, Add, Get, Enqueue, Dequeue, Push, Pop, Insert, Remove, Contains, Lock, Unlock, TryLock}
 use Rattle.lin_object.specs.declared.reply.Reply.{Reply}
-use Rattle.lin_object.specs.declared.reply.Reply.TheVariants.{Okay, Int, Flag, Empty}
+use Rattle.lin_object.specs.declared.reply.Reply.TheVariants.{Okay, Int, Flag}
 use Rattle.lin_object.specs.declared.state.ObjState.{ObjState}
 use Rattle.lin_object.specs.declared.state.ObjState.TheVariants.{Register, Counter, Queue, Stack, Set, Mutex}
 use Rattle.lin_object.specs.Items.{is_in, with_in_order, without}
-use Rattle.lin_object.specs.Object.{after, register_step, counter_step, queue_step, stack_step, set_step, mutex_step, is_in_range}
-use Rattle.lin_object.specs.Laws.{Made, Leads, value_left, last_written, RegisterLaw, added_by, sum_added, CounterLaw, put_in_by, taken_out_by, put_in, taken_out, QueueLaw, StackLaw, is_in_after_step, is_in_after, SetLaw, is_acquiring, HasNoUnlockBy, HasNoAcquiring, MutexLaw}
+use Rattle.lin_object.specs.Object.{after, register_step, counter_step, queue_step, set_step, mutex_step, is_in_range}
+use Rattle.lin_object.specs.Laws.{Made, Leads, value_left, last_written, RegisterLaw, added_by, sum_added, CounterLaw, put_in_by, taken_out_by, put_in, taken_out, QueueLaw, StackLaw, is_in_after_step, is_in_after, SetLaw, is_acquiring, MutexLaw}
 
 -- the answer is this state and this reply
 abbrev Is : Option (ObjState × Reply) → ObjState → Reply → Type 0

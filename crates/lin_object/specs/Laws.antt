@@ -1,12 +1,12 @@
 -- Laws of the kinds over whole runs, in words that know nothing of their tables (this project's own).
-use Rattle.std.specs.Prelude.{◌≡◌, ℕ, ℤ, pos, ◌+ℤ◌, Bool, true, false, Option, Some, List, [], ◌∷◌, ◌++◌, if◌then◌else◌}
+use Rattle.std.specs.Prelude.{◌≡◌, ℕ, ℤ, pos, ◌+ℤ◌, Bool, true, false, Some, List, [], ◌∷◌, ◌++◌, if◌then◌else◌}
 use Rattle.std.specs.Ordering.{int_eq}
 use Rattle.lin_object.specs.declared.op.Op.{Op}
 use Rattle.lin_object.specs.declared.op.Op.TheVariants.{Write, Read, Cas, Add, Get, Enqueue, Dequeue, Push, Pop, Insert, Remove, Contains, Lock, Unlock, TryLock}
 use Rattle.lin_object.specs.declared.reply.Reply.{Reply}
-use Rattle.lin_object.specs.declared.reply.Reply.TheVariants.{Okay, Int, Flag, Empty}
+use Rattle.lin_object.specs.declared.reply.Reply.TheVariants.{Okay, Int, Flag}
 use Rattle.lin_object.specs.declared.state.ObjState.{ObjState}
-use Rattle.lin_object.specs.declared.state.ObjState.TheVariants.{Register, Counter, Queue, Stack, Set, Mutex}
+use Rattle.lin_object.specs.declared.state.ObjState.TheVariants.{Register, Counter, Queue, Set, Mutex}
 use Rattle.lin_object.specs.Items.{is_in}
 use Rattle.lin_object.specs.Object.{after}
 

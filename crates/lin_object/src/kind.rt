@@ -22,19 +22,13 @@ pub enum Kind {
 pub fn kind_of_name(name: &str) -> Option<Kind>
     ensures { result ≡ beside kinds name.now }
 {
-    if name == "register" {
-        Some(Kind::Register)
-    } else if name == "counter" {
-        Some(Kind::Counter)
-    } else if name == "queue" {
-        Some(Kind::Queue)
-    } else if name == "stack" {
-        Some(Kind::Stack)
-    } else if name == "set" {
-        Some(Kind::Set)
-    } else if name == "mutex" {
-        Some(Kind::Mutex)
-    } else {
-        None
+    match name {
+        "register" => Some(Kind::Register),
+        "counter" => Some(Kind::Counter),
+        "queue" => Some(Kind::Queue),
+        "stack" => Some(Kind::Stack),
+        "set" => Some(Kind::Set),
+        "mutex" => Some(Kind::Mutex),
+        _ => None,
     }
 }

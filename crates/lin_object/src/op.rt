@@ -82,135 +82,81 @@ pub fn is_op(kind: Kind, name: &str) -> bool
     ensures { result ≡ is_some (beside (operations kind) name.now) }
 {
     match kind {
-        Kind::Register => name == "write" || name == "read" || name == "cas",
-        Kind::Counter => name == "add" || name == "get",
-        Kind::Queue => name == "enq" || name == "deq",
-        Kind::Stack => name == "push" || name == "pop",
-        Kind::Set => name == "add" || name == "remove" || name == "contains",
-        Kind::Mutex => name == "lock" || name == "unlock" || name == "try_lock",
+        Kind::Register => matches!(name, "write" | "read" | "cas"),
+        Kind::Counter => matches!(name, "add" | "get"),
+        Kind::Queue => matches!(name, "enq" | "deq"),
+        Kind::Stack => matches!(name, "push" | "pop"),
+        Kind::Set => matches!(name, "add" | "remove" | "contains"),
+        Kind::Mutex => matches!(name, "lock" | "unlock" | "try_lock"),
     }
 }
 
 fn register_op(name: &str, args: &[i64]) -> Result<Op, OpFault>
     ensures { result ≡ op_read Kind.Register name.now args.now }
 {
-    if name == "write" {
-        match args {
-            [value] => Ok(Op::Write(*value)),
-            _ => Err(OpFault::BadArgs),
-        }
-    } else if name == "read" {
-        match args {
-            [] => Ok(Op::Read),
-            _ => Err(OpFault::BadArgs),
-        }
-    } else if name == "cas" {
-        match args {
-            [from, to] => Ok(Op::Cas(*from, *to)),
-            _ => Err(OpFault::BadArgs),
-        }
-    } else {
-        Err(OpFault::BadOp)
+    match (name, args) {
+        ("write", [value]) => Ok(Op::Write(*value)),
+        ("read", []) => Ok(Op::Read),
+        ("cas", [from, to]) => Ok(Op::Cas(*from, *to)),
+        ("write" | "read" | "cas", _) => Err(OpFault::BadArgs),
+        _ => Err(OpFault::BadOp),
     }
 }
 
 fn counter_op(name: &str, args: &[i64]) -> Result<Op, OpFault>
     ensures { result ≡ op_read Kind.Counter name.now args.now }
 {
-    if name == "add" {
-        match args {
-            [difference] => Ok(Op::Add(*difference)),
-            _ => Err(OpFault::BadArgs),
-        }
-    } else if name == "get" {
-        match args {
-            [] => Ok(Op::Get),
-            _ => Err(OpFault::BadArgs),
-        }
-    } else {
-        Err(OpFault::BadOp)
+    match (name, args) {
+        ("add", [difference]) => Ok(Op::Add(*difference)),
+        ("get", []) => Ok(Op::Get),
+        ("add" | "get", _) => Err(OpFault::BadArgs),
+        _ => Err(OpFault::BadOp),
     }
 }
 
 fn queue_op(name: &str, args: &[i64]) -> Result<Op, OpFault>
     ensures { result ≡ op_read Kind.Queue name.now args.now }
 {
-    if name == "enq" {
-        match args {
-            [item] => Ok(Op::Enqueue(*item)),
-            _ => Err(OpFault::BadArgs),
-        }
-    } else if name == "deq" {
-        match args {
-            [] => Ok(Op::Dequeue),
-            _ => Err(OpFault::BadArgs),
-        }
-    } else {
-        Err(OpFault::BadOp)
+    match (name, args) {
+        ("enq", [item]) => Ok(Op::Enqueue(*item)),
+        ("deq", []) => Ok(Op::Dequeue),
+        ("enq" | "deq", _) => Err(OpFault::BadArgs),
+        _ => Err(OpFault::BadOp),
     }
 }
 
 fn stack_op(name: &str, args: &[i64]) -> Result<Op, OpFault>
     ensures { result ≡ op_read Kind.Stack name.now args.now }
 {
-    if name == "push" {
-        match args {
-            [item] => Ok(Op::Push(*item)),
-            _ => Err(OpFault::BadArgs),
-        }
-    } else if name == "pop" {
-        match args {
-            [] => Ok(Op::Pop),
-            _ => Err(OpFault::BadArgs),
-        }
-    } else {
-        Err(OpFault::BadOp)
+    match (name, args) {
+        ("push", [item]) => Ok(Op::Push(*item)),
+        ("pop", []) => Ok(Op::Pop),
+        ("push" | "pop", _) => Err(OpFault::BadArgs),
+        _ => Err(OpFault::BadOp),
     }
 }
 
 fn set_op(name: &str, args: &[i64]) -> Result<Op, OpFault>
     ensures { result ≡ op_read Kind.Set name.now args.now }
 {
-    if name == "add" {
-        match args {
-            [item] => Ok(Op::Insert(*item)),
-            _ => Err(OpFault::BadArgs),
-        }
-    } else if name == "remove" {
-        match args {
-            [item] => Ok(Op::Remove(*item)),
-            _ => Err(OpFault::BadArgs),
-        }
-    } else if name == "contains" {
-        match args {
-            [item] => Ok(Op::Contains(*item)),
-            _ => Err(OpFault::BadArgs),
-        }
-    } else {
-        Err(OpFault::BadOp)
+    match (name, args) {
+        ("add", [item]) => Ok(Op::Insert(*item)),
+        ("remove", [item]) => Ok(Op::Remove(*item)),
+        ("contains", [item]) => Ok(Op::Contains(*item)),
+        ("add" | "remove" | "contains", _) => Err(OpFault::BadArgs),
+        _ => Err(OpFault::BadOp),
     }
 }
 
 fn mutex_op(name: &str, args: &[i64]) -> Result<Op, OpFault>
     ensures { result ≡ op_read Kind.Mutex name.now args.now }
 {
-    if name == "lock" {
-        match args {
-            [] => Ok(Op::Lock),
-            _ => Err(OpFault::BadArgs),
-        }
-    } else if name == "unlock" {
-        match args {
-            [] => Ok(Op::Unlock),
-            _ => Err(OpFault::BadArgs),
-        }
-    } else if name == "try_lock" {
-        match args {
-            [] => Ok(Op::TryLock),
-            _ => Err(OpFault::BadArgs),
-        }
-    } else {
-        Err(OpFault::BadOp)
+    match (name, args) {
+        ("lock", []) => Ok(Op::Lock),
+        ("unlock", []) => Ok(Op::Unlock),
+        ("try_lock", []) => Ok(Op::TryLock),
+        ("lock" | "unlock" | "try_lock", _) => Err(OpFault::BadArgs),
+        _ => Err(OpFault::BadOp),
     }
 }
 
