@@ -1,5 +1,5 @@
 -- One call more of an order is placed.
-use Rattle.std.proofs.Common.{◌≡◌, ℕ, zero, suc, ◌+◌, ◌<◌, ◌≤◌, ◌==◌, Bool, true, false, cond, List, [], ◌∷◌, ◌++◌, drop, length, get_or, drop-cons, Option, Some, None, refl, sym, ap, subst, ◌∙◌, append_assoc, append-nil, add-one, eqb-true, eq-eqb, arith}
+use Rattle.std.proofs.Common.{◌≡◌, ℕ, zero, suc, ◌+◌, ◌<◌, ◌≤◌, ◌==◌, Bool, true, false, cond, List, [], ◌∷◌, ◌++◌, drop, length, get_or, drop-cons, Option, Some, None, refl, ap, subst, ◌∙◌, append_assoc, append-nil, add-one, eqb-true, eq-eqb, arith}
 use Rattle.std.specs.List.{slice_get}
 use Rattle.std.proofs.lemmas.Option.{slice_get_within, get_or_from_slice_get}
 use Rattle.lin_history.specs.declared.placed.Placed.{Placed}
@@ -9,7 +9,7 @@ use Rattle.lin_history.specs.Posed.{Posed}
 use Rattle.lin_history.specs.Legal.{fits, state_if_fits, after_call, next, Legal}
 use Rattle.lin_history.specs.Whole.{Whole, Steps}
 use Rattle.lin_history.specs.Joined.{indices_from, index_of, Places}
-use Rattle.lin_history.specs.PlaceLemmas.{IsAt, at_number, index_at}
+use Rattle.lin_history.specs.PlaceLemmas.{at_number, index_at}
 use Rattle.lin_history.specs.PartPosed.{part_posed}
 
 drop_nil : (i : ℕ) → drop {A = ℕ} i [] ≡ []

@@ -1,6 +1,6 @@
 -- One order for each object, joined in one order of the whole by the points of the calls (this project's own; the point
 -- lies between call and return, after Herlihy and Wing 1990).
-use Rattle.std.specs.Prelude.{◌≡◌, ℕ, ◌+◌, ◌≤◌, ◌==◌, max, Bool, true, List, [], ◌∷◌, ◌++◌, length, map, slice_get, Option, Some, IsSome, if◌then◌else◌}
+use Rattle.std.specs.Prelude.{◌≡◌, ℕ, ◌+◌, ◌≤◌, ◌==◌, max, List, [], ◌∷◌, ◌++◌, slice_get, Option, Some, IsSome, if◌then◌else◌}
 use Rattle.std.specs.Option.{option_map_or}
 use Rattle.lin_history.specs.declared.placed.Placed.{Placed}
 use Rattle.lin_history.specs.Events.{Call}

@@ -1,12 +1,10 @@
 -- Histories of which every call is on one object.
-use Rattle.std.proofs.Common.{◌≡◌, ℕ, ◌+◌, ◌<◌, ◌≤◌, ◌==◌, max, Bool, true, false, cond, List, [], ◌∷◌, ◌++◌, filter, Option, Some, None, IsSome, ◌⊎◌, inl, inr, refl, sym, ap, subst, ◌∙◌, eqb-true, eq-eqb, append_assoc, zero, suc, arith}
-use Rattle.std.specs.Prelude.{IsSomeAnd}
+use Rattle.std.proofs.Common.{◌≡◌, ℕ, ◌≤◌, true, false, List, [], ◌∷◌, ◌++◌, Option, Some, None, IsSome, inl, inr, refl, sym, ap, subst, ◌∙◌, eqb-true, eq-eqb, append_assoc, zero, suc, arith}
 use Rattle.std.specs.List.{slice_get}
-use Rattle.std.specs.Option.{option_map_or}
 use Rattle.lin_history.specs.declared.placed.Placed.{Placed}
 use Rattle.lin_history.specs.Events.{Call}
 use Rattle.lin_history.specs.Whole.{Whole, HasReturned, Has, Steps, with_state, Replays, Runs, is_call_on, part, IsLinearizationOfWhole, IsLinearizationOfPart}
-use Rattle.lin_history.specs.Joined.{index_of, Places, called_at, greatest_call, point, object_of, point_after, IsJoined}
+use Rattle.lin_history.specs.Joined.{Places, called_at, greatest_call, point, object_of, point_after, IsJoined}
 
 module _ {State Op Reply : Type 0} (h : Whole State Op Reply) (object : ℕ) where
   -- every call is on the object

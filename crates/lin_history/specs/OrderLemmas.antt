@@ -1,18 +1,17 @@
 -- Linearizations of one object's problem, and of its part of the history: each gives the other.
-use Rattle.std.proofs.Common.{◌≡◌, ◌≢◌, ℕ, zero, suc, ◌+◌, ◌<◌, ◌==◌, Bool, true, false, cond, List, [], ◌∷◌, ◌++◌, length, replicate, Option, Some, None, IsSome, ◌⊎◌, inl, inr, refl, sym, ap, subst, ◌∙◌, append_assoc, arith}
+use Rattle.std.proofs.Common.{◌≡◌, ℕ, zero, suc, ◌+◌, ◌==◌, Bool, true, false, List, [], ◌∷◌, ◌++◌, length, replicate, Option, Some, None, IsSome, ◌⊎◌, inl, inr, refl, sym, ap, subst, ◌∙◌, append_assoc, arith}
 use Rattle.std.specs.Prelude.{IsSomeAnd}
 use Rattle.std.specs.List.{slice_get}
 use Rattle.lin_history.specs.declared.placed.Placed.{Placed}
 use Rattle.lin_history.specs.Events.{Call}
 use Rattle.lin_history.specs.Lists.{In, IsDistinct}
 use Rattle.lin_history.specs.Posed.{Posed}
-use Rattle.lin_history.specs.Legal.{fits, next, Legal}
+use Rattle.lin_history.specs.Legal.{next, Legal}
 use Rattle.lin_history.specs.Precedence.{Before, IsCompleted}
-use Rattle.lin_history.specs.Continuations.{has, no_calls, IsContinuation, IsCompletion}
+use Rattle.lin_history.specs.Continuations.{has, no_calls, IsContinuation}
 use Rattle.lin_history.specs.Linearizations.{IsLinearization}
-use Rattle.lin_history.specs.Parts.{problem_call}
 use Rattle.lin_history.specs.Whole.{Whole, Precedes, HasReturned, Has, AreDistinct, KeepsOrder, Steps, Runs, is_call_on, IsLinearizationOfPart}
-use Rattle.lin_history.specs.Joined.{indices_from, index_of, Places}
+use Rattle.lin_history.specs.Joined.{index_of, Places}
 use Rattle.lin_history.specs.PlaceLemmas.{IsAt, at_number, number_at, index_at, one_number}
 use Rattle.lin_history.specs.PartPosed.{part_posed}
 

@@ -1,8 +1,8 @@
 -- The part of a linearization of the whole on one object, and what is legal on one object alone.
-use Rattle.std.proofs.Common.{◌≡◌, ℕ, ◌==◌, Bool, true, false, cond, List, [], ◌∷◌, filter, slice_get, Option, Some, None, IsSomeAnd, ◌⊎◌, inl, inr, refl, sym, ap, subst, ◌∙◌, eqb-true, eq-eqb}
+use Rattle.std.proofs.Common.{◌≡◌, ℕ, ◌==◌, Bool, true, false, cond, List, [], ◌∷◌, inl, inr, refl, subst, eqb-true}
 use Rattle.lin_history.specs.declared.placed.Placed.{Placed}
 use Rattle.lin_history.specs.Events.{Call}
-use Rattle.lin_history.specs.Whole.{Whole, Precedes, HasReturned, is_call_on, Has, AreDistinct, KeepsOrder, Steps, with_state, Replays, Runs, IsLinearizationOfWhole, IsLinearizationOfPart, part}
+use Rattle.lin_history.specs.Whole.{Whole, is_call_on, Has, AreDistinct, KeepsOrder, Steps, with_state, Replays, Runs, IsLinearizationOfWhole, IsLinearizationOfPart, part}
 
 module _ {State Op Reply : Type 0} (h : Whole State Op Reply) (object : ℕ) where
   -- what the part has, the whole has, and it is on the object

@@ -1,5 +1,3 @@
-use Rattle.std.proofs.Common.{◌≡◌, ◌++◌, ◌∷◌, [], rules}
-use Rattle.std.specs.List.{slice_get}
 use Rattle.lin_history.specs.Seen.{call_seen}
 use Rattle.lin_history.proofs.PlacingLemmas.{index_pushed, index_kept}
 use Rattle.lin_history.proofs.placing.indices_on.Goals as goal

@@ -1,8 +1,8 @@
-use Rattle.std.proofs.Common.{◌≡◌, Some, get_or, length, ap, ◌∙◌, refl, sym, arith, rules}
+use Rattle.std.proofs.Common.{get_or, ◌∙◌, sym, arith}
 use Rattle.std.proofs.lemmas.Option.{slice_get_within}
 use Rattle.lin_object.specs.contracts.state.ObjStatePartialEq.TheImpl.{eq-value as state_eq}
 use Rattle.lin_history.specs.Seen.{call_seen}
-use Rattle.lin_history.specs.WholeOf.{whole_of, start_at}
+use Rattle.lin_history.specs.WholeOf.{whole_of}
 use Rattle.lin_history.proofs.PlacingLemmas.{stands_next, value_within, placing_next, placing_goes_on, placing_done}
 use Rattle.lin_history.proofs.placing.place.Goals as goal
 

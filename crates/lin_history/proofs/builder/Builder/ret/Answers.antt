@@ -9,7 +9,7 @@ use Rattle.lin_history.specs.Seen.{object_seen}
 use Rattle.lin_history.specs.Kept.{recorded}
 use Rattle.lin_history.specs.Following.{Adds, CannotFollow}
 use Rattle.lin_history.proofs.FollowLemmas.{adds-return, no_return, no_return_from}
-use Rattle.lin_history.proofs.KeptLemmas.{IsFound, is_found, kept-return, recorded-return, false_from}
+use Rattle.lin_history.proofs.KeptLemmas.{is_found, kept-return, recorded-return, false_from}
 use Rattle.lin_history.proofs.builder.Builder.ret.Goals as goal
 
 pub returns-in_default-clause-no_call : goal.returns-in_default-clause-no_call

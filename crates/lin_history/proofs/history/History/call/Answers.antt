@@ -1,9 +1,9 @@
-use Rattle.std.proofs.Common.{◌≡◌, ◌<◌, ◌∙◌, ℕ, Some, length, map, sym, ap, refl, arith}
+use Rattle.std.proofs.Common.{◌≡◌, ◌<◌, ◌∙◌, Some, length, map, ap, refl, arith}
 use Rattle.std.proofs.lemmas.List.{length-map, take-map}
 use Rattle.std.proofs.lemmas.Option.{slice_get_read, slice_get-map}
 use Rattle.std.specs.Option.{option_map}
 use Rattle.lin_history.specs.Recorded.{Recorded}
-use Rattle.lin_history.specs.Seen.{call_seen, count_on}
+use Rattle.lin_history.specs.Seen.{call_seen}
 use Rattle.std.specs.List.{slice_get}
 use Rattle.lin_history.proofs.history.History.call.Goals as goal
 
