@@ -16,7 +16,7 @@ impl Memo<AnyObject> for Forgetful {
 
     ghost holds = { λ m set s. ⊥ };
 
-    ghost is_of = { λ m p. ⊥ };
+    ghost is_of = { λ m p. Unit {0} };
 
     ghost answers = { λ old p config longest noted new. noted ≡ Busy };
 
