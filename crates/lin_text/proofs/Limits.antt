@@ -1,16 +1,14 @@
 -- No line of a text declares more objects than there may be.
-use Rattle.std.proofs.Common.{◌≡◌, ℕ, ◌+◌, ◌<◌, ◌≤◌, Bool, true, false, cond, nat_lt, List, [], ◌∷◌, ◌++◌, map, length, length-append, Option, Some, None, not, is_some, refl, sym, subst, ◌∙◌, ap, arith}
+use Rattle.std.proofs.Common.{◌≡◌, ℕ, ◌<◌, ◌≤◌, Bool, true, false, cond, List, [], ◌∷◌, ◌++◌, map, length, length-append, Option, Some, None, not, is_some, refl, subst, arith}
 use Rattle.std.specs.Prelude.{nat_le}
 use Rattle.std.proofs.lemmas.Bool.{leb-false}
 use Rattle.lin_object.specs.declared.op.Op.{Op}
-use Rattle.lin_text.specs.declared.cause.Cause.{Cause}
 use Rattle.lin_text.specs.declared.cause.Cause.TheVariants.{BadObject, Declared, TooManyObjects}
 use Rattle.lin_history.specs.Names.{is_name}
 use Rattle.lin_history.specs.Refusals.{first_that_holds}
-use Rattle.lin_history.specs.declared.fault.BuildFault.{BuildFault}
 use Rattle.lin_history.specs.Recorded.{Recorded, nothing_recorded, kind_named, index_named, max_objects, declaration_refusals}
 use Rattle.lin_text.specs.Line.{LineEvent, declares, calls, returns_, conditions}
-use Rattle.lin_text.specs.Text.{is_blank, event_at, as_cause, refusals, refusals_at, taken, call_at, with_event, lines, Leads, Lead, MeansHistory}
+use Rattle.lin_text.specs.Text.{is_blank, event_at, as_cause, refusals, refusals_at, taken, call_at, with_event, lines, Lead, MeansHistory}
 
 cond_none : {A : Type 0} (t : Bool) (x : A) (r : Option A) → cond t (Some x) r ≡ None → (t ≡ false) × (r ≡ None)
 cond_none true x r e = absurd (cc)

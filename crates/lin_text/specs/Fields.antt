@@ -1,7 +1,7 @@
 -- The fields of a line's JSON value: each is none where it is absent or is not what it is to be.
-use Rattle.std.specs.Prelude.{ℕ, ◌^◌, ℤ, pos, negsuc, Bool, List, [], ◌∷◌, codes, bytes_eq, nat_lt, Option, Some, None, option_map, option_and_then, ok_or, Result, Ok, Err, if◌then◌else◌}
+use Rattle.std.specs.Prelude.{ℕ, ◌^◌, ℤ, pos, negsuc, Bool, List, [], ◌∷◌, codes, bytes_eq, nat_lt, Option, Some, None, option_map, option_and_then, ok_or, Result, Err, if◌then◌else◌}
 use Rattle.serde_json.specs.Data.{Data, null, boolean, number, string, array, object, Items, no_items, item}
-use Rattle.serde_json.specs.Find.{get, as_str, as_number, as_i64, as_object, as_array}
+use Rattle.serde_json.specs.Find.{get, as_str, as_number, as_i64, as_array}
 use Rattle.lin_object.specs.Words.{beside, kinds, operations}
 use Rattle.lin_object.specs.declared.kind.Kind.{Kind}
 use Rattle.lin_object.specs.declared.kind.Kind.TheVariants.{Register, Counter}

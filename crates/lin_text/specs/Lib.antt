@@ -2,3 +2,4 @@ pub mod Causes
 pub mod Fields
 pub mod Line
 pub mod Text
+pub mod Words

@@ -1,5 +1,5 @@
 -- What a text means: the history of its events, or the first line with a cause and that line's first cause.
-use Rattle.std.specs.Prelude.{◌≡◌, ℕ, ◌+◌, ◌<◌, ◌≤◌, ◌==◌, ◌||◌, ◌⊎◌, Bool, List, [], ◌∷◌, ◌++◌, length, map, nat_lt, Option, Some, None, option_and_then, Result, Ok, Err, if◌then◌else◌}
+use Rattle.std.specs.Prelude.{◌≡◌, ℕ, ◌+◌, ◌<◌, ◌≤◌, ◌==◌, ◌||◌, ◌⊎◌, Bool, List, [], ◌∷◌, ◌++◌, length, map, nat_lt, Option, Some, None, option_and_then, if◌then◌else◌}
 use Rattle.std.specs.List.{list_all}
 use Rattle.lin_text.specs.declared.cause.Cause.{Cause}
 use Rattle.lin_text.specs.declared.cause.Cause.TheVariants.{LineTooLong, InputTooLong}

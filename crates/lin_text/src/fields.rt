@@ -15,14 +15,11 @@ pub(crate) fn what_of(value: &Value) -> Option<What>
     ensures { result ≡ what_in (view value.now) }
 {
     let word = value.get("event").and_then(Value::as_str)?;
-    if word == "object" {
-        Some(What::Declaration)
-    } else if word == "call" {
-        Some(What::Call)
-    } else if word == "return" {
-        Some(What::Return)
-    } else {
-        None
+    match word {
+        "object" => Some(What::Declaration),
+        "call" => Some(What::Call),
+        "return" => Some(What::Return),
+        _ => None,
     }
 }
 

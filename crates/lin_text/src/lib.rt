@@ -9,5 +9,5 @@ mod reading;
 mod tests;
 mod text;
 
-pub use cause::{Cause, TextFault};
+pub use cause::{Cause, TextFault, write_cause};
 pub use text::read_history;

@@ -1,4 +1,4 @@
-use Rattle.std.proofs.Common.{◌≡◌, ◌<◌, Some, length, ◌++◌, ◌∷◌, [], ℤ, List, sym, ◌∙◌, add-one, arith, rules, FitsSigned, to_z, of_z}
+use Rattle.std.proofs.Common.{◌≡◌, ◌<◌, Some, length, ◌++◌, ◌∷◌, [], sym, ◌∙◌, add-one, arith, rules}
 use Rattle.serde_json.specs.View.{view}
 use Rattle.lin_text.specs.Fields.{whole}
 use Rattle.lin_text.proofs.Wholes.{goes_on}

@@ -1,5 +1,5 @@
 use Rattle.std.proofs.Common.{◌≡◌, drop}
-use Rattle.serde_json.specs.View.{view, items_view}
+use Rattle.serde_json.specs.View.{items_view}
 use Rattle.lin_text.specs.Fields.{wholes}
 use Rattle.lin_text.proofs.Wholes.{with_front}
 use Rattle.lin_text.proofs.fields.wholes_of.Given as goal

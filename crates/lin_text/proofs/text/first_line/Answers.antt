@@ -1,7 +1,5 @@
-use Rattle.std.proofs.Common.{◌≡◌, ◌+◌, ◌-◌, length, take, drop, Some, None, sym, add-one, arith}
+use Rattle.std.proofs.Common.{◌≡◌, ◌+◌, ◌-◌, length, take, drop, sym, add-one, arith}
 use Rattle.std.proofs.lemmas.Grind.{common_steps}
-use Rattle.std.specs.List.{position}
-use Rattle.lin_text.specs.Text.{is_newline, lines}
 use Rattle.lin_text.proofs.Lines.{lines_at, lines_whole}
 use Rattle.lin_text.proofs.text.first_line.Goals as goal
 

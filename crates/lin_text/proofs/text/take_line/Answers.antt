@@ -1,4 +1,4 @@
-use Rattle.std.proofs.Common.{◌≡◌, ap, ◌∙◌, arith}
+use Rattle.std.proofs.Common.{ap, ◌∙◌, arith}
 use Rattle.serde_json.specs.View.{view}
 use Rattle.lin_history.specs.Recorded.{kind_named}
 use Rattle.lin_text.specs.Causes.{cause_of}
