@@ -1,5 +1,5 @@
 -- What writes took, one after another.
-use Rattle.std.proofs.Common.{◌≡◌, ℕ, ◌+◌, ◌<◌, ◌≤◌, List, [], ◌∷◌, ◌++◌, Option, Some, None, IfSome, length, take, drop, refl, sym, ap, ◌∙◌, subst, inl, inr, append_assoc, append-nil, arith}
+use Rattle.std.proofs.Common.{◌≡◌, ℕ, List, [], ◌++◌, Option, Some, None, length, take, drop, refl, sym, ap, ◌∙◌, subst, append_assoc, append-nil}
 use Rattle.std.specs.Io.KnownBytes.{Appends, Keeps}
 use Rattle.std.proofs.lemmas.List.{take-append-drop}
 use Rattle.std.proofs.Math.Seq.{take-append_seam}
@@ -35,15 +35,6 @@ written_more a b c answer rest n w more = record {
   whole = w.whole ∙ ap (λ (l : List ℕ). w.front ++ l) (sym (take-append-drop n rest)) ∙ sym (append_assoc w.front (take n rest) (drop n rest));
   appended = appends_more a b c w.front (take n rest) w.appended more;
 }
-
-none_left : (xs : List ℕ) → length xs ≡ 0 → xs ≡ []
-none_left [] e = refl
-none_left (x ∷ xs) e = absurd (omega (arith, e))
-
-pub written_all : (a b c : Option (List ℕ)) (answer rest : List ℕ) → IsWritten a b answer rest → length rest ≡ 0 → Keeps b c → Appends a c answer
-written_all a b c answer rest w e kept =
-    let whole : answer ≡ w.front = w.whole ∙ ap (λ (l : List ℕ). w.front ++ l) (none_left rest e) ∙ append-nil w.front in
-    subst (Appends a c) (sym whole) (appends_kept a b c w.front w.appended kept)
 
 pub written_prefix : (a b c : Option (List ℕ)) (answer rest : List ℕ) → IsWritten a b answer rest → Keeps b c → (n : ℕ) × Appends a c (take n answer)
 written_prefix a b c answer rest w kept =

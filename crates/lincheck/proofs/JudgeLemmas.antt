@@ -1,9 +1,9 @@
 -- From the search of one object's problem to the verdict on its history.
-use Rattle.std.proofs.Common.{◌≡◌, ℕ, zero, suc, ◌+◌, ◌<◌, ◌≤◌, ◌==◌, Bool, true, List, [], ◌∷◌, ◌++◌, length, Option, Some, None, IsSome, ◌⊎◌, inl, inr, refl, sym, ap, subst, ◌∙◌, arith}
-use Rattle.std.specs.Prelude.{pos}
+use Rattle.std.proofs.Common.{◌≡◌, ℕ, zero, suc, ◌<◌, ◌≤◌, Bool, List, [], ◌∷◌, ◌++◌, length, Option, Some, None, refl, sym, subst, arith}
+use Rattle.std.specs.Prelude.{pos, Vec}
+use Rattle.std.specs.declared.alloc.Global.{Global}
 use Rattle.std.specs.List.{slice_get}
 use Rattle.std.specs.Option.{option_map, option_map_or}
-use Rattle.std.proofs.lemmas.Option.{slice_get_within}
 use Rattle.lin_object.specs.declared.op.Op.{Op}
 use Rattle.lin_object.specs.declared.reply.Reply.{Reply}
 use Rattle.lin_object.specs.declared.state.ObjState.{ObjState}
@@ -16,19 +16,19 @@ use Rattle.lin_history.specs.declared.problem.ProblemCall.{ProblemCall}
 use Rattle.lin_history.specs.Events.{Call}
 use Rattle.lin_history.specs.Lists.{IsLeast}
 use Rattle.lin_history.specs.Posed.{Posed}
-use Rattle.lin_history.specs.Legal.{Legal}
 use Rattle.lin_history.specs.Continuations.{no_calls, IsCompletion}
-use Rattle.lin_history.specs.Linearizations.{IsLinearization}
+use Rattle.lin_history.specs.Linearizations.{IsRun, IsLinearization}
 use Rattle.lin_history.specs.Recorded.{ObjectSeen, Recorded, IsHistory}
 use Rattle.lin_history.specs.Parts.{start_of, part_calls}
-use Rattle.lin_history.specs.Whole.{HasReturned, Has, is_call_on, Replays, IsLinearizationOfWhole, IsLinearizationOfPart, part}
-use Rattle.lin_history.specs.Joined.{Places, IsJoined}
+use Rattle.lin_history.specs.Whole.{HasReturned, IsLinearizationOfWhole, IsLinearizationOfPart, part}
+use Rattle.lin_history.specs.Joined.{Places}
 use Rattle.lin_history.specs.WholeOf.{start_at, whole_of, part_of}
 use Rattle.lin_history.specs.PartLemmas.{part_of_whole}
 use Rattle.lin_history.specs.OrderLemmas.{part_by_order, order_of, order_by_part}
+use Rattle.lin_search.specs.LongestRun.{IsFirstLongest}
 use Rattle.lin_history.specs.OneLemmas.{AllOn, whole_of_part, joined_of_one}
 use Rattle.lincheck.specs.declared.verdict.Verdict.TheVariants.{Yes, No}
-use Rattle.lincheck.specs.Verdict.{AreLeast, IsFirstWithout, IsVerdict}
+use Rattle.lincheck.specs.Verdict.{IsLongestRunOf, IsVerdict}
 
 -- the problem of an object, as the search is posed it
 abbrev pub searched : List (ProblemCall Op Reply) → ObjState → Posed ObjState Op Reply
@@ -70,6 +70,10 @@ module _ (h : Recorded) (object : ℕ) (calls : List (ProblemCall Op Reply)) (st
   -- where the root has no completion there is no linearization
   pub none_is : (set : List Bool) (s : ObjState) → set ≡ no_calls (searched calls start) → s ≡ start → ((l : List ℕ) → IsCompletion (searched calls start) set s l → ⊥) → (l : List ℕ) → IsLinearization (part_of h object) l → ⊥
   none_is set s e f none l lin = none l (from_root set s l e f (is_completion l lin))
+
+  -- the longest run of the problem is that of the part
+  pub longest_is : (order : List ℕ) → IsFirstLongest (IsRun (searched calls start)) order → IsFirstLongest (IsRun (part_of h object)) order
+  longest_is order longest = subst (λ (q : Posed ObjState Op Reply). IsFirstLongest (IsRun q) order) (posed_same h object calls start p) longest
 
 -- every call is on the one object
 pub all_on_one : (h : Recorded) → IsHistory h → length h.objects ≤ 1 → AllOn (whole_of h) 0
@@ -119,6 +123,6 @@ none_of_whole h object none l w =
     let o = order_of state_eq.it (whole_of h) object (part (whole_of h) object l) (start_at h object) q.on q.legal in
     none o.0 (order_by_part state_eq.it (whole_of h) object o.0 (part (whole_of h) object l) q o.1)
 
-pub verdict_no : (h : Recorded) → 0 < length h.objects → ((l : List ℕ) → IsLinearization (part_of h 0) l → ⊥) → IsVerdict h (No 0)
-verdict_no h some none =
-    (record { declared = some; none = none; earlier = λ i below. absurd (omega (arith, below)) }, none_of_whole h 0 none)
+pub verdict_no : (h : Recorded) (run : Vec (Placed Reply) Global) → 0 < length h.objects → ((l : List ℕ) → IsLinearization (part_of h 0) l → ⊥) → IsLongestRunOf h 0 run.items → IsVerdict h (No 0 run)
+verdict_no h run some none longest =
+    ((record { declared = some; none = none; earlier = λ i below. absurd (omega (arith, below)) }, longest), none_of_whole h 0 none)

@@ -1,12 +1,13 @@
 -- One line more of a report.
-use Rattle.std.proofs.Common.{◌≡◌, ℕ, zero, suc, ◌+◌, ◌<◌, ◌≤◌, ◌==◌, ◌||◌, Bool, true, false, cond, List, [], ◌∷◌, ◌++◌, drop, take, set, length, get_or, Option, Some, None, refl, sym, ap, subst, ◌∙◌, append_assoc, append-nil, add-one, drop-cons, inl, inr, arith}
+use Rattle.std.proofs.Common.{◌≡◌, ℕ, zero, suc, ◌+◌, ◌<◌, ◌≤◌, true, false, List, [], ◌∷◌, ◌++◌, drop, length, Some, refl, sym, ap, subst, ◌∙◌, append_assoc, append-nil, add-one, inl, inr, arith}
 use Rattle.std.specs.List.{slice_get}
 use Rattle.std.proofs.lemmas.Option.{slice_get_cases}
 use Rattle.lin_object.specs.declared.op.Op.{Op}
 use Rattle.lin_object.specs.declared.reply.Reply.{Reply}
 use Rattle.lin_history.specs.declared.placed.Placed.{Placed}
 use Rattle.lin_history.specs.Events.{Call}
-use Rattle.lin_history.specs.Recorded.{Recorded}
+use Rattle.lin_history.specs.Recorded.{Recorded, is_on}
+use Rattle.lin_history.specs.Seen.{count_on}
 use Rattle.lincheck.specs.Report.{call_line, call_lines, dropped_line, dropped_lines, is_placed}
 use Rattle.lincheck.specs.Verdict.{AreCalls}
 
@@ -69,3 +70,28 @@ drops_all h order old out i end w = sym (append-nil out) ∙ rw (over h.calls i 
 -- the call of an index of the history
 pub call_at : (h : Recorded) (i : ℕ) → i < length h.calls → (c : Call Op Reply) × (slice_get h.calls i ≡ Some c)
 call_at h i within = elim (slice_get_cases h.calls i).1 [ inl k ↦ (k.0, k.2) | inr k ↦ absurd (let past = k.0 in omega (arith, within, past)) ]
+
+-- ---- how many calls are on an object
+
+pub record Counted (h : Recorded) (object count i : ℕ) : Type 0 where
+  pub so_far : count + count_on object (drop i h.calls) ≡ count_on object h.calls
+  pub bound : count ≤ i
+
+pub counted_none : (h : Recorded) (object : ℕ) → Counted h object 0 0
+counted_none h object = record { so_far = omega arith; bound = omega arith }
+
+pub counted_more : (h : Recorded) (object count i : ℕ) (c : Call Op Reply) → slice_get h.calls i ≡ Some c → Counted h object count i → is_on object c ≡ true → Counted h object (count + 1) (i + 1)
+counted_more h object count i c there k on =
+    let so_far = rw (dropped_at h.calls i c there, on) at k.so_far in
+    let bound = k.bound in
+    record { so_far = omega (arith, so_far); bound = omega (arith, bound) }
+
+pub counted_skip : (h : Recorded) (object count i : ℕ) (c : Call Op Reply) → slice_get h.calls i ≡ Some c → Counted h object count i → is_on object c ≡ false → Counted h object count (i + 1)
+counted_skip h object count i c there k off =
+    let so_far = rw (dropped_at h.calls i c there, off) at k.so_far in
+    let bound = k.bound in
+    record { so_far = so_far; bound = omega (arith, bound) }
+
+pub counted_all : (h : Recorded) (object count i : ℕ) → length h.calls ≤ i → Counted h object count i → count ≡ count_on object h.calls
+counted_all h object count i end k =
+    let so_far = rw (over h.calls i end) at k.so_far in omega (arith, so_far)

@@ -1,5 +1,5 @@
 -- What a run writes.
-use Rattle.std.specs.Prelude.{◌≡◌, ℕ, Option, List, take, Result, Ok, Err}
+use Rattle.std.specs.Prelude.{ℕ, Option, List, take, Result, Ok, Err}
 use Rattle.std.specs.Io.KnownBytes.{Appends, Keeps}
 use Rattle.lincheck.specs.declared.status.Status.{Status}
 use Rattle.lincheck.specs.declared.fault.RunFault.{RunFault}

@@ -1,5 +1,5 @@
 -- What a report shows (this project's own).
-use Rattle.std.specs.Prelude.{ℕ, ◌+◌, ◌==◌, ◌++◌, Bool, Option, Some, None, is_none, List, [], ◌∷◌, codes, slice_get, if◌then◌else◌}
+use Rattle.std.specs.Prelude.{ℕ, ◌+◌, ◌==◌, ◌++◌, Bool, Option, Some, None, List, [], ◌∷◌, codes, length, slice_get, if◌then◌else◌}
 use Rattle.std.specs.List.{list_any}
 use Rattle.std.specs.Option.{option_map_or}
 use Rattle.std.specs.Fmt.{decimal}
@@ -8,7 +8,7 @@ use Rattle.lin_object.specs.declared.reply.Reply.{Reply}
 use Rattle.lin_object.specs.Printed.{op_text, reply_text}
 use Rattle.lin_history.specs.declared.placed.Placed.{Placed}
 use Rattle.lin_history.specs.Events.{Call}
-use Rattle.lin_history.specs.Recorded.{Recorded}
+use Rattle.lin_history.specs.Recorded.{Recorded, calls_on}
 
 -- The name of the object of this index.
 abbrev pub name_of : Recorded → ℕ → List ℕ
@@ -50,6 +50,14 @@ dropped_lines h l n (c ∷ cs) = (if is_placed l n then [] else dropped_line h c
 abbrev pub yes_report : Recorded → List (Placed Reply) → List ℕ
 yes_report h l = codes "linearizable\n" ++ call_lines h 1 l ++ dropped_lines h l 0 h.calls
 
--- The report of a history whose object of this index has no linearization.
-abbrev pub no_report : Recorded → ℕ → List ℕ
-no_report h object = codes "not linearizable: " ++ name_of h object ++ codes "\n"
+-- The line that names an object without a linearization.
+abbrev pub name_line : Recorded → ℕ → List ℕ
+name_line h object = codes "not linearizable: " ++ name_of h object ++ codes "\n"
+
+-- The line that tells the length of a run, and how many calls its object has.
+abbrev pub length_line : Recorded → ℕ → List (Placed Reply) → List ℕ
+length_line h object run = codes "longest run: " ++ decimal (length run) ++ codes " of " ++ decimal (length (calls_on h object)) ++ codes " calls\n"
+
+-- The report of a history whose object of this index has no linearization, and this longest run.
+abbrev pub no_report : Recorded → ℕ → List (Placed Reply) → List ℕ
+no_report h object run = name_line h object ++ length_line h object run ++ call_lines h 1 run

@@ -3,11 +3,12 @@ use Rattle.std.specs.Prelude.{◌≡◌, ℕ, ◌<◌, Some, List, [], ◌∷◌
 use Rattle.lin_object.specs.declared.reply.Reply.{Reply}
 use Rattle.lin_history.specs.declared.placed.Placed.{Placed}
 use Rattle.lin_history.specs.Lists.{IsLeast}
-use Rattle.lin_history.specs.Linearizations.{IsLinearization}
+use Rattle.lin_history.specs.Linearizations.{IsRun, IsLinearization}
 use Rattle.lin_history.specs.Recorded.{Recorded}
 use Rattle.lin_history.specs.Whole.{IsLinearizationOfWhole}
-use Rattle.lin_history.specs.Joined.{IsJoined}
-use Rattle.lin_history.specs.WholeOf.{whole_of, part_of}
+use Rattle.lin_history.specs.Joined.{Places, IsJoined}
+use Rattle.lin_history.specs.WholeOf.{start_at, whole_of, part_of}
+use Rattle.lin_search.specs.LongestRun.{IsFirstLongest}
 use Rattle.lincheck.specs.declared.verdict.Verdict.{Verdict}
 use Rattle.lincheck.specs.declared.verdict.Verdict.TheVariants.{Yes, No}
 use Rattle.lincheck.specs.Report.{yes_report, no_report}
@@ -23,11 +24,18 @@ pub record IsFirstWithout (h : Recorded) (object : ℕ) : Type 0 where
   pub none : (l : List ℕ) → IsLinearization (part_of h object) l → ⊥
   pub earlier : (i : ℕ) → i < object → (l : List ℕ) × IsLinearization (part_of h i) l
 
+-- The list is the longest run of the object, of these the first in lexicographic order, each call with the reply of its
+-- step.
+pub record IsLongestRunOf (h : Recorded) (object : ℕ) (run : List (Placed Reply)) : Type 0 where
+  pub order : List ℕ
+  pub longest : IsFirstLongest (IsRun (part_of h object)) order
+  pub placed : Places (whole_of h) object (start_at h object) order run
+
 -- The verdict is right: yes, with the least linearizations of the objects joined, which is a linearization of the whole;
--- or no, with the first object that has none, and then the whole has none.
+-- or no, with the first object that has none and its longest run, and then the whole has none.
 abbrev pub IsVerdict : Recorded → Verdict → Type 0
 IsVerdict h (Yes l) = ((orders : List (List ℕ)) × AreLeast h orders × IsJoined (whole_of h) orders l) × IsLinearizationOfWhole (whole_of h) l
-IsVerdict h (No object) = IsFirstWithout h object × ((l : List (Placed Reply)) → IsLinearizationOfWhole (whole_of h) l → ⊥)
+IsVerdict h (No object run) = (IsFirstWithout h object × IsLongestRunOf h object run.items) × ((l : List (Placed Reply)) → IsLinearizationOfWhole (whole_of h) l → ⊥)
 
 -- Each of the calls is one of the first n.
 abbrev pub AreCalls : ℕ → List (Placed Reply) → Type 0
@@ -37,9 +45,9 @@ AreCalls n (x ∷ xs) = (x.call < n) × AreCalls n xs
 -- What the verdict names are calls and objects of the history.
 abbrev pub IsOf : Recorded → Verdict → Type 0
 IsOf h (Yes l) = AreCalls (length h.calls) l
-IsOf h (No object) = object < length h.objects
+IsOf h (No object run) = (object < length h.objects) × AreCalls (length h.calls) run.items
 
 -- The report of the verdict.
 abbrev pub report_of : Recorded → Verdict → List ℕ
 report_of h (Yes l) = yes_report h l
-report_of h (No object) = no_report h object
+report_of h (No object run) = no_report h object run.items

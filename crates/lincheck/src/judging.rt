@@ -3,7 +3,7 @@ ghost use Rattle.lincheck.specs.Verdict.{IsVerdict};
 
 use crate::verdict::Verdict;
 use lin_history::{History, WholeOrder, place};
-use lin_search::{Outcome, search_alone};
+use lin_search::{Outcome, OwnMemo, longest_run, search_alone};
 use std::alloc::{AllocError, Global};
 
 /// The verdict on a history of at most one object. `AllocError` where memory was refused.
@@ -20,7 +20,11 @@ pub(crate) fn judge(alloc: Global, history: &History) -> Result<Verdict, AllocEr
         Outcome::Found(order) => Ok(Verdict::Yes(WholeOrder::new(place(
             alloc, history, 0, &order,
         )?))),
-        Outcome::Refuted(_) => Ok(Verdict::No { object: 0 }),
+        Outcome::Refuted(_) => {
+            let order = longest_run(alloc, &problem, &mut OwnMemo::new(alloc, &problem))?;
+            let run = place(alloc, history, 0, &order)?;
+            Ok(Verdict::No { object: 0, run })
+        }
         Outcome::Undecided | Outcome::Stopped(_) => unreachable!(),
     }
 }

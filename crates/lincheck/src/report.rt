@@ -2,7 +2,8 @@ ghost use Rattle.std.specs.Prelude.{◌≡◌, ℕ, ◌<◌, ◌++◌, length, s
 ghost use Rattle.lin_object.specs.declared.op.Op.{Op};
 ghost use Rattle.lin_object.specs.declared.reply.Reply.{Reply};
 ghost use Rattle.lin_history.specs.Events.{Call};
-ghost use Rattle.lincheck.specs.Report.{mark_of, call_line, call_lines, dropped_line, dropped_lines, is_placed, yes_report, no_report};
+ghost use Rattle.lin_history.specs.Recorded.{calls_on};
+ghost use Rattle.lincheck.specs.Report.{mark_of, call_line, call_lines, dropped_line, dropped_lines, is_placed, name_line, length_line, yes_report, no_report};
 ghost use Rattle.lincheck.specs.Verdict.{AreCalls, IsOf, report_of};
 
 use crate::verdict::Verdict;
@@ -108,13 +109,56 @@ fn write_yes(
     write_drops(alloc, out, history, order)
 }
 
-// Appends the report of an object that has no linearization.
-fn write_no(out: &mut String, history: &History, object: usize) -> Result<(), AllocError>
+// How many calls of the history are on the object.
+fn calls_on(history: &History, object: usize) -> usize
+    ensures { result ≡ length (calls_on history.now object) }
+{
+    let mut count = 0;
+    for index in 0..history.call_count() {
+        if history.call(index).object == object {
+            count += 1;
+        }
+    }
+    count
+}
+
+// Appends the line that names an object without a linearization.
+fn write_name(out: &mut String, history: &History, object: usize) -> Result<(), AllocError>
     requires { object < length history.now.objects }
-    ensures { OnOk result (string_bytes out.new ≡ string_bytes out.old ++ no_report history.now object) }
+    ensures { OnOk result (string_bytes out.new ≡ string_bytes out.old ++ name_line history.now object) }
 {
     let name = history.object(object).name;
     write!(out, "not linearizable: {name}\n")
+}
+
+// Appends the line that tells the length of a run of the object.
+fn write_length(
+    out: &mut String,
+    history: &History,
+    object: usize,
+    run: &[Placed],
+) -> Result<(), AllocError>
+    ensures { OnOk result (string_bytes out.new ≡ string_bytes out.old ++ length_line history.now object run.now) }
+{
+    let length = run.len();
+    let calls = calls_on(history, object);
+    write!(out, "longest run: {length} of {calls} calls\n")
+}
+
+// Appends the report of an object that has no linearization, and this longest run.
+fn write_no(
+    out: &mut String,
+    history: &History,
+    object: usize,
+    run: &[Placed],
+) -> Result<(), AllocError>
+    requires object { object < length history.now.objects }
+    requires run { AreCalls (length history.now.calls) run.now }
+    ensures { OnOk result (string_bytes out.new ≡ string_bytes out.old ++ no_report history.now object run.now) }
+{
+    write_name(out, history, object)?;
+    write_length(out, history, object, run)?;
+    write_calls(out, history, run)
 }
 
 /// The report of a verdict on a history. `AllocError` where memory was refused.
@@ -127,7 +171,7 @@ pub fn report(alloc: Global, history: &History, verdict: &Verdict) -> Result<Vec
     let mut out = String::new(alloc);
     match verdict {
         Verdict::Yes(order) => write_yes(alloc, &mut out, history, order.placed())?,
-        Verdict::No { object } => write_no(&mut out, history, *object)?,
+        Verdict::No { object, run } => write_no(&mut out, history, *object, run.as_slice())?,
     }
     Ok(out.into_bytes())
 }

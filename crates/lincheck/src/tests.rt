@@ -65,7 +65,7 @@ fn empty_text_is_linearizable(rt: HostRuntime) -> Result<(), Fail> {
 
 #[test]
 fn histories_of_one_register(rt: HostRuntime) -> Result<(), Fail> {
-    let rows: [(&[&str], Status, &str); 8] = [
+    let rows: [(&[&str], Status, &str); 9] = [
         (
             &["1 write 1", "2 read", "2 = 1", "1 = \"ok\""],
             Status::Yes,
@@ -81,7 +81,7 @@ fn histories_of_one_register(rt: HostRuntime) -> Result<(), Fail> {
                 "2 = 1",
             ],
             Status::No,
-            "not linearizable: x\n",
+            "not linearizable: x\nlongest run: 2 of 3 calls\n1 1 x write(1) = ok\n2 1 x write(2) = ok\n",
         ),
         (
             &["1 write 5", "2 read", "2 = 5"],
@@ -96,9 +96,13 @@ fn histories_of_one_register(rt: HostRuntime) -> Result<(), Fail> {
         (
             &["1 read", "1 = \"ok\""],
             Status::No,
-            "not linearizable: x\n",
+            "not linearizable: x\nlongest run: 0 of 1 calls\n",
         ),
-        (&["1 read", "1 read"], Status::Refused, "refused\n"),
+        (
+            &["1 read", "1 read"],
+            Status::Refused,
+            "line 3: process 1 has a pending call\n",
+        ),
         (
             &["1 write 5", "1 = \"ok\"", "2 write 6"],
             Status::Yes,
@@ -108,6 +112,20 @@ fn histories_of_one_register(rt: HostRuntime) -> Result<(), Fail> {
             &["1 write 5", "2 write 6", "2 = \"ok\""],
             Status::Yes,
             "linearizable\n1 1 x write(5) = ok completed\n2 2 x write(6) = ok\n",
+        ),
+        (
+            &[
+                "1 write 1",
+                "2 write 2",
+                "3 write 3",
+                "1 = \"ok\"",
+                "2 = \"ok\"",
+                "3 = \"ok\"",
+                "4 read",
+                "4 = 9",
+            ],
+            Status::No,
+            "not linearizable: x\nlongest run: 3 of 4 calls\n1 1 x write(1) = ok\n2 2 x write(2) = ok\n3 3 x write(3) = ok\n",
         ),
     ];
     for (lines, status, printed) in rows {
@@ -149,7 +167,16 @@ fn queues(rt: HostRuntime) -> Result<(), Fail> {
         "linearizable\n1 2 x enq(2) = ok\n2 1 x enq(1) = ok\n3 1 x deq() = 2\n4 2 x deq() = 1\n";
     assert!(rt; is_answered(&rt, "queue", None, &[], Status::Yes, "linearizable\n")?);
     assert!(rt; is_answered(&rt, "queue", None, &two_at_once, Status::Yes, order)?);
-    assert!(rt; is_answered(&rt, "queue", Some(0), &[], Status::Refused, "refused\n")?);
+    assert!(rt;
+        is_answered(
+            &rt,
+            "queue",
+            Some(0),
+            &[],
+            Status::Refused,
+            "line 1: bad start\n"
+        )?
+    );
     Ok(())
 }
 
@@ -165,7 +192,7 @@ fn mutexes(rt: HostRuntime) -> Result<(), Fail> {
             None,
             &held_twice,
             Status::No,
-            "not linearizable: x\n"
+            "not linearizable: x\nlongest run: 1 of 2 calls\n1 1 x lock() = ok\n"
         )?
     );
     assert!(rt; is_answered(&rt, "mutex", None, &waiting, Status::Yes, order)?);
@@ -182,7 +209,7 @@ fn a_counter_at_its_end(rt: HostRuntime) -> Result<(), Fail> {
             Some(i64::MAX),
             &one_more,
             Status::No,
-            "not linearizable: x\n"
+            "not linearizable: x\nlongest run: 0 of 1 calls\n"
         )?
     );
     Ok(())
@@ -218,7 +245,7 @@ fn a_set_added_to_twice(rt: HostRuntime) -> Result<(), Fail> {
             None,
             &twice,
             Status::No,
-            "not linearizable: x\n"
+            "not linearizable: x\nlongest run: 1 of 2 calls\n1 1 x add(1) = true\n"
         )?
     );
     Ok(())

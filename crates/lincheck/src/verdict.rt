@@ -1,4 +1,4 @@
-use lin_history::WholeOrder;
+use lin_history::{Placed, WholeOrder};
 
 /// What a check found of a history.
 #[derive(Debug, Drop)]
@@ -9,5 +9,7 @@ pub enum Verdict {
     No {
         /// The index of the object.
         object: usize,
+        /// Its longest run, the first of those of the greatest length.
+        run: Vec<Placed>,
     },
 }

@@ -1,4 +1,4 @@
-use Rattle.std.proofs.Common.{◌≡◌, ◌<◌, Some, get_or, length, refl, arith}
+use Rattle.std.proofs.Common.{◌≡◌, Some, get_or, arith}
 use Rattle.std.specs.List.{slice_get}
 use Rattle.std.proofs.lemmas.Option.{slice_get-get_or}
 use Rattle.lin_object.specs.declared.reply.Reply.TheVariants.{Okay}

@@ -1,4 +1,4 @@
-use Rattle.std.proofs.Common.{string_bytes, length}
+use Rattle.std.proofs.Common.{string_bytes}
 use Rattle.lincheck.proofs.ReportLemmas.{CallsWritten}
 use Rattle.lincheck.proofs.report.write_calls.Given as goal
 
