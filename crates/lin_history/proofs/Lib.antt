@@ -7,4 +7,7 @@ pub mod ObjectLemmas
 pub mod FollowLemmas
 pub mod KeptLemmas
 pub mod PlacingLemmas
+pub mod VerifyingLemmas
+pub mod IndexLemmas
+pub mod JoiningLemmas
 pub mod Rows

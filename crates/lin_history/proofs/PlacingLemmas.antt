@@ -145,10 +145,10 @@ module _ {State Op Reply : Type 0} (same_state : State → State → Bool) (h : 
       record { index = n.call.index; is_index = rw e n.call.is_index; call = n.call.call; there = n.call.there }
 
   -- what `indices[k]` gives
-  pub value_is : (indices : List ℕ) (k value : ℕ) → (n : StandsNext indices k) → value ≡ get_or indices k value → value ≡ n.index
-  value_is indices k value n e = e ∙ get_or_from_slice_get indices k n.index value n.is_index
+  pub value_is : (indices : List ℕ) (k value : ℕ) → (n : StandsNext indices k) → value ≡ get_or indices k 0 → value ≡ n.index
+  value_is indices k value n e = e ∙ get_or_from_slice_get indices k n.index 0 n.is_index
 
-  pub value_within : (indices : List ℕ) (k value : ℕ) → (n : StandsNext indices k) → value ≡ get_or indices k value → value < length h.calls
+  pub value_within : (indices : List ℕ) (k value : ℕ) → (n : StandsNext indices k) → value ≡ get_or indices k 0 → value < length h.calls
   value_within indices k value n e =
       let is = value_is indices k value n e in
       let within = slice_get_within h.calls n.index n.call n.there in
@@ -156,7 +156,7 @@ module _ {State Op Reply : Type 0} (same_state : State → State → Bool) (h : 
 
   -- the loop's step: the call of the next number is placed with the reply of its step
   pub placing_next : (start : State) (order : List ℕ) (front new : List (Placed Reply)) (s : State) (xs : List ℕ) (i : ℕ) (indices : List ℕ) (value : ℕ) (c : Call Op Reply) (after : State) (reply : Reply)
-      → i < length xs → indices ≡ indices_from object 0 h.calls → IsPlacing start order front s (drop i xs) → value ≡ get_or indices (get_or xs i 0) value → slice_get h.calls value ≡ Some c
+      → i < length xs → indices ≡ indices_from object 0 h.calls → IsPlacing start order front s (drop i xs) → value ≡ get_or indices (get_or xs i 0) 0 → slice_get h.calls value ≡ Some c
       → h.after s c.process c.op ≡ Some (after, reply) → new ≡ front ++ (record { call = value; reply = reply }) ∷ [] → IsPlacing start order new after (drop (i + 1) xs)
   placing_next start order front new s xs i indices value c after reply within e p is there st pushed =
       let n = stands_next start order front s xs i indices within e p in
@@ -172,7 +172,7 @@ module _ {State Op Reply : Type 0} (same_state : State → State → Bool) (h : 
 
   -- the call of the next number has a step
   pub placing_goes_on : (start : State) (order : List ℕ) (front : List (Placed Reply)) (s : State) (xs : List ℕ) (i : ℕ) (indices : List ℕ) (value : ℕ) (c : Call Op Reply)
-      → i < length xs → indices ≡ indices_from object 0 h.calls → IsPlacing start order front s (drop i xs) → value ≡ get_or indices (get_or xs i 0) value → slice_get h.calls value ≡ Some c → h.after s c.process c.op ≡ None → ⊥
+      → i < length xs → indices ≡ indices_from object 0 h.calls → IsPlacing start order front s (drop i xs) → value ≡ get_or indices (get_or xs i 0) 0 → slice_get h.calls value ≡ Some c → h.after s c.process c.op ≡ None → ⊥
   placing_goes_on start order front s xs i indices value c within e p is there none =
       let n = next_of start order front s (get_or xs i 0) (drop (i + 1) xs) (placing_at start order front s xs i (get_or xs i 0) within refl p) in
       let stands : StandsNext indices (get_or xs i 0) = record { index = n.call.index; is_index = rw e n.call.is_index; call = n.call.call; there = n.call.there } in

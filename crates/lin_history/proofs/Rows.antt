@@ -25,6 +25,8 @@ use Rattle.lin_history.specs.Linearizations.{IsLinearization}
 use Rattle.lin_history.specs.Whole.{Precedes, HasReturned, Has, IsLinearizationOfWhole}
 use Rattle.lin_history.specs.WholeOf.{start_at, whole_of, part_of}
 use Rattle.lin_history.specs.Joined.{point, point_after}
+use Rattle.lin_history.specs.PartLemmas.{part_of_whole}
+use Rattle.lin_history.specs.OrderLemmas.{order_by_part}
 
 not_some : {A : Type 0} (x : A) → ◌≡◌ {A = Option A} None (Some x) → ⊥
 not_some x e = absurd (cc)
@@ -423,3 +425,17 @@ least_of_two = (inl refl, λ m h. elim h [ inl e ↦ rw e (inr (refl, inr (refl,
 -- Of these two lists the second is not the least.
 pub not_least_of_two : IsLeast (λ l. (l ≡ 0 ∷ 1 ∷ []) ⊎ (l ≡ 1 ∷ [])) (1 ∷ []) → ⊥
 not_least_of_two h = shorter_not_first (h.1 (0 ∷ 1 ∷ []) (inl refl))
+
+-- The write and then the read is a linearization of the register's part.
+pub overlap_order : IsLinearization (part_of overlap_history 0) (0 ∷ 1 ∷ [])
+overlap_order =
+    order_by_part state_eq.it (whole_of overlap_history) 0 (0 ∷ 1 ∷ []) (placed 0 Okay ∷ placed 1 (Int (pos 1)) ∷ [])
+    (part_of_whole (whole_of overlap_history) 0 (placed 0 Okay ∷ placed 1 (Int (pos 1)) ∷ []) overlap_whole)
+    (refl, (write_call, Register (pos 1), record { call = refl; step = refl; recorded = refl }, (refl, (read_call, Register (pos 1), record { call = refl; step = refl; recorded = refl }, tt))))
+
+pub overlap_orders : (h : Recorded) (orders : List (List ℕ)) → h ≡ overlap_history → orders ≡ (0 ∷ 1 ∷ []) ∷ [] → (object : ℕ) (order : List ℕ) → slice_get orders object ≡ Some order → IsLinearization (part_of h object) order
+overlap_orders h orders e f object order there = rw e (one object (rw f at there))
+  where
+    one : (object : ℕ) → slice_get ((0 ∷ 1 ∷ []) ∷ []) object ≡ Some order → IsLinearization (part_of overlap_history object) order
+    one zero there = subst (IsLinearization (part_of overlap_history 0)) (same_some (0 ∷ 1 ∷ []) order there) overlap_order
+    one (suc object) there = absurd (not_some order there)

@@ -23,3 +23,7 @@ pub mod PartPosed
 pub mod OrderLemmas
 pub mod OneLemmas
 pub mod WholeOf
+pub mod Flagged
+pub mod TimeLemmas
+pub mod LocalityLemmas
+pub mod Points

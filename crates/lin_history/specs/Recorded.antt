@@ -67,7 +67,7 @@ calls_on h object = filter (is_on object) h.calls
 
 -- The most objects, the most calls in all, and the most calls on one object.
 abbrev pub max_objects : ℕ
-max_objects = 1
+max_objects = 1024
 
 abbrev pub max_calls : ℕ
 max_calls = 65536

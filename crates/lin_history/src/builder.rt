@@ -16,7 +16,7 @@ use std::alloc::{AllocError, Global};
 use std::marker::Model;
 
 /// The most objects of a history.
-const MAX_OBJECTS: usize = 1;
+const MAX_OBJECTS: usize = 1024;
 
 /// The most calls of a history.
 const MAX_CALLS: usize = 65_536;

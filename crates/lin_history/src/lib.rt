@@ -5,20 +5,24 @@
 mod builder;
 mod fault;
 mod history;
+mod joining;
 mod name;
 mod order;
 mod placed;
 mod placing;
 mod problem;
+mod verifying;
 
 pub use builder::Builder;
 pub use fault::BuildFault;
 pub use history::{CallInfo, History, ObjectInfo};
+pub use joining::join;
 pub use name::is_name;
 pub use order::Order;
 pub use placed::{Placed, WholeOrder};
 pub use placing::place;
 pub use problem::{Problem, ProblemCall, ProblemFault};
+pub use verifying::verify;
 
 #[cfg(test)]
 mod tests;

@@ -23,6 +23,38 @@ fn indices_on(alloc: Global, history: &History, object: usize) -> Result<Vec<usi
     Ok(indices)
 }
 
+/// The calls of one object's order, by their indices in the history, each with the reply of its step, where the indices
+/// of the object's calls are known. `AllocError` where memory was refused.
+///
+/// Conditions: the object is declared, the order is legal on it from its start, and these are the indices of its calls.
+pub(crate) fn place_at(
+    alloc: Global,
+    history: &History,
+    object: usize,
+    indices: &[usize],
+    order: &Order,
+) -> Result<Vec<Placed>, AllocError>
+    requires object { object < length history.now.objects }
+    requires legal { (t : ObjState) × Legal (part_of history.now object) (start_at history.now object) order.now t }
+    requires indices { indices.now ≡ indices_from object 0 history.now.calls }
+    ensures { IfOk result (λ placed. Places (whole_of history.now) object (start_at history.now object) order.now placed.items) }
+{
+    let info = history.object(object);
+    let mut state = start_state(alloc, info.kind, info.start);
+    let mut placed = Vec::new(alloc);
+    let calls = order.calls();
+    for number in calls {
+        let index = indices[*number];
+        let call = history.call(index);
+        let Some((next, reply)) = AnyObject.step(alloc, &state, call.process, &call.op)? else {
+            unreachable!()
+        };
+        placed.push(Placed { call: index, reply })?;
+        state = next;
+    }
+    Ok(placed)
+}
+
 /// The calls of one object's order, by their indices in the history, each with the reply of its step. `AllocError` where
 /// memory was refused.
 ///
@@ -38,18 +70,5 @@ pub fn place(
     ensures { IfOk result (λ placed. Places (whole_of history.now) object (start_at history.now object) order.now placed.items) }
 {
     let indices = indices_on(alloc, history, object)?;
-    let info = history.object(object);
-    let mut state = start_state(alloc, info.kind, info.start);
-    let mut placed = Vec::new(alloc);
-    let calls = order.calls();
-    for number in calls {
-        let index = indices[*number];
-        let call = history.call(index);
-        let Some((next, reply)) = AnyObject.step(alloc, &state, call.process, &call.op)? else {
-            unreachable!()
-        };
-        placed.push(Placed { call: index, reply })?;
-        state = next;
-    }
-    Ok(placed)
+    place_at(alloc, history, object, indices.as_slice(), order)
 }

@@ -1,25 +1,64 @@
+ghost use Rattle.std.specs.Prelude.{◌≡◌, Some, None, [], ◌∷◌, IfOk, pos};
+
 use crate::{
-    BuildFault, Builder, CallInfo, Order, Placed, Problem, ProblemCall, ProblemFault, WholeOrder,
-    is_name,
+    BuildFault, Builder, CallInfo, History, Order, Placed, Problem, ProblemCall, ProblemFault,
+    WholeOrder, is_name, join, verify,
 };
 use lin_object::{AnyObject, Kind, ObjState, Op, Reply};
-use std::alloc::Global;
+use std::alloc::{AllocError, Global};
 use std::test::Fail;
 
-fn register(alloc: Global) -> Result<Builder, BuildFault> {
+fn register(alloc: Global) -> Result<Builder, BuildFault>
+    ensures { IfOk result (λ builder. builder ≡ record { objects = (record { name = 120 ∷ []; kind = Kind.Register; start = pos 0 }) ∷ []; calls = []; events = 0 }) }
+{
     let mut builder = Builder::new(alloc);
     builder.declare(alloc, "x", Kind::Register, 0)?;
     Ok(builder)
 }
 
 /// Two calls that overlap: `write(1)` of process 1 and `read()` of process 2, which returns first.
-fn overlap(alloc: Global) -> Result<Builder, BuildFault> {
+fn overlap(alloc: Global) -> Result<Builder, BuildFault>
+    ensures { IfOk result (λ builder. builder ≡ record {
+      objects = (record { name = 120 ∷ []; kind = Kind.Register; start = pos 0 }) ∷ [];
+      calls = (record { process = 1; object = 0; op = Op.Write (pos 1); called = 1; returned = Some (4, Reply.Okay) })
+          ∷ (record { process = 2; object = 0; op = Op.Read; called = 2; returned = Some (3, Reply.Int (pos 1)) }) ∷ [];
+      events = 4;
+    }) }
+{
     let mut builder = register(alloc)?;
     builder.call(1, "x", Op::Write(1))?;
     builder.call(2, "x", Op::Read)?;
     builder.ret(2, "x", Reply::Int(1))?;
     builder.ret(1, "x", Reply::Okay)?;
     Ok(builder)
+}
+
+/// `write(1)`, then `write(2)`, and then a `read()` that returned 1.
+fn late_read(alloc: Global) -> Result<Builder, BuildFault> {
+    let mut builder = register(alloc)?;
+    builder.call(1, "x", Op::Write(1))?;
+    builder.ret(1, "x", Reply::Okay)?;
+    builder.call(1, "x", Op::Write(2))?;
+    builder.ret(1, "x", Reply::Okay)?;
+    builder.call(2, "x", Op::Read)?;
+    builder.ret(2, "x", Reply::Int(1))?;
+    Ok(builder)
+}
+
+/// Whether the calls, each with its reply, are a linearization of the history.
+fn is_verified(
+    alloc: Global,
+    history: &History,
+    calls: &[(usize, Reply)],
+) -> Result<bool, AllocError> {
+    let mut placed = Vec::new(alloc);
+    for (call, reply) in calls {
+        placed.push(Placed {
+            call: *call,
+            reply: *reply,
+        })?;
+    }
+    verify(alloc, history, &WholeOrder::new(placed))
 }
 
 #[test]
@@ -139,6 +178,100 @@ fn a_whole_order_is_its_calls_with_their_replies(rt: HostRuntime) -> Result<(), 
 }
 
 #[test]
+fn a_linearization_is_verified(rt: HostRuntime) -> Result<(), Fail> {
+    let history = overlap(rt.alloc())?.finish();
+    let write = (0, Reply::Okay);
+    let read = (1, Reply::Int(1));
+    let answer = is_verified(rt.alloc(), &history, [write, read].as_slice())?;
+    assert!(rt; answer);
+    let answer = is_verified(rt.alloc(), &history, [read, write].as_slice())?;
+    assert!(rt; !answer);
+    Ok(())
+}
+
+#[test]
+fn an_order_without_a_completed_call_is_not_verified(rt: HostRuntime) -> Result<(), Fail> {
+    let history = overlap(rt.alloc())?.finish();
+    let answer = is_verified(rt.alloc(), &history, [(0, Reply::Okay)].as_slice())?;
+    assert!(rt; !answer);
+    Ok(())
+}
+
+#[test]
+fn a_call_that_stands_twice_is_not_verified(rt: HostRuntime) -> Result<(), Fail> {
+    let history = overlap(rt.alloc())?.finish();
+    let write = (0, Reply::Okay);
+    let read = (1, Reply::Int(1));
+    let answer = is_verified(rt.alloc(), &history, [write, read, read].as_slice())?;
+    assert!(rt; !answer);
+    Ok(())
+}
+
+#[test]
+fn a_call_that_is_not_there_is_not_verified(rt: HostRuntime) -> Result<(), Fail> {
+    let history = overlap(rt.alloc())?.finish();
+    let write = (0, Reply::Okay);
+    let read = (1, Reply::Int(1));
+    let other = (2, Reply::Int(1));
+    let answer = is_verified(rt.alloc(), &history, [write, read, other].as_slice())?;
+    assert!(rt; !answer);
+    Ok(())
+}
+
+#[test]
+fn another_reply_is_not_verified(rt: HostRuntime) -> Result<(), Fail> {
+    let history = overlap(rt.alloc())?.finish();
+    let write = (0, Reply::Okay);
+    let read = (1, Reply::Int(0));
+    let answer = is_verified(rt.alloc(), &history, [read, write].as_slice())?;
+    assert!(rt; !answer);
+    Ok(())
+}
+
+#[test]
+fn an_order_out_of_real_time_is_not_verified(rt: HostRuntime) -> Result<(), Fail> {
+    let history = late_read(rt.alloc())?.finish();
+    let first = (0, Reply::Okay);
+    let second = (1, Reply::Okay);
+    let read = (2, Reply::Int(1));
+    let answer = is_verified(rt.alloc(), &history, [first, read, second].as_slice())?;
+    assert!(rt; !answer);
+    let answer = is_verified(rt.alloc(), &history, [first, second, read].as_slice())?;
+    assert!(rt; !answer);
+    Ok(())
+}
+
+#[test]
+fn a_pending_call_is_verified_with_and_without(rt: HostRuntime) -> Result<(), Fail> {
+    let mut builder = register(rt.alloc())?;
+    builder.call(1, "x", Op::Write(5))?;
+    let pending = builder.finish();
+    let answer = is_verified(rt.alloc(), &pending, [].as_slice())?;
+    assert!(rt; answer);
+    let answer = is_verified(rt.alloc(), &pending, [(0, Reply::Okay)].as_slice())?;
+    assert!(rt; answer);
+    Ok(())
+}
+
+#[test]
+fn the_order_of_one_object_is_joined(rt: HostRuntime) -> Result<(), Fail> {
+    let history = overlap(rt.alloc())?.finish();
+    let order = Order::new(vec![in rt.alloc(); 0, 1]?);
+    let orders = [order];
+    let joined = join(rt.alloc(), &history, orders.as_slice())?;
+    let write = Placed {
+        call: 0,
+        reply: Reply::Okay,
+    };
+    let read = Placed {
+        call: 1,
+        reply: Reply::Int(1),
+    };
+    assert_eq!(rt; joined.placed(), [write, read].as_slice());
+    Ok(())
+}
+
+#[test]
 fn a_history_tells_its_parts(rt: HostRuntime) -> Result<(), Fail> {
     let history = overlap(rt.alloc())?.finish();
     assert_eq!(rt; history.object_count(), 1);
@@ -225,17 +358,87 @@ fn a_declaration_is_refused(rt: HostRuntime) -> Result<(), Fail> {
     Ok(())
 }
 
+/// A builder with so many registers, `o1` and so on.
+fn registers(alloc: Global, count: usize) -> Result<Builder, Fail> {
+    let mut builder = Builder::new(alloc);
+    for index in 0..count {
+        let number = index.wrapping_add(1);
+        let name = format!(in alloc; "o{number}")?;
+        let declared = builder.declare(alloc, name.as_str(), Kind::Register, 0);
+        declared.ok().ok_or("a declaration was refused")?;
+    }
+    Ok(builder)
+}
+
 #[test]
 fn an_object_too_many_is_refused(rt: HostRuntime) -> Result<(), Fail> {
-    let mut builder = register(rt.alloc())?;
+    let mut builder = registers(rt.alloc(), 1024)?;
     let refused = builder.declare(rt.alloc(), "y", Kind::Register, 0);
     assert_eq!(rt; refused, Err(BuildFault::TooManyObjects));
     let bad = builder.declare(rt.alloc(), "y z", Kind::Register, 0);
     assert_eq!(rt; bad, Err(BuildFault::BadName));
-    let declared = builder.declare(rt.alloc(), "x", Kind::Register, 0);
+    let declared = builder.declare(rt.alloc(), "o7", Kind::Register, 0);
     assert_eq!(rt; declared, Err(BuildFault::Declared));
     assert_eq!(rt; builder.kind_of("y"), None);
-    assert_eq!(rt; builder.finish().object_count(), 1);
+    assert_eq!(rt; builder.finish().object_count(), 1024);
+    Ok(())
+}
+
+/// Two registers: process 1 writes to `x`; meanwhile process 2 writes 7 to `y`, reads 0 of `x` and 7 of `y`.
+fn crossed(alloc: Global) -> Result<Builder, BuildFault> {
+    let mut builder = register(alloc)?;
+    builder.declare(alloc, "y", Kind::Register, 0)?;
+    builder.call(1, "x", Op::Write(1))?;
+    builder.call(2, "y", Op::Write(7))?;
+    builder.ret(2, "y", Reply::Okay)?;
+    builder.call(2, "x", Op::Read)?;
+    builder.ret(2, "x", Reply::Int(0))?;
+    builder.call(2, "y", Op::Read)?;
+    builder.ret(2, "y", Reply::Int(7))?;
+    builder.ret(1, "x", Reply::Okay)?;
+    Ok(builder)
+}
+
+#[test]
+fn linearizations_of_two_objects_are_verified(rt: HostRuntime) -> Result<(), Fail> {
+    let history = crossed(rt.alloc())?.finish();
+    let write_x = (0, Reply::Okay);
+    let write_y = (1, Reply::Okay);
+    let read_x = (2, Reply::Int(0));
+    let read_y = (3, Reply::Int(7));
+    let joined = [write_y, read_x, write_x, read_y];
+    let answer = is_verified(rt.alloc(), &history, joined.as_slice())?;
+    assert!(rt; answer);
+    let another = [write_y, read_x, read_y, write_x];
+    let answer = is_verified(rt.alloc(), &history, another.as_slice())?;
+    assert!(rt; answer);
+    Ok(())
+}
+
+#[test]
+fn an_order_by_call_events_alone_is_not_verified(rt: HostRuntime) -> Result<(), Fail> {
+    let history = crossed(rt.alloc())?.finish();
+    let by_calls = [
+        (0, Reply::Okay),
+        (1, Reply::Okay),
+        (2, Reply::Int(0)),
+        (3, Reply::Int(7)),
+    ];
+    let answer = is_verified(rt.alloc(), &history, by_calls.as_slice())?;
+    assert!(rt; !answer);
+    Ok(())
+}
+
+#[test]
+fn a_return_on_another_object_is_refused(rt: HostRuntime) -> Result<(), Fail> {
+    let mut builder = register(rt.alloc())?;
+    assert_eq!(rt; builder.declare(rt.alloc(), "y", Kind::Register, 0), Ok(()));
+    assert_eq!(rt; builder.call(1, "x", Op::Read), Ok(()));
+    assert_eq!(rt;
+        builder.ret(1, "y", Reply::Int(0)),
+        Err(BuildFault::OtherObject(1))
+    );
+    assert_eq!(rt; builder.ret(1, "x", Reply::Int(0)), Ok(()));
     Ok(())
 }
 
