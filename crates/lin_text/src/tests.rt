@@ -95,8 +95,8 @@ fn a_line_with_one_fault_after_a_declaration(rt: HostRuntime) -> Result<(), Fail
             "line 4: process 1 has a pending call\n",
         ),
         (
-            r#"{"event":"object","object":"y","kind":"register"}"#,
-            "line 2: too many objects\n",
+            "{\"event\":\"object\",\"object\":\"y\",\"kind\":\"register\"}\n{\"event\":\"call\",\"process\":1,\"object\":\"x\",\"op\":\"read\"}\n{\"event\":\"return\",\"process\":1,\"object\":\"y\",\"result\":0}",
+            "line 4: process 1 has its pending call on another object\n",
         ),
         (r#"{"event":"call""#, "line 2: not JSON\n"),
         (
@@ -266,6 +266,33 @@ fn lines_and_texts_at_their_limits(rt: HostRuntime) -> Result<(), Fail> {
         printed_of_bytes(a, b'a', 67108865)?.as_slice(),
         long_input.as_slice()
     );
+    Ok(())
+}
+
+/// The declarations of so many registers, `o1` and so on.
+fn declarations(alloc: Global, count: usize) -> Result<String, Fail> {
+    let mut text = String::new(alloc);
+    for index in 0..count {
+        let number = index.wrapping_add(1);
+        write!(
+            text,
+            "{{\"event\":\"object\",\"object\":\"o{number}\",\"kind\":\"register\"}}\n"
+        )?;
+    }
+    Ok(text)
+}
+
+#[test]
+fn objects_at_their_limit(rt: HostRuntime) -> Result<(), Fail> {
+    let a = rt.alloc();
+    let most = declarations(a, 1024)?;
+    let too_many = declarations(a, 1025)?;
+    assert!(rt; prints(a, most.as_str(), "")?);
+    assert!(rt; prints(a, too_many.as_str(), "line 1025: too many objects\n")?);
+    let again = format!(in a;
+        "{most}{{\"event\":\"object\",\"object\":\"o7\",\"kind\":\"register\"}}"
+    )?;
+    assert!(rt; prints(a, again.as_str(), "line 1025: object is declared already\n")?);
     Ok(())
 }
 
