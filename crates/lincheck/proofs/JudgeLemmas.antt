@@ -1,5 +1,5 @@
 -- From the search of one object's problem to the verdict on its history.
-use Rattle.std.proofs.Common.{◌≡◌, ℕ, zero, suc, ◌<◌, ◌≤◌, Bool, List, [], ◌∷◌, ◌++◌, length, Option, Some, None, refl, sym, subst, arith}
+use Rattle.std.proofs.Common.{◌≡◌, ℕ, zero, suc, ◌<◌, Bool, List, [], ◌∷◌, ◌++◌, length, Option, Some, None, refl, sym, subst, arith, ◌+◌, ◌⊎◌, length-append, inl, inr, ◌∙◌, ap}
 use Rattle.std.specs.Prelude.{pos, Vec}
 use Rattle.std.specs.declared.alloc.Global.{Global}
 use Rattle.std.specs.List.{slice_get}
@@ -13,20 +13,17 @@ use Rattle.lin_object.specs.contracts.state.ObjStatePartialEq.TheImpl.{eq-value 
 use Rattle.lin_object.specs.Object.{after, state_at_start}
 use Rattle.lin_history.specs.declared.placed.Placed.{Placed}
 use Rattle.lin_history.specs.declared.problem.ProblemCall.{ProblemCall}
-use Rattle.lin_history.specs.Events.{Call}
 use Rattle.lin_history.specs.Lists.{IsLeast}
 use Rattle.lin_history.specs.Posed.{Posed}
 use Rattle.lin_history.specs.Continuations.{no_calls, IsCompletion}
 use Rattle.lin_history.specs.Linearizations.{IsRun, IsLinearization}
-use Rattle.lin_history.specs.Recorded.{ObjectSeen, Recorded, IsHistory}
+use Rattle.lin_history.specs.Recorded.{ObjectSeen, Recorded}
 use Rattle.lin_history.specs.Parts.{start_of, part_calls}
-use Rattle.lin_history.specs.Whole.{HasReturned, IsLinearizationOfWhole, IsLinearizationOfPart, part}
-use Rattle.lin_history.specs.Joined.{Places}
+use Rattle.lin_history.specs.Whole.{IsLinearizationOfWhole}
+use Rattle.lin_history.specs.Joined.{IsJoined}
 use Rattle.lin_history.specs.WholeOf.{start_at, whole_of, part_of}
-use Rattle.lin_history.specs.PartLemmas.{part_of_whole}
-use Rattle.lin_history.specs.OrderLemmas.{part_by_order, order_of, order_by_part}
 use Rattle.lin_search.specs.LongestRun.{IsFirstLongest}
-use Rattle.lin_history.specs.OneLemmas.{AllOn, whole_of_part, joined_of_one}
+use Rattle.lin_history.specs.LocalityLemmas.{none_of_whole}
 use Rattle.lincheck.specs.declared.verdict.Verdict.TheVariants.{Yes, No}
 use Rattle.lincheck.specs.Verdict.{IsLongestRunOf, IsVerdict}
 
@@ -75,54 +72,49 @@ module _ (h : Recorded) (object : ℕ) (calls : List (ProblemCall Op Reply)) (st
   pub longest_is : (order : List ℕ) → IsFirstLongest (IsRun (searched calls start)) order → IsFirstLongest (IsRun (part_of h object)) order
   longest_is order longest = subst (λ (q : Posed ObjState Op Reply). IsFirstLongest (IsRun q) order) (posed_same h object calls start p) longest
 
--- every call is on the one object
-pub all_on_one : (h : Recorded) → IsHistory h → length h.objects ≤ 1 → AllOn (whole_of h) 0
-all_on_one h history few a c there = let d = history.1.declared a c there in omega (arith, d, few)
+-- the orders are the least linearizations of the first n objects
+pub record AreLeastOf (h : Recorded) (orders : List (List ℕ)) (n : ℕ) : Type 0 where
+  pub count : length orders ≡ n
+  pub each : (object : ℕ) (order : List ℕ) → slice_get orders object ≡ Some order → IsLeast (IsLinearization (part_of h object)) order
 
--- a history without objects
-pub verdict_none : (h : Recorded) → IsHistory h → length h.objects ≡ 0 → IsVerdict h (Yes [])
-verdict_none h history none = (
-  (
-    [],
-    record { count = sym none; each = λ object order e. absurd (cc) },
-    record {
-      parts = λ object order e. absurd (cc);
-      known = λ a there. absurd there;
-      sorted = λ early x mid y late e. absurd (not_nil early x (mid ++ y ∷ late) e);
-    },
-  ),
-  record { distinct = tt; complete = λ a done. absurd (no_call a (slice_get h.calls a) refl done); ordered = tt; legal = tt },
-)
+pub least_none : (h : Recorded) → AreLeastOf h [] 0
+least_none h = record { count = refl; each = λ object order e. absurd (cc) }
+
+last_is : (orders : List (List ℕ)) (order : List ℕ) (object : ℕ) (o : List ℕ) → slice_get (orders ++ order ∷ []) object ≡ Some o → (slice_get orders object ≡ Some o) ⊎ ((object ≡ length orders) × (order ≡ o))
+last_is [] order zero o e = inr (refl, cc)
+last_is [] order (suc object) o e = absurd (cc)
+last_is (x ∷ xs) order zero o e = inl e
+last_is (x ∷ xs) order (suc object) o e = elim (last_is xs order object o e) [ inl f ↦ inl f | inr f ↦ inr (omega (arith, f.0), f.1) ]
+
+pub least_more : (h : Recorded) (orders : List (List ℕ)) (order : List ℕ) (n : ℕ) → AreLeastOf h orders n → IsLeast (IsLinearization (part_of h n)) order → AreLeastOf h (orders ++ order ∷ []) (n + 1)
+least_more h orders order n so_far least = record {
+  count = length-append orders (order ∷ []) ∙ ap (λ (k : ℕ). k + 1) so_far.count;
+  each = λ object o e. at_place object o (last_is orders order object o e);
+}
   where
-    not_nil : (early : List (Placed Reply)) (x : Placed Reply) (late : List (Placed Reply)) → [] ≡ early ++ x ∷ late → ⊥
-    not_nil [] x late e = cc
-    not_nil (y ∷ early) x late e = cc
+    at_place : (object : ℕ) (o : List ℕ) → (slice_get orders object ≡ Some o) ⊎ ((object ≡ length orders) × (order ≡ o)) → IsLeast (IsLinearization (part_of h object)) o
+    at_place object o (inl e) = so_far.each object o e
+    at_place object o (inr e) =
+        let same : object ≡ n = e.0 ∙ so_far.count in
+        subst (λ (k : ℕ). IsLeast (IsLinearization (part_of h k)) o) (sym same) (subst (IsLeast (IsLinearization (part_of h n))) e.1 least)
 
-    no_call : (a : ℕ) (o : Option (Call Op Reply)) → slice_get h.calls a ≡ o → HasReturned (whole_of h) a → ⊥
-    no_call a None e done = rw e at done
-    no_call a (Some c) e done = let d = history.1.declared a c e in omega (arith, d, none)
+-- each of the orders is a linearization
+pub linearizations : (h : Recorded) (orders : List (List ℕ)) (n : ℕ) → AreLeastOf h orders n → (object : ℕ) (order : List ℕ) → slice_get orders object ≡ Some order → IsLinearization (part_of h object) order
+linearizations h orders n so_far object order e = (so_far.each object order e).0
 
--- a found order, placed
-pub verdict_yes : (h : Recorded) → IsHistory h → length h.objects ≤ 1 → 0 < length h.objects → (order : List ℕ) (l : List (Placed Reply)) → IsLeast (IsLinearization (part_of h 0)) order → Places (whole_of h) 0 (start_at h 0) order l → IsVerdict h (Yes l)
-verdict_yes h history few some order l least placed = (
-  (order ∷ [], record { count = omega (arith, few, some); each = each }, joined_of_one (whole_of h) order l lin.on placed),
-  whole_of_part (whole_of h) 0 (all_on_one h history few) l lin,
-)
+pub verdict_yes : (h : Recorded) (orders : List (List ℕ)) (n : ℕ) (l : List (Placed Reply)) → n ≡ length h.objects → AreLeastOf h orders n → IsJoined (whole_of h) orders l → IsLinearizationOfWhole (whole_of h) l → IsVerdict h (Yes l)
+verdict_yes h orders n l all so_far joined whole = ((orders, record { count = so_far.count ∙ all; each = so_far.each }, joined), whole)
+
+order_there : (orders : List (List ℕ)) (i : ℕ) → i < length orders → (order : List ℕ) × (slice_get orders i ≡ Some order)
+order_there [] i within = absurd (omega (arith, within))
+order_there (x ∷ xs) zero within = (x, refl)
+order_there (x ∷ xs) (suc i) within = order_there xs i (omega (arith, within))
+
+pub verdict_no : (h : Recorded) (orders : List (List ℕ)) (object : ℕ) (run : Vec (Placed Reply) Global) → object < length h.objects → AreLeastOf h orders object → ((l : List ℕ) → IsLinearization (part_of h object) l → ⊥) × IsLongestRunOf h object run.items → IsVerdict h (No object run)
+verdict_no h orders object run declared so_far none =
+    ((record { declared = declared; none = none.0; earlier = earlier }, none.1), none_of_whole state_eq.it (whole_of h) object none.0)
   where
-    lin : IsLinearizationOfPart (whole_of h) 0 l
-    lin = part_by_order state_eq.it (whole_of h) 0 order l least.0 placed
-
-    each : (object : ℕ) (o : List ℕ) → slice_get (order ∷ []) object ≡ Some o → IsLeast (IsLinearization (part_of h object)) o
-    each zero o e = let same : order ≡ o = cc in subst (IsLeast (IsLinearization (part_of h 0))) same least
-    each (suc object) o e = absurd (cc)
-
--- where one object has no linearization, the whole has none
-pub none_of_whole : (h : Recorded) (object : ℕ) → ((l : List ℕ) → IsLinearization (part_of h object) l → ⊥) → (l : List (Placed Reply)) → IsLinearizationOfWhole (whole_of h) l → ⊥
-none_of_whole h object none l w =
-    let q = part_of_whole (whole_of h) object l w in
-    let o = order_of state_eq.it (whole_of h) object (part (whole_of h) object l) (start_at h object) q.on q.legal in
-    none o.0 (order_by_part state_eq.it (whole_of h) object o.0 (part (whole_of h) object l) q o.1)
-
-pub verdict_no : (h : Recorded) (run : Vec (Placed Reply) Global) → 0 < length h.objects → ((l : List ℕ) → IsLinearization (part_of h 0) l → ⊥) → IsLongestRunOf h 0 run.items → IsVerdict h (No 0 run)
-verdict_no h run some none longest =
-    ((record { declared = some; none = none; earlier = λ i below. absurd (omega (arith, below)) }, longest), none_of_whole h 0 none)
+    earlier : (i : ℕ) → i < object → (l : List ℕ) × IsLinearization (part_of h i) l
+    earlier i below =
+        let there = order_there orders i (let count = so_far.count in omega (arith, below, count)) in
+        (there.0, (so_far.each i there.0 there.1).0)

@@ -11,6 +11,8 @@ use Rattle.lin_history.specs.WholeOf.{start_at, whole_of, part_of}
 use Rattle.lin_search.specs.LongestRun.{IsFirstLongest}
 use Rattle.lincheck.specs.declared.verdict.Verdict.{Verdict}
 use Rattle.lincheck.specs.declared.verdict.Verdict.TheVariants.{Yes, No}
+use Rattle.lincheck.specs.declared.verdict.ObjectVerdict.{ObjectVerdict}
+use Rattle.lincheck.specs.declared.verdict.ObjectVerdict.TheVariants as objects
 use Rattle.lincheck.specs.Report.{yes_report, no_report}
 
 -- One order for each object, in the order of declaration, each the least linearization of its object.
@@ -30,6 +32,11 @@ pub record IsLongestRunOf (h : Recorded) (object : ℕ) (run : List (Placed Repl
   pub order : List ℕ
   pub longest : IsFirstLongest (IsRun (part_of h object)) order
   pub placed : Places (whole_of h) object (start_at h object) order run
+
+-- The verdict on one object is right: yes, with the least linearization; or no, where there is none, with the longest run.
+abbrev pub IsObjectVerdict : Recorded → ℕ → ObjectVerdict → Type 0
+IsObjectVerdict h object (objects.Yes order) = IsLeast (IsLinearization (part_of h object)) order
+IsObjectVerdict h object (objects.No run) = ((l : List ℕ) → IsLinearization (part_of h object) l → ⊥) × IsLongestRunOf h object run.items
 
 -- The verdict is right: yes, with the least linearizations of the objects joined, which is a linearization of the whole;
 -- or no, with the first object that has none and its longest run, and then the whole has none.

@@ -1,30 +1,44 @@
-ghost use Rattle.std.specs.Prelude.{IfOk, ◌≤◌, length};
-ghost use Rattle.lincheck.specs.Verdict.{IsVerdict};
+ghost use Rattle.std.specs.Prelude.{IfOk, ◌<◌, length};
+ghost use Rattle.lincheck.specs.Verdict.{IsObjectVerdict, IsVerdict};
 
-use crate::verdict::Verdict;
-use lin_history::{History, WholeOrder, place};
+use crate::verdict::{ObjectVerdict, Verdict};
+use lin_history::{History, join, place};
 use lin_search::{Outcome, OwnMemo, longest_run, search_alone};
 use std::alloc::{AllocError, Global};
 
-/// The verdict on a history of at most one object. `AllocError` where memory was refused.
-pub(crate) fn judge(alloc: Global, history: &History) -> Result<Verdict, AllocError>
-    requires { length history.now.objects ≤ 1 }
-    ensures { IfOk result (IsVerdict history.now) }
+// The verdict on the object of this index.
+fn judge_object(
+    alloc: Global,
+    history: &History,
+    object: usize,
+) -> Result<ObjectVerdict, AllocError>
+    requires { object < length history.now.objects }
+    ensures { IfOk result (IsObjectVerdict history.now object) }
 {
-    if history.object_count() == 0 {
-        return Ok(Verdict::Yes(WholeOrder::new(Vec::new(alloc))));
-    }
-    let problem = history.problem(alloc, 0)?;
+    let problem = history.problem(alloc, object)?;
     let (outcome, _) = search_alone(alloc, &problem)?;
     match outcome {
-        Outcome::Found(order) => Ok(Verdict::Yes(WholeOrder::new(place(
-            alloc, history, 0, &order,
-        )?))),
+        Outcome::Found(order) => Ok(ObjectVerdict::Yes(order)),
         Outcome::Refuted(_) => {
             let order = longest_run(alloc, &problem, &mut OwnMemo::new(alloc, &problem))?;
-            let run = place(alloc, history, 0, &order)?;
-            Ok(Verdict::No { object: 0, run })
+            let run = place(alloc, history, object, &order)?;
+            Ok(ObjectVerdict::No(run))
         }
         Outcome::Undecided | Outcome::Stopped(_) => unreachable!(),
     }
+}
+
+/// The verdict on a history. The objects are searched in the order of declaration; the first without a linearization ends
+/// the check. `AllocError` where memory was refused.
+pub(crate) fn judge(alloc: Global, history: &History) -> Result<Verdict, AllocError>
+    ensures { IfOk result (IsVerdict history.now) }
+{
+    let mut orders = Vec::new(alloc);
+    for object in 0..history.object_count() {
+        match judge_object(alloc, history, object)? {
+            ObjectVerdict::Yes(order) => orders.push(order)?,
+            ObjectVerdict::No(run) => return Ok(Verdict::No { object, run }),
+        }
+    }
+    Ok(Verdict::Yes(join(alloc, history, orders.as_slice())?))
 }

@@ -19,10 +19,12 @@ mod writing;
 pub use device::{DeviceFault, Sink, Source, StdSink, StdSource};
 pub use fault::RunFault;
 pub use options::{OptionFault, Options};
+pub use report::report;
 pub use running::run;
 pub use status::{Status, status_code};
 use std::io;
 use std::process::ExitCode;
+pub use verdict::Verdict;
 
 fn main(rt: HostRuntime) -> ExitCode {
     let mut source = StdSource::new(rt.reader());

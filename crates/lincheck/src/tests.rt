@@ -251,6 +251,64 @@ fn a_set_added_to_twice(rt: HostRuntime) -> Result<(), Fail> {
     Ok(())
 }
 
+/// Whether a text of declarations and events is answered so.
+fn is_printed(rt: &HostRuntime, text: &str, status: Status, printed: &str) -> Result<bool, Fail> {
+    let (answer, written) = answer_to(rt, text)?;
+    Ok(answer == Ok(status) && written.as_slice() == printed.as_bytes())
+}
+
+#[test]
+fn orders_of_two_objects_are_joined(rt: HostRuntime) -> Result<(), Fail> {
+    let crossed = r#"{"event":"object","object":"x","kind":"register"}
+{"event":"object","object":"y","kind":"register"}
+{"event":"call","process":1,"object":"x","op":"write","args":[1]}
+{"event":"call","process":2,"object":"y","op":"write","args":[7]}
+{"event":"return","process":2,"object":"y","result":"ok"}
+{"event":"call","process":2,"object":"x","op":"read"}
+{"event":"return","process":2,"object":"x","result":0}
+{"event":"call","process":2,"object":"y","op":"read"}
+{"event":"return","process":2,"object":"y","result":7}
+{"event":"return","process":1,"object":"x","result":"ok"}
+"#;
+    let order =
+        "linearizable\n1 2 y write(7) = ok\n2 2 x read() = 0\n3 1 x write(1) = ok\n4 2 y read() = 7\n";
+    assert!(rt; is_printed(&rt, crossed, Status::Yes, order)?);
+    let pending = r#"{"event":"object","object":"x","kind":"register"}
+{"event":"object","object":"y","kind":"register"}
+{"event":"call","process":1,"object":"x","op":"write","args":[1]}
+{"event":"call","process":2,"object":"y","op":"write","args":[2]}
+{"event":"call","process":3,"object":"x","op":"read"}
+{"event":"return","process":3,"object":"x","result":1}
+"#;
+    let order =
+        "linearizable\n1 1 x write(1) = ok completed\n2 3 x read() = 1\ndropped 2 y write(2)\n";
+    assert!(rt; is_printed(&rt, pending, Status::Yes, order)?);
+    Ok(())
+}
+
+#[test]
+fn the_first_object_without_an_order_is_told(rt: HostRuntime) -> Result<(), Fail> {
+    let second = r#"{"event":"object","object":"a","kind":"register"}
+{"event":"object","object":"b","kind":"register"}
+{"event":"call","process":1,"object":"a","op":"read"}
+{"event":"return","process":1,"object":"a","result":0}
+{"event":"call","process":1,"object":"b","op":"read"}
+{"event":"return","process":1,"object":"b","result":1}
+"#;
+    let told = "not linearizable: b\nlongest run: 0 of 1 calls\n";
+    assert!(rt; is_printed(&rt, second, Status::No, told)?);
+    let both = r#"{"event":"object","object":"a","kind":"register"}
+{"event":"object","object":"b","kind":"register"}
+{"event":"call","process":1,"object":"b","op":"read"}
+{"event":"return","process":1,"object":"b","result":1}
+{"event":"call","process":1,"object":"a","op":"read"}
+{"event":"return","process":1,"object":"a","result":2}
+"#;
+    let told = "not linearizable: a\nlongest run: 0 of 1 calls\n";
+    assert!(rt; is_printed(&rt, both, Status::No, told)?);
+    Ok(())
+}
+
 /// A reader that fails at once.
 #[derive(Drop)]
 struct Broken;

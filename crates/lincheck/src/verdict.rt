@@ -1,4 +1,4 @@
-use lin_history::{Placed, WholeOrder};
+use lin_history::{Order, Placed, WholeOrder};
 
 /// What a check found of a history.
 #[derive(Debug, Drop)]
@@ -12,4 +12,13 @@ pub enum Verdict {
         /// Its longest run, the first of those of the greatest length.
         run: Vec<Placed>,
     },
+}
+
+/// What a search found of one object.
+#[derive(Drop)]
+pub(crate) enum ObjectVerdict {
+    /// The least linearization of its calls, by their numbers among them.
+    Yes(Order),
+    /// It has none; its longest run.
+    No(Vec<Placed>),
 }
