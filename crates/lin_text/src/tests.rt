@@ -221,8 +221,8 @@ fn nested(alloc: Global, depth: usize) -> Result<String, Fail> {
 #[test]
 fn json_as_the_reader_takes_it(rt: HostRuntime) -> Result<(), Fail> {
     let a = rt.alloc();
-    let shallow = nested(a, 100)?;
-    let deep = nested(a, 200)?;
+    let shallow = nested(a, 126)?;
+    let deep = nested(a, 127)?;
     assert!(rt; prints(a, shallow.as_str(), "")?);
     assert!(rt; prints(a, deep.as_str(), "line 1: not JSON\n")?);
     let not_utf8 = printed(a, b"\x7b\x22\xff\x22\x3a\x31\x7d\x0a")?;

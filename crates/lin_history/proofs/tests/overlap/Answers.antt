@@ -1,4 +1,3 @@
-use Rattle.std.proofs.Common.{◌≡◌}
 use Rattle.lin_history.proofs.tests.overlap.Goals as goal
 
 pub returns : goal.returns

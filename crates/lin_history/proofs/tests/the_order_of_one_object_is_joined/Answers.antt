@@ -1,4 +1,4 @@
-use Rattle.std.proofs.Common.{◌≡◌, ◌∷◌, [], List, ℕ, ap, ◌∙◌, rules}
+use Rattle.std.proofs.Common.{◌∷◌, [], List, ℕ, ap, ◌∙◌}
 use Rattle.lin_history.proofs.Rows.{overlap_orders}
 use Rattle.lin_history.proofs.tests.the_order_of_one_object_is_joined.Goals as goal
 
