@@ -6,11 +6,12 @@
 Those that are only read end with a faulty line, so that nothing of them is searched:
   calls    65,536 calls, 4,096 on each of 16 registers, each returned before the next
   largest  67,108,864 bytes, in lines of 65,536 bytes with their line feed: 512 calls with a long key that is ignored
-Those that are checked are linearizable:
+Those that are checked are linearizable, but for the last:
   registers   1,000 registers of 60 calls, each returned before the next
   objects     1,024 registers of 64 calls, each returned before the next
   sequential  one register of 4,096 calls, of which one in eight overlaps the next
   queue       a queue of 1,000 calls, two at a time
+  refuted     one register of 4,096 calls, each returned before the next, whose last read is of no write
 """
 import sys
 
@@ -105,8 +106,18 @@ def queue():
         yield returned(2, "q", item + 1)
 
 
+def refuted():
+    yield declared("x")
+    for value in range(2048):
+        yield call(1, "x", "write", value)
+        yield returned(1, "x", OKAY)
+        yield call(2, "x", "read")
+        yield returned(2, "x", value if value < 2047 else -1)
+
+
 READ = {"calls": calls, "largest": largest}
 CHECKED = {"registers": registers, "objects": objects, "sequential": sequential, "queue": queue}
+REFUTED = {"refuted": refuted}
 
 if __name__ == "__main__":
-    sys.stdout.writelines((READ | CHECKED)[sys.argv[1]]())
+    sys.stdout.writelines((READ | CHECKED | REFUTED)[sys.argv[1]]())

@@ -15,7 +15,7 @@ from pathlib import Path
 
 HERE = Path(__file__).parent
 sys.path.insert(0, str(HERE))
-from histories import CHECKED, READ
+from histories import CHECKED, READ, REFUTED
 
 LINCHECK = HERE.parent / "crates" / "lincheck" / "out" / "lincheck"
 
@@ -44,9 +44,10 @@ def main():
             data = "".join(lines()).encode()
             for label, program in (("lincheck", LINCHECK), ("std alone", reader)):
                 tell(name, data, label, times(program, data, runs, 2))
-    for name, lines in CHECKED.items():
-        data = "".join(lines()).encode()
-        tell(name, data, "lincheck", times(LINCHECK, data, runs, 0))
+    for status, histories in ((0, CHECKED), (1, REFUTED)):
+        for name, lines in histories.items():
+            data = "".join(lines()).encode()
+            tell(name, data, "lincheck", times(LINCHECK, data, runs, status))
 
 
 if __name__ == "__main__":

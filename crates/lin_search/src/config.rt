@@ -1,4 +1,4 @@
-ghost use Rattle.std.specs.Prelude.{◌≡◌, ℕ, ◌<◌, ◌↔◌, true, length, IfOk, IfSome, IfNone, IsTrue};
+ghost use Rattle.std.specs.Prelude.{◌≡◌, ℕ, ◌<◌, ◌≤◌, ◌↔◌, true, length, IfOk, IfSome, IfNone, IsTrue};
 ghost use Rattle.lin_history.specs.Posed.{posed};
 ghost use Rattle.lin_history.specs.Legal.{next};
 ghost use Rattle.lin_history.specs.Precedence.{Before};
@@ -76,17 +76,41 @@ fn before<O: SeqObject>(problem: &Problem<O>, a: usize, b: usize) -> bool
     }
 }
 
-// Whether every call that returned before the call was called is in the set.
-fn is_preceded<O: SeqObject>(problem: &Problem<O>, set: &CallSet, call: usize) -> bool
+// Whether every call of a smaller number that returned before the call was called is in the set. The last of them are
+// asked first: where one is left out, it is most often among these.
+fn follows_earlier<O: SeqObject>(problem: &Problem<O>, set: &CallSet, call: usize) -> bool
     requires { call < length problem.now.calls }
-    ensures { IsTrue result ↔ ((a : ℕ) → Before (posed O.after O.State.eq O.Reply.eq problem.now) a call → has set.now a ≡ true) }
+    ensures { IsTrue result ↔ ((a : ℕ) → a < call → Before (posed O.after O.State.eq O.Reply.eq problem.now) a call → has set.now a ≡ true) }
 {
-    for other in 0..problem.len() {
+    let mut left = call;
+    while left > 0 {
+        left -= 1;
+        if before(problem, left, call) && !set.has(left) {
+            return false;
+        }
+    }
+    true
+}
+
+// Whether every call of another number that returned before the call was called is in the set.
+fn follows_later<O: SeqObject>(problem: &Problem<O>, set: &CallSet, call: usize) -> bool
+    requires { call < length problem.now.calls }
+    ensures { IsTrue result ↔ ((a : ℕ) → call ≤ a → Before (posed O.after O.State.eq O.Reply.eq problem.now) a call → has set.now a ≡ true) }
+{
+    for other in call..problem.len() {
         if before(problem, other, call) && !set.has(other) {
             return false;
         }
     }
     true
+}
+
+// Whether every call that returned before the call was called is in the set.
+fn is_preceded<O: SeqObject>(problem: &Problem<O>, set: &CallSet, call: usize) -> bool
+    requires { call < length problem.now.calls }
+    ensures { IsTrue result ↔ ((a : ℕ) → Before (posed O.after O.State.eq O.Reply.eq problem.now) a call → has set.now a ≡ true) }
+{
+    follows_earlier(problem, set, call) && follows_later(problem, set, call)
 }
 
 // The state after the call, where it has a step whose reply is the recorded one.
