@@ -92,18 +92,6 @@ module _ (last : ℕ → Option ℕ) (made : List CallInfo) (p : ℕ) (knows : K
 
 -- ---- the steps
 
-pub kept-new : (last : ℕ → Option ℕ) → IsKept [] [] 0 last []
-kept-new last =
-    record {
-      history = ([], record { well_formed = λ p. tt; calls_are = refl; count = refl; declared = λ i c h. absurd (cc) });
-      numbered = λ i c h. absurd (cc);
-      pending = λ i c h. absurd (cc);
-      counted = λ i n h. absurd (cc);
-      each = refl;
-      few = omega arith;
-      events_are = refl;
-    }
-
 -- how many calls are on an object that is declared next
 count-undeclared : (made : List CallInfo) (n : ℕ) → ((i : ℕ) (c : Call Op Reply) → slice_get (map call_seen made) i ≡ Some c → c.object < n) → count_on n (map call_seen made) ≡ 0
 count-undeclared made n below =

@@ -11,11 +11,6 @@ module _ {A : Type 0} where
   slice_get-push (x ∷ xs) y (suc i) z h =
       elim (slice_get-push xs y i z h) [ inl k ↦ inl k | inr k ↦ inr (ap suc k.0, k.1) ]
 
-  -- the element at the end
-  pub slice_get-pushed : (xs : List A) (y : A) → slice_get (xs ++ y ∷ []) (length xs) ≡ Some y
-  slice_get-pushed [] y = refl
-  slice_get-pushed (x ∷ xs) y = slice_get-pushed xs y
-
   -- an element of a list that is written at an index
   pub slice_get-set : (xs : List A) (i : ℕ) (y : A) (j : ℕ) (z : A) → slice_get (set xs i y) j ≡ Some z → ((j ≡ i) × (y ≡ z)) ⊎ ((j ≢ i) × (slice_get xs j ≡ Some z))
   slice_get-set [] i y j z h = absurd (cc)

@@ -21,7 +21,6 @@ pub mod PartLemmas
 pub mod PlaceLemmas
 pub mod PartPosed
 pub mod OrderLemmas
-pub mod OneLemmas
 pub mod WholeOf
 pub mod Flagged
 pub mod TimeLemmas

@@ -1,5 +1,5 @@
 -- What the look-ups of a map say of a store, and what each answer of the store says to a search.
-use Rattle.std.proofs.Common.{◌≡◌, Bool, true, false, Option, Some, None, List, [], ◌∷◌, ◌++◌, ◌⊎◌, inl, inr, refl, sym, ap, subst, ◌∙◌, cond, append-nil}
+use Rattle.std.proofs.Common.{◌≡◌, Bool, true, false, Option, Some, None, List, [], ◌∷◌, ◌++◌, ◌⊎◌, inl, inr, refl, sym, ap, subst, ◌∙◌, cond}
 use Rattle.std.specs.Prelude.{◌↔◌, is_some, IfSome, IsSome}
 use Rattle.std.specs.Map.{lookup}
 use Rattle.std.specs.Cmp.{IsEquivalence}
@@ -134,13 +134,6 @@ module _ {State : Type 0} (same : State → State → Bool) (equal : IsEquivalen
   noted_only Busy k set s h = absurd k
   noted_only NoRoom k set s h = inl (rw k.2 at h)
   noted_only Stranger k set s h = inl (rw k.1 at h)
-
-  pub noted_more : (n : Noted) → IsNoted same ours old new config longest n → (more : List (Configuration State × Longest)) × (new ≡ old ++ more)
-  noted_more New k = ((config, longest) ∷ [], k.2)
-  noted_more Known k = ([], k.2 ∙ sym (append-nil old))
-  noted_more Busy k = absurd k
-  noted_more NoRoom k = ([], k.2 ∙ sym (append-nil old))
-  noted_more Stranger k = ([], k.1 ∙ sym (append-nil old))
 
 -- An answer to one whose problem is known to be the store's.
 pub noted_ours : {State : Type 0} (same : State → State → Bool) (ours : Type 0) (old new : List (Configuration State × Longest)) (config : Configuration State) (longest : Longest) (n : Noted) → ours → IsNoted same (Unit {0}) old new config longest n → IsNoted same ours old new config longest n

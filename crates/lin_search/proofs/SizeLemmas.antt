@@ -126,12 +126,6 @@ module _ {State Op Reply : Type 0} (p : Posed State Op Reply) (set : List Bool) 
 pub many_as : (P : List ℕ → Type 0) (n m : ℕ) → n ≡ m → HasMany P n → HasMany P m
 many_as P n m e k = record { lists = k.lists; different = k.different; each = k.each; count = k.count ∙ e }
 
-pub one_less : (a b : ℕ) → a ≤ b → (a ≡ b → ⊥) → a + 1 ≤ b
-one_less a b h ne = elim (less_or_same a b h) [ inl q ↦ omega (arith, q) | inr q ↦ absurd (ne q) ]
-  where
-    less_or_same : (a b : ℕ) → a ≤ b → (a < b) ⊎ (a ≡ b)
-    less_or_same a b h = grind arith
-
 pub count_start : (a : ℕ) → 0 ≡ a - a
 count_start a = omega arith
 

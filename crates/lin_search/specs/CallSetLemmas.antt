@@ -25,10 +25,6 @@ flags_itself (false ∷ xs) = flags_itself xs
 pub same_or_not : (a b : ℕ) → (a ≡ b) ⊎ (a ≢ b)
 same_or_not a b = grind arith
 
-pub true_or_false : (b : Bool) → (b ≡ true) ⊎ (b ≡ false)
-true_or_false true = inl refl
-true_or_false false = inr refl
-
 pub has_same : (s : List Bool) (c : ℕ) → c < length s → has (with_call s c) c ≡ true
 has_same s c h = get_or-set_same s c true false h
 
