@@ -3,5 +3,4 @@ pub mod Json
 pub mod Lines
 pub mod Walk
 pub mod Wholes
-pub mod Limits
 pub mod Operations

@@ -2,7 +2,7 @@ ghost use Rattle.std.specs.Prelude.{position, IfSome, ◌≡◌, ◌≢◌, ◌<
 ghost use Rattle.std.specs.List.{list_all};
 ghost use Rattle.serde_json.specs.View.{view};
 ghost use Rattle.lin_text.specs.Line.{json, seen};
-ghost use Rattle.lin_history.specs.Recorded.{nothing_recorded, max_objects};
+ghost use Rattle.lin_history.specs.Recorded.{nothing_recorded};
 ghost use Rattle.lin_text.specs.Text.{is_newline, lines, is_blank, is_blank_byte, max_line, max_input, refusals, taken, HasCause, Leads, MeansHistory, MeansFault, RanOutAt};
 ghost use Rattle.lin_history.specs.Refusals.{first_that_holds};
 
@@ -130,7 +130,6 @@ fn read_lines(alloc: Global, builder: &mut Builder, text: &[u8]) -> Result<(), T
 /// causes, the length of the line apart.
 pub fn read_history(alloc: Global, text: &[u8]) -> Result<History, TextFault>
     ensures history { IfOk result (MeansHistory text.now) }
-    ensures objects { IfOk result (λ history. length history.objects ≤ max_objects) }
     ensures fault { IfErr result (λ fault. fault.cause ≢ Cause.OutOfMemory → MeansFault text.now fault.line fault.cause) }
     ensures memory { IfErr result (λ fault. fault.cause ≡ Cause.OutOfMemory → RanOutAt text.now fault.line) }
 {
