@@ -1,5 +1,5 @@
 -- From the search of one object's problem to the verdict on its history.
-use Rattle.std.proofs.Common.{◌≡◌, ℕ, zero, suc, ◌<◌, Bool, List, [], ◌∷◌, ◌++◌, length, Option, Some, None, refl, sym, subst, arith, ◌+◌, ◌⊎◌, length-append, inl, inr, ◌∙◌, ap}
+use Rattle.std.proofs.Common.{◌≡◌, ℕ, zero, suc, ◌<◌, List, [], ◌∷◌, ◌++◌, length, Option, Some, None, refl, sym, subst, arith, ◌+◌, ◌⊎◌, length-append, inl, inr, ◌∙◌, ap}
 use Rattle.std.specs.Prelude.{pos, Vec}
 use Rattle.std.specs.declared.alloc.Global.{Global}
 use Rattle.std.specs.List.{slice_get}
@@ -15,17 +15,15 @@ use Rattle.lin_history.specs.declared.placed.Placed.{Placed}
 use Rattle.lin_history.specs.declared.problem.ProblemCall.{ProblemCall}
 use Rattle.lin_history.specs.Lists.{IsLeast}
 use Rattle.lin_history.specs.Posed.{Posed}
-use Rattle.lin_history.specs.Continuations.{no_calls, IsCompletion}
-use Rattle.lin_history.specs.Linearizations.{IsRun, IsLinearization}
+use Rattle.lin_history.specs.Linearizations.{IsLinearization}
 use Rattle.lin_history.specs.Recorded.{ObjectSeen, Recorded}
 use Rattle.lin_history.specs.Parts.{start_of, part_calls}
 use Rattle.lin_history.specs.Whole.{IsLinearizationOfWhole}
 use Rattle.lin_history.specs.Joined.{IsJoined}
 use Rattle.lin_history.specs.WholeOf.{start_at, whole_of, part_of}
-use Rattle.lin_search.specs.LongestRun.{IsFirstLongest}
 use Rattle.lin_history.specs.LocalityLemmas.{none_of_whole}
 use Rattle.lincheck.specs.declared.verdict.Verdict.TheVariants.{Yes, No}
-use Rattle.lincheck.specs.Verdict.{IsLongestRunOf, IsVerdict}
+use Rattle.lincheck.specs.Verdict.{AreLeastOf, IsLongestRunOf, IsVerdict}
 
 -- the problem of an object, as the search is posed it
 abbrev pub searched : List (ProblemCall Op Reply) → ObjState → Posed ObjState Op Reply
@@ -46,38 +44,11 @@ start_known h object calls start p = start_there (slice_get h.objects object) st
 posed_same : (h : Recorded) (object : ℕ) (calls : List (ProblemCall Op Reply)) (start : ObjState) → IsPart h object calls start → searched calls start ≡ part_of h object
 posed_same h object calls start p = rw (start_known h object calls start p, p.calls_are) refl
 
-module _ (h : Recorded) (object : ℕ) (calls : List (ProblemCall Op Reply)) (start : ObjState) (p : IsPart h object calls start) where
-  completion_is : (l : List ℕ) → IsCompletion (searched calls start) (no_calls (searched calls start)) start l → IsLinearization (part_of h object) l
-  completion_is l k = subst (λ (q : Posed ObjState Op Reply). IsCompletion q (no_calls q) q.start l) (posed_same h object calls start p) k
+-- what holds of the problem holds of the part
+pub at_part : (h : Recorded) (object : ℕ) (calls : List (ProblemCall Op Reply)) (start : ObjState) → IsPart h object calls start → (P : Posed ObjState Op Reply → Type 0) → P (searched calls start) → P (part_of h object)
+at_part h object calls start part P holds = subst P (posed_same h object calls start part) holds
 
-  is_completion : (l : List ℕ) → IsLinearization (part_of h object) l → IsCompletion (searched calls start) (no_calls (searched calls start)) start l
-  is_completion l k = subst (λ (q : Posed ObjState Op Reply). IsCompletion q (no_calls q) q.start l) (sym (posed_same h object calls start p)) k
-
-  at_root : (set : List Bool) (s : ObjState) (l : List ℕ) → set ≡ no_calls (searched calls start) → s ≡ start → IsCompletion (searched calls start) set s l → IsCompletion (searched calls start) (no_calls (searched calls start)) start l
-  at_root set s l e f k = subst (λ (q : List Bool). IsCompletion (searched calls start) q start l) e (subst (λ (q : ObjState). IsCompletion (searched calls start) set q l) f k)
-
-  from_root : (set : List Bool) (s : ObjState) (l : List ℕ) → set ≡ no_calls (searched calls start) → s ≡ start → IsCompletion (searched calls start) (no_calls (searched calls start)) start l → IsCompletion (searched calls start) set s l
-  from_root set s l e f k = subst (λ (q : ObjState). IsCompletion (searched calls start) set q l) (sym f) (subst (λ (q : List Bool). IsCompletion (searched calls start) q start l) (sym e) k)
-
-  -- the least completion of the root is the least linearization
-  pub least_is : (set : List Bool) (s : ObjState) (order : List ℕ) → set ≡ no_calls (searched calls start) → s ≡ start → IsLeast (IsCompletion (searched calls start) set s) order → IsLeast (IsLinearization (part_of h object)) order
-  least_is set s order e f least =
-      (completion_is order (at_root set s order e f least.0), λ m lin. least.1 m (from_root set s m e f (is_completion m lin)))
-
-  -- where the root has no completion there is no linearization
-  pub none_is : (set : List Bool) (s : ObjState) → set ≡ no_calls (searched calls start) → s ≡ start → ((l : List ℕ) → IsCompletion (searched calls start) set s l → ⊥) → (l : List ℕ) → IsLinearization (part_of h object) l → ⊥
-  none_is set s e f none l lin = none l (from_root set s l e f (is_completion l lin))
-
-  -- the longest run of the problem is that of the part
-  pub longest_is : (order : List ℕ) → IsFirstLongest (IsRun (searched calls start)) order → IsFirstLongest (IsRun (part_of h object)) order
-  longest_is order longest = subst (λ (q : Posed ObjState Op Reply). IsFirstLongest (IsRun q) order) (posed_same h object calls start p) longest
-
--- the orders are the least linearizations of the first n objects
-pub record AreLeastOf (h : Recorded) (orders : List (List ℕ)) (n : ℕ) : Type 0 where
-  pub count : length orders ≡ n
-  pub each : (object : ℕ) (order : List ℕ) → slice_get orders object ≡ Some order → IsLeast (IsLinearization (part_of h object)) order
-
-pub least_none : (h : Recorded) → AreLeastOf h [] 0
+pub least_none : (h : Recorded) → AreLeastOf h 0 []
 least_none h = record { count = refl; each = λ object order e. absurd (cc) }
 
 last_is : (orders : List (List ℕ)) (order : List ℕ) (object : ℕ) (o : List ℕ) → slice_get (orders ++ order ∷ []) object ≡ Some o → (slice_get orders object ≡ Some o) ⊎ ((object ≡ length orders) × (order ≡ o))
@@ -86,7 +57,7 @@ last_is [] order (suc object) o e = absurd (cc)
 last_is (x ∷ xs) order zero o e = inl e
 last_is (x ∷ xs) order (suc object) o e = elim (last_is xs order object o e) [ inl f ↦ inl f | inr f ↦ inr (omega (arith, f.0), f.1) ]
 
-pub least_more : (h : Recorded) (orders : List (List ℕ)) (order : List ℕ) (n : ℕ) → AreLeastOf h orders n → IsLeast (IsLinearization (part_of h n)) order → AreLeastOf h (orders ++ order ∷ []) (n + 1)
+pub least_more : (h : Recorded) (orders : List (List ℕ)) (order : List ℕ) (n : ℕ) → AreLeastOf h n orders → IsLeast (IsLinearization (part_of h n)) order → AreLeastOf h (n + 1) (orders ++ order ∷ [])
 least_more h orders order n so_far least = record {
   count = length-append orders (order ∷ []) ∙ ap (λ (k : ℕ). k + 1) so_far.count;
   each = λ object o e. at_place object o (last_is orders order object o e);
@@ -99,18 +70,18 @@ least_more h orders order n so_far least = record {
         subst (λ (k : ℕ). IsLeast (IsLinearization (part_of h k)) o) (sym same) (subst (IsLeast (IsLinearization (part_of h n))) e.1 least)
 
 -- each of the orders is a linearization
-pub linearizations : (h : Recorded) (orders : List (List ℕ)) (n : ℕ) → AreLeastOf h orders n → (object : ℕ) (order : List ℕ) → slice_get orders object ≡ Some order → IsLinearization (part_of h object) order
+pub linearizations : (h : Recorded) (orders : List (List ℕ)) (n : ℕ) → AreLeastOf h n orders → (object : ℕ) (order : List ℕ) → slice_get orders object ≡ Some order → IsLinearization (part_of h object) order
 linearizations h orders n so_far object order e = (so_far.each object order e).0
 
-pub verdict_yes : (h : Recorded) (orders : List (List ℕ)) (n : ℕ) (l : List (Placed Reply)) → n ≡ length h.objects → AreLeastOf h orders n → IsJoined (whole_of h) orders l → IsLinearizationOfWhole (whole_of h) l → IsVerdict h (Yes l)
-verdict_yes h orders n l all so_far joined whole = ((orders, record { count = so_far.count ∙ all; each = so_far.each }, joined), whole)
+pub verdict_yes : (h : Recorded) (orders : List (List ℕ)) (n : ℕ) (l : List (Placed Reply)) → n ≡ length h.objects → AreLeastOf h n orders → IsJoined (whole_of h) orders l → IsLinearizationOfWhole (whole_of h) l → IsVerdict h (Yes l)
+verdict_yes h orders n l all so_far joined whole = ((orders, subst (λ (k : ℕ). AreLeastOf h k orders) all so_far, joined), whole)
 
 order_there : (orders : List (List ℕ)) (i : ℕ) → i < length orders → (order : List ℕ) × (slice_get orders i ≡ Some order)
 order_there [] i within = absurd (omega (arith, within))
 order_there (x ∷ xs) zero within = (x, refl)
 order_there (x ∷ xs) (suc i) within = order_there xs i (omega (arith, within))
 
-pub verdict_no : (h : Recorded) (orders : List (List ℕ)) (object : ℕ) (run : Vec (Placed Reply) Global) → object < length h.objects → AreLeastOf h orders object → ((l : List ℕ) → IsLinearization (part_of h object) l → ⊥) × IsLongestRunOf h object run.items → IsVerdict h (No object run)
+pub verdict_no : (h : Recorded) (orders : List (List ℕ)) (object : ℕ) (run : Vec (Placed Reply) Global) → object < length h.objects → AreLeastOf h object orders → ((l : List ℕ) → IsLinearization (part_of h object) l → ⊥) × IsLongestRunOf h object run.items → IsVerdict h (No object run)
 verdict_no h orders object run declared so_far none =
     ((record { declared = declared; none = none.0; earlier = earlier }, none.1), none_of_whole state_eq.it (whole_of h) object none.0)
   where

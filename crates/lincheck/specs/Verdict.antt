@@ -15,10 +15,14 @@ use Rattle.lincheck.specs.declared.verdict.ObjectVerdict.{ObjectVerdict}
 use Rattle.lincheck.specs.declared.verdict.ObjectVerdict.TheVariants as objects
 use Rattle.lincheck.specs.Report.{yes_report, no_report}
 
--- One order for each object, in the order of declaration, each the least linearization of its object.
-pub record AreLeast (h : Recorded) (orders : List (List ℕ)) : Type 0 where
-  pub count : length orders ≡ length h.objects
+-- One order for each of the first n objects, in the order of declaration, each the least linearization of its object.
+pub record AreLeastOf (h : Recorded) (n : ℕ) (orders : List (List ℕ)) : Type 0 where
+  pub count : length orders ≡ n
   pub each : (object : ℕ) (order : List ℕ) → slice_get orders object ≡ Some order → IsLeast (IsLinearization (part_of h object)) order
+
+-- The same of all objects.
+abbrev pub AreLeast : Recorded → List (List ℕ) → Type 0
+AreLeast h orders = AreLeastOf h (length h.objects) orders
 
 -- The object is the first, in the order of declaration, that has no linearization.
 pub record IsFirstWithout (h : Recorded) (object : ℕ) : Type 0 where

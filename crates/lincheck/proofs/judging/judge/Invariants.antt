@@ -1,5 +1,5 @@
-use Rattle.lincheck.proofs.JudgeLemmas.{AreLeastOf}
+use Rattle.lincheck.specs.Verdict.{AreLeastOf}
 use Rattle.lincheck.proofs.judging.judge.Given as goal
 
 abbrev pub invariant-loop-object : goal.invariant-loop-object
-invariant-loop-object l = AreLeastOf l.history l.orders.items l.object
+invariant-loop-object l = AreLeastOf l.history l.object l.orders.items
