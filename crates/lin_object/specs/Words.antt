@@ -50,6 +50,15 @@ operations Stack = (codes "push", of_one Push) ∷ (codes "pop", bare Pop) ∷ [
 operations Set = (codes "add", of_one Insert) ∷ (codes "remove", of_one Remove) ∷ (codes "contains", of_one Contains) ∷ []
 operations Mutex = (codes "lock", bare Lock) ∷ (codes "unlock", bare Unlock) ∷ (codes "try_lock", bare TryLock) ∷ []
 
+-- What a row makes of the arguments.
+abbrev pub made_of : Option (List ℤ → Option Op) → List ℤ → Option Op
+made_of None args = None
+made_of (Some make) args = make args
+
+-- The operation of a kind with this name and these arguments; none where there is none.
+abbrev pub op_with : Kind → List ℕ → List ℤ → Option Op
+op_with kind word args = made_of (beside (operations kind) word) args
+
 -- A name without a row is no operation; a row that makes nothing of the arguments wants another number of them.
 abbrev pub op_made : Option (List ℤ → Option Op) → List ℤ → Result Op OpFault
 op_made None args = Err BadOp

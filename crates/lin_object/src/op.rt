@@ -1,5 +1,5 @@
 ghost use Rattle.std.specs.Prelude.{◌≡◌, ◌++◌, OnOk, OnErr, is_some};
-ghost use Rattle.lin_object.specs.Words.{beside, operations, op_read};
+ghost use Rattle.lin_object.specs.Words.{beside, operations, op_with, op_read};
 ghost use Rattle.lin_object.specs.Printed.{op_text};
 
 use crate::kind::Kind;
@@ -91,72 +91,27 @@ pub fn is_op(kind: Kind, name: &str) -> bool
     }
 }
 
-fn register_op(name: &str, args: &[i64]) -> Result<Op, OpFault>
-    ensures { result ≡ op_read Kind.Register name.now args.now }
+// The operation, where the name is one of the kind's and it takes so many arguments.
+fn op_with(kind: Kind, name: &str, args: &[i64]) -> Option<Op>
+    ensures { result ≡ op_with kind name.now args.now }
 {
-    match (name, args) {
-        ("write", [value]) => Ok(Op::Write(*value)),
-        ("read", []) => Ok(Op::Read),
-        ("cas", [from, to]) => Ok(Op::Cas(*from, *to)),
-        ("write" | "read" | "cas", _) => Err(OpFault::BadArgs),
-        _ => Err(OpFault::BadOp),
-    }
-}
-
-fn counter_op(name: &str, args: &[i64]) -> Result<Op, OpFault>
-    ensures { result ≡ op_read Kind.Counter name.now args.now }
-{
-    match (name, args) {
-        ("add", [difference]) => Ok(Op::Add(*difference)),
-        ("get", []) => Ok(Op::Get),
-        ("add" | "get", _) => Err(OpFault::BadArgs),
-        _ => Err(OpFault::BadOp),
-    }
-}
-
-fn queue_op(name: &str, args: &[i64]) -> Result<Op, OpFault>
-    ensures { result ≡ op_read Kind.Queue name.now args.now }
-{
-    match (name, args) {
-        ("enq", [item]) => Ok(Op::Enqueue(*item)),
-        ("deq", []) => Ok(Op::Dequeue),
-        ("enq" | "deq", _) => Err(OpFault::BadArgs),
-        _ => Err(OpFault::BadOp),
-    }
-}
-
-fn stack_op(name: &str, args: &[i64]) -> Result<Op, OpFault>
-    ensures { result ≡ op_read Kind.Stack name.now args.now }
-{
-    match (name, args) {
-        ("push", [item]) => Ok(Op::Push(*item)),
-        ("pop", []) => Ok(Op::Pop),
-        ("push" | "pop", _) => Err(OpFault::BadArgs),
-        _ => Err(OpFault::BadOp),
-    }
-}
-
-fn set_op(name: &str, args: &[i64]) -> Result<Op, OpFault>
-    ensures { result ≡ op_read Kind.Set name.now args.now }
-{
-    match (name, args) {
-        ("add", [item]) => Ok(Op::Insert(*item)),
-        ("remove", [item]) => Ok(Op::Remove(*item)),
-        ("contains", [item]) => Ok(Op::Contains(*item)),
-        ("add" | "remove" | "contains", _) => Err(OpFault::BadArgs),
-        _ => Err(OpFault::BadOp),
-    }
-}
-
-fn mutex_op(name: &str, args: &[i64]) -> Result<Op, OpFault>
-    ensures { result ≡ op_read Kind.Mutex name.now args.now }
-{
-    match (name, args) {
-        ("lock", []) => Ok(Op::Lock),
-        ("unlock", []) => Ok(Op::Unlock),
-        ("try_lock", []) => Ok(Op::TryLock),
-        ("lock" | "unlock" | "try_lock", _) => Err(OpFault::BadArgs),
-        _ => Err(OpFault::BadOp),
+    match (kind, name, args) {
+        (Kind::Register, "write", [value]) => Some(Op::Write(*value)),
+        (Kind::Register, "read", []) => Some(Op::Read),
+        (Kind::Register, "cas", [from, to]) => Some(Op::Cas(*from, *to)),
+        (Kind::Counter, "add", [difference]) => Some(Op::Add(*difference)),
+        (Kind::Counter, "get", []) => Some(Op::Get),
+        (Kind::Queue, "enq", [item]) => Some(Op::Enqueue(*item)),
+        (Kind::Queue, "deq", []) => Some(Op::Dequeue),
+        (Kind::Stack, "push", [item]) => Some(Op::Push(*item)),
+        (Kind::Stack, "pop", []) => Some(Op::Pop),
+        (Kind::Set, "add", [item]) => Some(Op::Insert(*item)),
+        (Kind::Set, "remove", [item]) => Some(Op::Remove(*item)),
+        (Kind::Set, "contains", [item]) => Some(Op::Contains(*item)),
+        (Kind::Mutex, "lock", []) => Some(Op::Lock),
+        (Kind::Mutex, "unlock", []) => Some(Op::Unlock),
+        (Kind::Mutex, "try_lock", []) => Some(Op::TryLock),
+        _ => None,
     }
 }
 
@@ -165,14 +120,10 @@ fn mutex_op(name: &str, args: &[i64]) -> Result<Op, OpFault>
 pub fn read_op(kind: Kind, name: &str, args: &[i64]) -> Result<Op, OpFault>
     ensures { result ≡ op_read kind name.now args.now }
 {
-    match kind {
-        Kind::Register => register_op(name, args),
-        Kind::Counter => counter_op(name, args),
-        Kind::Queue => queue_op(name, args),
-        Kind::Stack => stack_op(name, args),
-        Kind::Set => set_op(name, args),
-        Kind::Mutex => mutex_op(name, args),
+    if !is_op(kind, name) {
+        return Err(OpFault::BadOp);
     }
+    op_with(kind, name, args).ok_or(OpFault::BadArgs)
 }
 
 /// Appends the operation as reports show it, as `cas(1,2)`. After an `Err` the vector is unchanged.
