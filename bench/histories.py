@@ -1,19 +1,15 @@
 #!/usr/bin/env python3
 """Writes the histories that bench/run.py times.
 
-    bench/histories.py NAME > FILE
+    bench/histories.py              lists the families and their sizes
+    bench/histories.py FAMILY SIZE  writes one history
 
-Those that are only read end with a faulty line, so that nothing of them is searched:
-  calls    65,536 calls, 4,096 on each of 16 registers, each returned before the next
-  largest  67,108,864 bytes, in lines of 65,536 bytes with their line feed: 512 calls with a long key that is ignored
-Those that are checked are linearizable, but for the last:
-  registers   1,000 registers of 60 calls, each returned before the next
-  objects     1,024 registers of 64 calls, each returned before the next
-  sequential  one register of 4,096 calls, of which one in eight overlaps the next
-  queue       a queue of 1,000 calls, two at a time
-  refuted     one register of 4,096 calls, each returned before the next, whose last read is of no write
+Those that are simulated are linearizable: each call takes effect at one moment between its call and its return. They
+come from a fixed seed, so that they are the same each time.
 """
+import random
 import sys
+from typing import Callable, Iterable, NamedTuple
 
 DECLARED = '{"event":"object","object":"%s","kind":"%s"%s}\n'
 CALL = '{"event":"call","process":%d,"object":"%s","op":"%s"%s%s}\n'
@@ -21,6 +17,10 @@ RETURN = '{"event":"return","process":%d,"object":"%s","result":%s%s}\n'
 OKAY = '"ok"'
 LINE = 65536
 INPUT = 67108864
+FAULTY = "[]\n"
+SEED = 1
+NEVER = -1  # a value that nobody writes
+IMPOSSIBLE = 1_000_000  # a process that makes one impossible read
 
 
 def declared(name, kind="register", more=""):
@@ -35,55 +35,147 @@ def returned(process, name, reply, more=""):
     return RETURN % (process, name, reply, more)
 
 
-def padded(line, *words):
-    """The line with a key that is ignored, as long as a line may be with its line feed."""
-    bare = line(*words, more=',"note":""')
-    return line(*words, more=',"note":"' + "n" * (LINE - len(bare)) + '"')
+def impossible_read(name):
+    yield call(IMPOSSIBLE, name, "read")
+    yield returned(IMPOSSIBLE, name, NEVER)
 
 
-def calls():
-    names = ["o%d" % number for number in range(16)]
-    for name in names:
-        yield declared(name)
-    for value in range(4096):
-        for name in names:
-            yield call(1, name, "write", value)
-            yield returned(1, name, OKAY)
-    yield "[]\n"
+# ---- simulated objects: each chooses what to call next, and tells what an operation replies
 
 
-def largest():
-    yield padded(declared, "x")
-    for value in range(INPUT // LINE // 2 - 1):
-        yield padded(call, 1, "x", "write", value)
-        yield padded(returned, 1, "x", OKAY)
-    yield "[" + " " * (LINE - 3) + "]\n"
+class Register:
+    kind = "register"
+
+    def __init__(self):
+        self.value = 0
+
+    def choose(self, chance, number):
+        return ("write", number) if chance.random() < 0.5 else ("read", None)
+
+    def reply(self, op, value):
+        if op == "write":
+            self.value = value
+            return OKAY
+        return self.value
 
 
-def in_turn(objects, pairs):
-    """So many registers, to each of which one process writes and reads so often."""
-    names = ["o%d" % number for number in range(objects)]
-    for name in names:
-        yield declared(name)
-    for value in range(pairs):
-        for process, name in enumerate(names):
-            yield call(process, name, "write", value)
-            yield returned(process, name, OKAY)
-            yield call(process, name, "read")
-            yield returned(process, name, value)
+class Buffer:
+    """A queue or a stack that is kept short: how many orders of its items must be tried grows fast with its length."""
+
+    SHORT = 5
+
+    def __init__(self):
+        self.items = []
+
+    def choose(self, chance, number):
+        more = 0.5 if len(self.items) < self.SHORT else 0.2
+        return (self.put, number) if chance.random() < more else (self.take, None)
+
+    def reply(self, op, value):
+        if op == self.put:
+            self.items.append(value)
+            return OKAY
+        return self.items.pop(self.end) if self.items else "null"
 
 
-def registers():
-    return in_turn(1000, 30)
+class Queue(Buffer):
+    kind, put, take, end = "queue", "enq", "deq", 0
 
 
-def objects():
-    return in_turn(1024, 32)
+class Stack(Buffer):
+    kind, put, take, end = "stack", "push", "pop", -1
 
 
-def sequential():
+class Event(NamedTuple):
+    process: int
+    op: str
+    value: int | None  # the argument
+    reply: object  # None at a call event
+
+
+def simulated(model, processes, calls):
+    """The events of so many calls of so many processes, of which a random one does its next step each time: it calls,
+    its call takes effect, or its call returns."""
+    chance = random.Random(SEED)
+    events, called, done, made = [], {}, {}, 0
+    while made < calls or called or done:
+        process = chance.randrange(processes)
+        if process in called:
+            op, value = called.pop(process)
+            done[process] = Event(process, op, value, model.reply(op, value))
+        elif process in done:
+            events.append(done.pop(process))
+        elif made < calls:
+            made += 1
+            called[process] = model.choose(chance, made)
+            events.append(Event(process, *called[process], None))
+    return events
+
+
+def with_swapped_results(events, op):
+    """Two results of the operation, at nine tenths of the history and 20 later, in each other's place."""
+    places = [place for place, event in enumerate(events) if event.op == op and isinstance(event.reply, int)]
+    first = len(places) * 9 // 10 - 20
+    one, other = places[first], places[first + 20]
+    replies = events[one].reply, events[other].reply
+    events[other], events[one] = events[other]._replace(reply=replies[0]), events[one]._replace(reply=replies[1])
+    return events
+
+
+def lines(name, kind, events):
+    yield declared(name, kind)
+    for event in events:
+        if event.reply is None:
+            yield call(event.process, name, event.op, event.value)
+        else:
+            yield returned(event.process, name, event.reply)
+
+
+# ---- families
+
+
+def concurrent(writes):
     yield declared("x")
-    for value in range(2048):
+    for process in range(writes):
+        yield call(process, "x", "write", process)
+    for process in range(writes):
+        yield returned(process, "x", OKAY)
+    yield from impossible_read("x")
+
+
+def register(processes):
+    return lambda calls: lines("x", "register", simulated(Register(), processes, calls))
+
+
+def register_refuted(processes):
+    def history(calls):
+        yield from register(processes)(calls - 1)
+        yield from impossible_read("x")
+
+    return history
+
+
+def crashed(writes):
+    yield declared("x")
+    for process in range(writes):
+        yield call(1000 + process, "x", "write", 1_000_000 + process)
+    for event in list(register(3)(1000))[1:]:
+        yield event
+    yield from impossible_read("x")
+
+
+def buffer(model):
+    return lambda calls: lines("b", model.kind, simulated(model(), 6, calls))
+
+
+def buffer_swapped(model):
+    return lambda calls: lines("b", model.kind, with_swapped_results(simulated(model(), 6, calls), model.take))
+
+
+def sequential(calls):
+    """Writes and reads of one register, of which one in eight overlaps the next."""
+    yield declared("x")
+    for value in range(calls // 2):
         reading = [call(2, "x", "read"), returned(2, "x", value)]
         yield call(1, "x", "write", value)
         if value % 4 == 0:
@@ -93,31 +185,91 @@ def sequential():
             yield from reading
 
 
-def queue():
-    yield declared("q", "queue")
-    for item in range(0, 500, 2):
-        yield call(1, "q", "enq", item)
-        yield call(2, "q", "enq", item + 1)
-        yield returned(1, "q", OKAY)
-        yield returned(2, "q", OKAY)
-        yield call(1, "q", "deq")
-        yield call(2, "q", "deq")
-        yield returned(1, "q", item)
-        yield returned(2, "q", item + 1)
+def sequential_refuted(calls):
+    yield from sequential(calls - 2)
+    yield call(1, "x", "write", 0)
+    yield returned(1, "x", OKAY)
+    yield from impossible_read("x")
 
 
-def refuted():
-    yield declared("x")
-    for value in range(2048):
-        yield call(1, "x", "write", value)
-        yield returned(1, "x", OKAY)
-        yield call(2, "x", "read")
-        yield returned(2, "x", value if value < 2047 else -1)
+def objects(number):
+    """So many registers of 60 calls, to each of which one process writes and reads."""
+    names = ["o%d" % index for index in range(number)]
+    for name in names:
+        yield declared(name)
+    for value in range(30):
+        for process, name in enumerate(names):
+            yield call(process, name, "write", value)
+            yield returned(process, name, OKAY)
+            yield call(process, name, "read")
+            yield returned(process, name, value)
 
 
-READ = {"calls": calls, "largest": largest}
-CHECKED = {"registers": registers, "objects": objects, "sequential": sequential, "queue": queue}
-REFUTED = {"refuted": refuted}
+# ---- histories that are only read: they end with a faulty line
+
+
+def calls(most):
+    names = ["o%d" % number for number in range(16)]
+    for name in names:
+        yield declared(name)
+    for value in range(most // 16):
+        for name in names:
+            yield call(1, name, "write", value)
+            yield returned(1, name, OKAY)
+    yield FAULTY
+
+
+def padded(line, *words):
+    """The line with a key that is ignored, as long as a line may be with its line feed."""
+    bare = line(*words, more=',"note":""')
+    return line(*words, more=',"note":"' + "n" * (LINE - len(bare)) + '"')
+
+
+def largest(size):
+    yield padded(declared, "x")
+    for value in range(size // LINE // 2 - 1):
+        yield padded(call, 1, "x", "write", value)
+        yield padded(returned, 1, "x", OKAY)
+    yield "[" + " " * (LINE - 3) + "]\n"
+
+
+class Family(NamedTuple):
+    what: str
+    unit: str
+    sizes: list[int]
+    status: int  # the exit status of a check
+    history: Callable[[int], Iterable[str]]
+
+
+CALLS = [512, 1024, 2048, 4096]
+FAMILIES = {
+    "calls": Family("short lines, 16 registers; read only", "calls", [65536], 2, calls),
+    "largest": Family("lines as long as they may be; read only", "bytes", [INPUT], 2, largest),
+    "objects": Family("registers of 60 calls in turn", "objects", [10, 100, 1000], 0, objects),
+    "sequential": Family("a register, one call in eight overlaps the next", "calls", CALLS, 0, sequential),
+    "sequential_no": Family("the same, and an impossible read", "calls", CALLS, 1, sequential_refuted),
+    "register_2": Family("a register, 2 processes", "calls", CALLS, 0, register(2)),
+    "register_2_no": Family("the same, and an impossible read", "calls", CALLS, 1, register_refuted(2)),
+    "register_5": Family("a register, 5 processes", "calls", CALLS, 0, register(5)),
+    "register_5_no": Family("the same, and an impossible read", "calls", CALLS, 1, register_refuted(5)),
+    "register_10": Family("a register, 10 processes", "calls", CALLS, 0, register(10)),
+    "register_10_no": Family("the same, and an impossible read", "calls", CALLS, 1, register_refuted(10)),
+    "queue": Family("a queue, 6 processes", "calls", CALLS, 0, buffer(Queue)),
+    "queue_no": Family("the same, two results swapped", "calls", CALLS, 1, buffer_swapped(Queue)),
+    "stack": Family("a stack, 6 processes", "calls", CALLS, 0, buffer(Stack)),
+    "stack_no": Family("the same, two results swapped", "calls", CALLS, 1, buffer_swapped(Stack)),
+    "crashed": Family("pending writes before 1,000 calls, and an impossible read", "pending", [1, 2, 4, 6], 1, crashed),
+    "concurrent": Family("concurrent writes, and an impossible read", "writes", [8, 10, 12, 14, 16, 18], 1, concurrent),
+}
+
+
+def main():
+    if len(sys.argv) == 3:
+        sys.stdout.writelines(FAMILIES[sys.argv[1]].history(int(sys.argv[2])))
+    else:
+        for name, family in FAMILIES.items():
+            print(f"{name:15} {family.what}; {family.unit}: {', '.join(map(str, family.sizes))}")
+
 
 if __name__ == "__main__":
-    sys.stdout.writelines((READ | CHECKED | REFUTED)[sys.argv[1]]())
+    main()

@@ -1,53 +1,188 @@
 #!/usr/bin/env python3
-"""Times `lincheck`: the reading of histories, beside a program with Rust's standard library alone, and whole checks.
+"""Times `lincheck` beside `bench/search.rs`, the same search with Rust's standard library alone and without a proof.
 
-    bench/run.py [RUNS]
+    bench/run.py [--only FAMILY].. [--quick] [--runs N] [--cpu] [--timeout SECONDS] [--bin PATH]
 
-Needs the built program (`bin/lincheck` builds it) and `rustc`. Prints for each history its bytes and, for each program,
-the median and the least wall time of RUNS runs (7 where none are given), in milliseconds.
+Needs the built program (`bin/lincheck` builds it), or the one at PATH, and `rustc`. Prints one table for each family of
+`bench/histories.py` (those whose name begins with FAMILY), one line for each size (with --quick the smaller half), and
+one of all families at their last size:
+
+  seconds        the least wall time of N runs of each program (with --cpu their processor time, which says more where
+                 the machine does other work too), and how many times the second's the first's is
+  lifts, stored  of all searches of the history, as the second program counts them; the first makes the same
+  ns/lift        of the search alone: the whole time less that of reading, which is timed on the same text with a faulty
+                 line at its end, so that all of it is read and nothing is searched
+  MB             the most memory that each held (without /usr/bin/time some 16 at least, which is this script's share)
+  B/stored       that less the most that it held for reading, by the configurations that its largest table stored; '-'
+                 where it is too little to tell
+  growth         lifts and seconds of each, by those of the size before
+
+Both programs' answers are compared. A run that takes longer than the timeout is ended, and its numbers are left out.
 """
-import statistics
+import argparse
+import os
+import shutil
+import signal
 import subprocess
 import sys
 import tempfile
+import threading
 import time
 from pathlib import Path
+from typing import NamedTuple
 
 HERE = Path(__file__).parent
 sys.path.insert(0, str(HERE))
-from histories import CHECKED, READ, REFUTED
+from histories import FAMILIES, FAULTY
 
 LINCHECK = HERE.parent / "crates" / "lincheck" / "out" / "lincheck"
+TIME = Path("/usr/bin/time")
+MEASURING = [TIME, "-q", "-f", "peak %M"] if TIME.exists() else []
+TELLING = 4_000_000  # bytes: less than that may be what the allocator keeps
+MANY = 10_000  # configurations: with fewer, what else the search holds counts
 
 
-def times(program, data, runs, status):
-    """How long each run of the program on the data took, in milliseconds."""
-    found = []
-    for _ in range(runs):
+class Run(NamedTuple):
+    seconds: float
+    searching: float | None  # seconds, where the program tells them
+    peak: float  # bytes
+    status: int
+    answer: list[bytes]  # the first two lines
+    told: dict[str, float]  # what stands on standard error, as 'word number'
+
+
+def run_once(program, text, options):
+    """One run on the text; None where it took too long."""
+    with open(text, "rb") as source, tempfile.TemporaryFile() as out, tempfile.TemporaryFile() as err:
+        command = [*MEASURING, program]
         started = time.perf_counter()
-        done = subprocess.run([program], input=data, stdout=subprocess.PIPE)
-        found.append(1000 * (time.perf_counter() - started))
-        assert done.returncode == status, done.stdout[:200]
-    return found
+        child = subprocess.Popen(command, stdin=source, stdout=out, stderr=err, start_new_session=True)
+        late = threading.Timer(options.timeout, os.killpg, (child.pid, signal.SIGKILL))
+        late.start()
+        _, status, used = os.wait4(child.pid, 0)
+        seconds = time.perf_counter() - started
+        late.cancel()
+        child.returncode = os.waitstatus_to_exitcode(status)
+        if child.returncode < 0 and seconds >= options.timeout:
+            return None
+        out.seek(0)
+        err.seek(0)
+        words = [line.split() for line in err.read().decode().splitlines()]
+        told = {line[0]: float(line[1]) for line in words if len(line) == 2}
+        peak = 1024 * told.get("peak", used.ru_maxrss)
+        answer = [out.readline(), out.readline()]
+        if options.cpu:
+            return Run(used.ru_utime + used.ru_stime, None, peak, child.returncode, answer, told)
+        return Run(seconds, told.get("search"), peak, child.returncode, answer, told)
 
 
-def tell(name, data, label, found):
-    print(f"{name:10} {len(data):9} bytes  {label:9} median {statistics.median(found):7.1f}  least {min(found):7.1f}")
+def run(program, text, options):
+    """The quickest of the runs on the text, by the search alone where the program tells how long that took."""
+    found = []
+    while len(found) < options.runs and not (found and found[-1].seconds > options.timeout / 10):
+        one = run_once(program, text, options)
+        if one is None:
+            return None
+        found.append(one)
+    return min(found, key=lambda one: one.searching or one.seconds)
+
+
+class Measured(NamedTuple):
+    """What one program took for one history."""
+
+    seconds: float
+    searching: float  # seconds
+    peak: float  # bytes
+    more: float  # bytes, over reading alone
+
+
+def measured(whole, reading):
+    searching = max(whole.seconds - reading.seconds, 0) if whole.searching is None else whole.searching
+    return Measured(whole.seconds, searching, whole.peak, whole.peak - reading.peak)
+
+
+BOTH = ["lincheck", "plain"]
+HEAD = ["size", "seconds", "", "times", "lifts", "stored", "ns/lift", "", "MB", "", "B/stored", "", "growth: lifts", "seconds", ""]
+UNDER = ["", *BOTH, "", "", "", *BOTH, *BOTH, *BOTH, "", *BOTH]
+
+
+def ratio(value, other, form="%.1f"):
+    return form % (value / other) if value is not None and other else "-"
+
+
+def per_stored(one, stored):
+    return f"{one.more / stored:.0f}" if one and stored >= MANY and one.more >= TELLING else "-"
+
+
+def row(size, ours, plain, told, before):
+    """The cells of a line; `before` is what was measured of the size before."""
+    lifts, stored, held = told.get("lifts", 0), told.get("stored", 0), told.get("held", 0)
+    cells = [str(size)]
+    cells += ["-" if one is None else f"{one.seconds:.4f}" for one in (ours, plain)]
+    cells += [ratio(ours and ours.seconds, plain.seconds), f"{lifts:.0f}", f"{stored:.0f}"]
+    cells += [ratio(one and 1e9 * one.searching, lifts, "%.0f") for one in (ours, plain)]
+    cells += ["-" if one is None else f"{one.peak / 1e6:.1f}" for one in (ours, plain)]
+    cells += [per_stored(one, held) for one in (ours, plain)]
+    if before:
+        cells += [ratio(lifts, before[2])]
+        cells += [ratio(now and now.seconds, then and then.seconds) for now, then in ((ours, before[0]), (plain, before[1]))]
+    else:
+        cells += ["", "", ""]
+    return cells
+
+
+def measure(family, size, programs, room, options):
+    """What each program took for the history of this size, and what the second told."""
+    text, faulty = room / "text", room / "faulty"
+    with open(text, "w") as whole:
+        whole.writelines(family.history(size))
+    shutil.copyfile(text, faulty)
+    with open(faulty, "a") as more:
+        more.write(FAULTY)
+    wholes = [run(program, text, options) for program in programs]
+    readings = [run(program, faulty, options) for program in programs]
+    ours, plain = wholes
+    assert plain, "the comparison program took too long"
+    for one in filter(None, wholes):
+        assert one.status == family.status, (family, size, one)
+    if ours and family.status < 2:
+        assert ours.answer[: 1 + family.status] == plain.answer[: 1 + family.status], (ours.answer, plain.answer)
+    took = [measured(whole, reading) if whole else None for whole, reading in zip(wholes, readings)]
+    return took[0], took[1], plain.told
+
+
+def tell(title, rows):
+    """Prints a table as Markdown; its first two rows are its head."""
+    widths = [max(map(len, column)) for column in zip(*rows)]
+    print(f"\n{title}\n")
+    for cells in [rows[0], ["-" * width for width in widths], *rows[1:]]:
+        print("| " + " | ".join(cell.rjust(width) for cell, width in zip(cells, widths)) + " |", flush=True)
 
 
 def main():
-    runs = int(sys.argv[1]) if len(sys.argv) > 1 else 7
-    with tempfile.TemporaryDirectory() as room:
-        reader = Path(room) / "reader"
-        subprocess.run(["rustc", "--edition", "2021", "-O", "-o", reader, HERE / "reader.rs"], check=True)
-        for name, lines in READ.items():
-            data = "".join(lines()).encode()
-            for label, program in (("lincheck", LINCHECK), ("std alone", reader)):
-                tell(name, data, label, times(program, data, runs, 2))
-    for status, histories in ((0, CHECKED), (1, REFUTED)):
-        for name, lines in histories.items():
-            data = "".join(lines()).encode()
-            tell(name, data, "lincheck", times(LINCHECK, data, runs, status))
+    parser = argparse.ArgumentParser(description=__doc__, formatter_class=argparse.RawDescriptionHelpFormatter)
+    parser.add_argument("--only", action="append", default=[], metavar="FAMILY")
+    parser.add_argument("--quick", action="store_true")
+    parser.add_argument("--runs", type=int, default=5)
+    parser.add_argument("--cpu", action="store_true", help="processor time in place of wall time")
+    parser.add_argument("--timeout", type=float, default=120)
+    parser.add_argument("--bin", type=Path, default=LINCHECK)
+    options = parser.parse_args()
+    with tempfile.TemporaryDirectory() as folder:
+        room = Path(folder)
+        subprocess.run(["rustc", "--edition", "2021", "-O", "-o", room / "search", HERE / "search.rs"], check=True)
+        last = [["", *HEAD], ["", *UNDER]]
+        for name, family in FAMILIES.items():
+            if options.only and not any(name.startswith(begin) for begin in options.only):
+                continue
+            rows, before = [HEAD, UNDER], None
+            for size in family.sizes[: (len(family.sizes) + 1) // 2] if options.quick else family.sizes:
+                ours, plain, told = measure(family, size, (options.bin, room / "search"), room, options)
+                rows.append(row(size, ours, plain, told, before))
+                before = ours, plain, told.get("lifts", 0)
+            tell(f"`{name}`: {family.what}; size: {family.unit}", rows)
+            last.append([name, *rows[-1]])
+        tell("All families at their last size", last)
 
 
 if __name__ == "__main__":

@@ -1,0 +1,576 @@
+//! The search of `lincheck` with Rust's standard library alone and without a proof. It stands here to be timed beside
+//! `lincheck` and is no part of it.
+//!
+//! It reads a history on standard input and prints `linearizable`, or `not linearizable: ` and the first object that has
+//! no linearization and the length of its longest run. On standard error it tells what it did.
+//!
+//! The search is Wing and Gong's (1993), from the first call to the last, over linked entries of call and return events:
+//! the calls that may be next are those before the first return entry. A table keeps the configurations (set of lifted
+//! calls, and state) that are refuted (Lowe 2017), each with its longest continuation. An object that is refuted is
+//! searched twice, as `lincheck` does: once for the answer, and over a new table for its longest run.
+mod reader;
+
+use reader::{History, Kind, Object, Op, Reply};
+use std::collections::HashMap;
+use std::hash::{BuildHasherDefault, Hasher};
+use std::io::Read;
+use std::time::{Duration, Instant};
+
+/// A hash with one word more: a product, folded.
+fn fold(hash: u64, word: u64) -> u64 {
+    let product = u128::from(hash ^ word) * 0x9E37_79B9_7F4A_7C15;
+    (product >> 64) as u64 ^ product as u64
+}
+
+/// Hashes whole words alone.
+#[derive(Default)]
+struct FoldHasher(u64);
+
+impl Hasher for FoldHasher {
+    fn write_u64(&mut self, word: u64) {
+        self.0 = fold(self.0, word);
+    }
+
+    fn write(&mut self, _: &[u8]) {
+        unreachable!("keys are words");
+    }
+
+    fn finish(&self) -> u64 {
+        self.0
+    }
+}
+
+/// What is known of a refuted configuration: how many calls its longest continuation has, and the least first call of
+/// one of that length.
+#[derive(Clone, Copy, Default)]
+struct Longest {
+    more: u32,
+    first: u32,
+}
+
+impl Longest {
+    /// Takes in that a call leads to a configuration of which this is known.
+    fn take(&mut self, call: usize, below: Longest) {
+        if self.more < below.more + 1 {
+            *self = Longest {
+                more: below.more + 1,
+                first: call as u32,
+            };
+        }
+    }
+}
+
+/// The refuted configurations, each written out as words, and what is known of them.
+#[derive(Default)]
+struct Table {
+    /// For each hash where the last configuration of that hash stands among the words.
+    places: HashMap<u64, usize, BuildHasherDefault<FoldHasher>>,
+    /// One configuration behind the other: the place of the last one before of the same hash, what is known of it, how
+    /// many words it has, and these.
+    words: Vec<u64>,
+    count: usize,
+}
+
+/// The place of no configuration.
+const NOWHERE: usize = usize::MAX;
+
+fn hash_of(words: &[u64]) -> u64 {
+    words
+        .iter()
+        .fold(words.len() as u64, |hash, word| fold(hash, *word))
+}
+
+impl Table {
+    fn get(&self, words: &[u64]) -> Option<Longest> {
+        let mut place = *self.places.get(&hash_of(words))?;
+        while place != NOWHERE {
+            let [before, known, length] = self.words[place..place + 3] else {
+                unreachable!("three words")
+            };
+            if self.words[place + 3..][..length as usize] == *words {
+                return Some(Longest {
+                    more: (known >> 32) as u32,
+                    first: known as u32,
+                });
+            }
+            place = before as usize;
+        }
+        None
+    }
+
+    fn insert(&mut self, words: &[u64], longest: Longest) {
+        let place = self.words.len();
+        let before = self.places.insert(hash_of(words), place).unwrap_or(NOWHERE);
+        let known = u64::from(longest.more) << 32 | u64::from(longest.first);
+        self.words
+            .extend_from_slice(&[before as u64, known, words.len() as u64]);
+        self.words.extend_from_slice(words);
+        self.count += 1;
+    }
+}
+
+/// A set of calls as bits: how many leading words are full, and from there the words up to the last that is not empty.
+#[derive(Default)]
+struct CallSet {
+    full: usize,
+    words: Vec<u64>,
+}
+
+impl CallSet {
+    fn insert(&mut self, call: usize) {
+        let place = call / 64 - self.full;
+        if place >= self.words.len() {
+            self.words.resize(place + 1, 0);
+        }
+        self.words[place] |= 1 << (call % 64);
+        while self.words.first() == Some(&u64::MAX) {
+            self.words.remove(0);
+            self.full += 1;
+        }
+    }
+
+    fn remove(&mut self, call: usize) {
+        while call / 64 < self.full {
+            self.words.insert(0, u64::MAX);
+            self.full -= 1;
+        }
+        self.words[call / 64 - self.full] &= !(1 << (call % 64));
+        while self.words.last() == Some(&0) {
+            self.words.pop();
+        }
+    }
+}
+
+/// The state of an object: of each kind some of the fields are used.
+struct State {
+    kind: Kind,
+    /// The value of a register or a counter.
+    value: i64,
+    /// The items of a stack, the newest last; of a set, in increasing order; all that was put in a queue, the oldest first.
+    items: Vec<i64>,
+    /// How many of a queue's items were taken out.
+    taken: usize,
+    holder: Option<u32>,
+}
+
+/// What takes a step back.
+enum Undo {
+    Nothing,
+    Value(i64),
+    TakeLast,
+    PutLast(i64),
+    PutFirst,
+    Insert(usize, i64),
+    Remove(usize),
+    Holder(Option<u32>),
+}
+
+impl State {
+    fn start(object: &Object) -> State {
+        State {
+            kind: object.kind,
+            value: object.start,
+            items: Vec::new(),
+            taken: 0,
+            holder: None,
+        }
+    }
+
+    /// Makes the step of an operation: its reply, and what takes it back. `None` where there is no step.
+    fn step(&mut self, process: u32, op: Op) -> Option<(Reply, Undo)> {
+        let old = Undo::Value(self.value);
+        match op {
+            Op::Write(value) => {
+                self.value = value;
+                Some((Reply::Okay, old))
+            }
+            Op::Read | Op::Get => Some((Reply::Int(self.value), Undo::Nothing)),
+            Op::Cas(from, to) => {
+                let is_there = self.value == from;
+                if is_there {
+                    self.value = to;
+                }
+                Some((Reply::Flag(is_there), old))
+            }
+            Op::Add(difference) => {
+                self.value = self.value.checked_add(difference)?;
+                Some((Reply::Okay, old))
+            }
+            Op::Enqueue(item) | Op::Push(item) => {
+                self.items.push(item);
+                Some((Reply::Okay, Undo::TakeLast))
+            }
+            Op::Dequeue => match self.items.get(self.taken) {
+                Some(item) => {
+                    self.taken += 1;
+                    Some((Reply::Int(*item), Undo::PutFirst))
+                }
+                None => Some((Reply::Empty, Undo::Nothing)),
+            },
+            Op::Pop => match self.items.pop() {
+                Some(item) => Some((Reply::Int(item), Undo::PutLast(item))),
+                None => Some((Reply::Empty, Undo::Nothing)),
+            },
+            Op::Insert(item) => match self.items.binary_search(&item) {
+                Ok(_) => Some((Reply::Flag(false), Undo::Nothing)),
+                Err(place) => {
+                    self.items.insert(place, item);
+                    Some((Reply::Flag(true), Undo::Remove(place)))
+                }
+            },
+            Op::Remove(item) => match self.items.binary_search(&item) {
+                Ok(place) => {
+                    self.items.remove(place);
+                    Some((Reply::Flag(true), Undo::Insert(place, item)))
+                }
+                Err(_) => Some((Reply::Flag(false), Undo::Nothing)),
+            },
+            Op::Contains(item) => Some((
+                Reply::Flag(self.items.binary_search(&item).is_ok()),
+                Undo::Nothing,
+            )),
+            Op::Lock => self
+                .holder
+                .is_none()
+                .then(|| (Reply::Okay, Undo::Holder(self.holder.replace(process)))),
+            Op::Unlock => (self.holder == Some(process))
+                .then(|| (Reply::Okay, Undo::Holder(self.holder.take()))),
+            Op::TryLock => Some(match self.holder {
+                None => (
+                    Reply::Flag(true),
+                    Undo::Holder(self.holder.replace(process)),
+                ),
+                Some(_) => (Reply::Flag(false), Undo::Nothing),
+            }),
+        }
+    }
+
+    fn undo(&mut self, undo: Undo) {
+        match undo {
+            Undo::Nothing => {}
+            Undo::Value(value) => self.value = value,
+            Undo::TakeLast => drop(self.items.pop()),
+            Undo::PutLast(item) => self.items.push(item),
+            Undo::PutFirst => self.taken -= 1,
+            Undo::Insert(place, item) => self.items.insert(place, item),
+            Undo::Remove(place) => drop(self.items.remove(place)),
+            Undo::Holder(holder) => self.holder = holder,
+        }
+    }
+
+    /// Writes the state out as words.
+    fn write(&self, words: &mut Vec<u64>) {
+        match self.kind {
+            Kind::Register | Kind::Counter => words.push(self.value as u64),
+            Kind::Mutex => words.push(self.holder.map_or(u64::MAX, u64::from)),
+            Kind::Queue | Kind::Stack | Kind::Set => {
+                words.extend(self.items[self.taken..].iter().map(|item| *item as u64));
+            }
+        }
+    }
+}
+
+/// A call or a return event, linked with those before and after it that are not lifted.
+#[derive(Clone, Copy)]
+struct Entry {
+    call: usize,
+    is_call: bool,
+    before: usize,
+    after: usize,
+}
+
+/// The entries of an object. Entry 0 stands before the first and after the last.
+struct Entries {
+    entries: Vec<Entry>,
+    /// For each call its entry, and that of its return (0 while it is pending).
+    of_call: Vec<(usize, usize)>,
+}
+
+impl Entries {
+    fn new(object: &Object) -> Entries {
+        let mut events = Vec::new();
+        for (number, call) in object.calls.iter().enumerate() {
+            events.push((call.called, number, true));
+            if let Some((returned, _)) = call.returned {
+                events.push((returned, number, false));
+            }
+        }
+        events.sort_unstable();
+        let last = events.len();
+        let mut entries = vec![Entry {
+            call: 0,
+            is_call: false,
+            before: last,
+            after: usize::from(last > 0),
+        }];
+        let mut of_call = vec![(0, 0); object.calls.len()];
+        for (index, (_, call, is_call)) in events.into_iter().enumerate() {
+            let here = index + 1;
+            entries.push(Entry {
+                call,
+                is_call,
+                before: index,
+                after: if here < last { here + 1 } else { 0 },
+            });
+            if is_call {
+                of_call[call].0 = here;
+            } else {
+                of_call[call].1 = here;
+            }
+        }
+        Entries { entries, of_call }
+    }
+
+    fn take_out(&mut self, at: usize) {
+        let Entry { before, after, .. } = self.entries[at];
+        self.entries[before].after = after;
+        self.entries[after].before = before;
+    }
+
+    fn put_back(&mut self, at: usize) {
+        let Entry { before, after, .. } = self.entries[at];
+        self.entries[before].after = at;
+        self.entries[after].before = at;
+    }
+
+    fn lift(&mut self, call: usize) {
+        let (called, returned) = self.of_call[call];
+        self.take_out(called);
+        if returned != 0 {
+            self.take_out(returned);
+        }
+    }
+
+    fn put_down(&mut self, call: usize) {
+        let (called, returned) = self.of_call[call];
+        if returned != 0 {
+            self.put_back(returned);
+        }
+        self.put_back(called);
+    }
+
+    /// The first call from this entry on that may be next; `None` where a return or the end comes first.
+    fn next_call(&self, at: usize) -> Option<usize> {
+        let entry = &self.entries[at];
+        entry.is_call.then_some(entry.call)
+    }
+}
+
+/// A call that was lifted to come where the search is, and what was known before of the configuration above.
+struct Frame {
+    call: usize,
+    undo: Undo,
+    longest: Longest,
+}
+
+/// Where a search is in one object.
+struct Search<'o> {
+    object: &'o Object,
+    entries: Entries,
+    lifted: CallSet,
+    state: State,
+    /// How many completed calls are not lifted.
+    left: usize,
+    frames: Vec<Frame>,
+    table: Table,
+    /// The configuration written out: fullness, length and words of the set, and the state.
+    words: Vec<u64>,
+    lifts: u64,
+}
+
+impl<'o> Search<'o> {
+    fn new(object: &'o Object) -> Search<'o> {
+        Search {
+            object,
+            entries: Entries::new(object),
+            lifted: CallSet::default(),
+            state: State::start(object),
+            left: object
+                .calls
+                .iter()
+                .filter(|call| call.returned.is_some())
+                .count(),
+            frames: Vec::new(),
+            table: Table::default(),
+            words: Vec::new(),
+            lifts: 0,
+        }
+    }
+
+    /// Makes the step of a call where its reply is the recorded one.
+    fn step(&mut self, call: usize) -> Option<Undo> {
+        let call = &self.object.calls[call];
+        let (reply, undo) = self.state.step(call.process, call.op)?;
+        match call.returned {
+            Some((_, recorded)) if recorded != reply => {
+                self.state.undo(undo);
+                None
+            }
+            _ => Some(undo),
+        }
+    }
+
+    fn lift(&mut self, call: usize, undo: Undo, longest: Longest) {
+        self.entries.lift(call);
+        self.lifted.insert(call);
+        self.left -= usize::from(self.object.calls[call].returned.is_some());
+        self.frames.push(Frame {
+            call,
+            undo,
+            longest,
+        });
+    }
+
+    /// Goes back to the configuration above: by which call it was left, and what was known of it.
+    fn go_back(&mut self) -> Option<(usize, Longest)> {
+        let Frame {
+            call,
+            undo,
+            longest,
+        } = self.frames.pop()?;
+        self.state.undo(undo);
+        self.left += usize::from(self.object.calls[call].returned.is_some());
+        self.lifted.remove(call);
+        self.entries.put_down(call);
+        Some((call, longest))
+    }
+
+    fn write_words(&mut self) {
+        self.words.clear();
+        self.words
+            .push((self.lifted.full as u64) << 32 | self.lifted.words.len() as u64);
+        self.words.extend_from_slice(&self.lifted.words);
+        self.state.write(&mut self.words);
+    }
+
+    fn known(&mut self) -> Option<Longest> {
+        self.write_words();
+        self.table.get(&self.words)
+    }
+
+    fn note(&mut self, longest: Longest) {
+        self.write_words();
+        self.table.insert(&self.words, longest);
+    }
+
+    fn first_entry(&self) -> usize {
+        self.entries.entries[0].after
+    }
+
+    /// Searches from the root: `None` where it has a completion, whose calls are those of the frames then; else what
+    /// its longest runs tell.
+    fn run(&mut self) -> Option<Longest> {
+        let mut at = self.first_entry();
+        let mut longest = Longest::default();
+        while self.left > 0 {
+            if let Some(call) = self.entries.next_call(at) {
+                at = self.entries.entries[at].after;
+                let Some(undo) = self.step(call) else {
+                    continue;
+                };
+                self.lifts += 1;
+                self.lift(call, undo, longest);
+                match self.known() {
+                    Some(below) if self.left > 0 => {
+                        self.go_back();
+                        longest.take(call, below);
+                    }
+                    _ => {
+                        at = self.first_entry();
+                        longest = Longest::default();
+                    }
+                }
+            } else {
+                self.note(longest);
+                let below = longest;
+                let Some((call, above)) = self.go_back() else {
+                    return Some(longest);
+                };
+                longest = above;
+                longest.take(call, below);
+                at = self.entries.entries[self.entries.of_call[call].0].after;
+            }
+        }
+        None
+    }
+
+    /// The first of the longest runs of an object whose root is refuted and in the table.
+    fn longest_run(&mut self) -> Vec<usize> {
+        let mut run = Vec::new();
+        while let Some(longest) = self.known().filter(|longest| longest.more > 0) {
+            let call = longest.first as usize;
+            let undo = self.step(call).expect("a call that follows");
+            self.lift(call, undo, longest);
+            run.push(call);
+        }
+        run
+    }
+}
+
+/// What was done, over all objects and searches.
+#[derive(Default)]
+struct Done {
+    lifts: u64,
+    stored: usize,
+    /// The most that one table held.
+    held: usize,
+}
+
+impl Done {
+    fn add(&mut self, search: &Search) {
+        self.lifts += search.lifts;
+        self.stored += search.table.count;
+        self.held = self.held.max(search.table.count);
+    }
+}
+
+/// `None` where the object has a linearization, else its longest run.
+fn check(object: &Object, done: &mut Done) -> Option<Vec<usize>> {
+    let mut search = Search::new(object);
+    let refuted = search.run();
+    done.add(&search);
+    refuted?;
+    drop(search);
+    let mut search = Search::new(object);
+    search.run();
+    done.add(&search);
+    Some(search.longest_run())
+}
+
+fn tell(reading: Duration, searching: Duration, done: &Done) {
+    eprintln!("reading {:.6}", reading.as_secs_f64());
+    eprintln!("search {:.6}", searching.as_secs_f64());
+    eprintln!("lifts {}", done.lifts);
+    eprintln!("stored {}", done.stored);
+    eprintln!("held {}", done.held);
+}
+
+fn main() {
+    let started = Instant::now();
+    let mut text = Vec::new();
+    std::io::stdin()
+        .read_to_end(&mut text)
+        .expect("standard input");
+    let history = match History::of_text(&text) {
+        Ok(history) => history,
+        Err(line) => {
+            println!("line {line}: refused");
+            std::process::exit(2);
+        }
+    };
+    let reading = started.elapsed();
+    let mut done = Done::default();
+    let refuted = history
+        .objects
+        .iter()
+        .find_map(|object| Some((object, check(object, &mut done)?)));
+    tell(reading, started.elapsed() - reading, &done);
+    match refuted {
+        None => println!("linearizable"),
+        Some((object, run)) => {
+            println!("not linearizable: {}", object.name);
+            println!("longest run: {} of {} calls", run.len(), object.calls.len());
+            std::process::exit(1);
+        }
+    }
+}
