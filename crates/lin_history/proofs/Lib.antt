@@ -1,4 +1,6 @@
 pub mod NumberLemmas
+pub mod TimedLemmas
+pub mod TimelineLemmas
 pub mod SameLemmas
 pub mod ListLemmas
 pub mod EventLemmas

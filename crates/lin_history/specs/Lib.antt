@@ -4,6 +4,8 @@ pub mod Posing
 pub mod Posed
 pub mod Legal
 pub mod Precedence
+pub mod Timeline
+pub mod TimelineEvents
 pub mod Continuations
 pub mod Linearizations
 pub mod Configurations

@@ -1,5 +1,5 @@
 -- A problem: the part of a history on one object (Herlihy and Wing 1990), as contracts see it.
-use Rattle.std.specs.Prelude.{ℕ, Bool, false, not, max, nat_le, Option, Some, None, is_none, List, [], ◌∷◌, ◌++◌, length, slice_get, slice_set}
+use Rattle.std.specs.Prelude.{◌≡◌, ◌≢◌, ℕ, ◌<◌, Bool, false, not, max, nat_le, Option, Some, None, is_none, List, [], ◌∷◌, ◌++◌, length, slice_get, slice_set}
 use Rattle.lin_history.specs.declared.problem.ProblemCall.{ProblemCall}
 use Rattle.lin_history.specs.declared.problem.ProblemFault.{ProblemFault}
 use Rattle.lin_history.specs.declared.problem.ProblemFault.TheVariants.{Late, NoCall, TooManyCalls}
@@ -19,6 +19,13 @@ number_of c (Some r) = max c.called r.0
 abbrev pub greatest_number : {Op Reply : Type 0} → List (ProblemCall Op Reply) → ℕ
 greatest_number [] = 0
 greatest_number (c ∷ cs) = max (number_of c c.returned) (greatest_number cs)
+
+-- The numbers of a problem's events: calls stand in the order of their call events, each returns after it was called, and
+-- no return event is a call event.
+pub record AreTimed {Op Reply : Type 0} (calls : List (ProblemCall Op Reply)) : Type 0 where
+  pub called : (a b : ℕ) (x y : ProblemCall Op Reply) → a < b → slice_get calls a ≡ Some x → slice_get calls b ≡ Some y → x.called < y.called
+  pub returned : (a : ℕ) (x : ProblemCall Op Reply) (r : ℕ × Reply) → slice_get calls a ≡ Some x → x.returned ≡ Some r → x.called < r.0
+  pub apart : (a b : ℕ) (x y : ProblemCall Op Reply) (r : ℕ × Reply) → slice_get calls a ≡ Some x → slice_get calls b ≡ Some y → x.returned ≡ Some r → r.0 ≢ y.called
 
 -- The call is there and has not returned.
 abbrev pub is_pending : {Op Reply : Type 0} → Option (ProblemCall Op Reply) → Bool

@@ -11,6 +11,7 @@ mod order;
 mod placed;
 mod placing;
 mod problem;
+mod timeline;
 mod verifying;
 
 pub use builder::Builder;
@@ -22,6 +23,7 @@ pub use order::Order;
 pub use placed::{Placed, WholeOrder};
 pub use placing::place;
 pub use problem::{Problem, ProblemCall, ProblemFault};
+pub use timeline::ProblemEvent;
 pub use verifying::verify;
 
 #[cfg(test)]

@@ -85,13 +85,13 @@ pub struct Problem<O: SeqObject> {
 
 impl<O: SeqObject> Model for Problem<O> {
     ghost use Rattle.std.specs.Prelude.{◌≡◌};
-    ghost use Rattle.lin_history.specs.Posing.{Posing, greatest_number};
+    ghost use Rattle.lin_history.specs.Posing.{Posing, AreTimed, greatest_number};
 
     ghost Value = { Posing O O.State O.Op O.Reply };
 
     ghost view = { λ p. record { object = p.object; start = p.start; calls = p.calls.items } };
 
-    ghost invariant = { λ p. p.last ≡ greatest_number p.calls.items };
+    ghost invariant = { λ p. (p.last ≡ greatest_number p.calls.items) × AreTimed p.calls.items };
 }
 
 fn last_number<P, R>(calls: &[ProblemCall<P, R>]) -> u32
@@ -110,14 +110,16 @@ fn last_number<P, R>(calls: &[ProblemCall<P, R>]) -> u32
 
 impl<O: SeqObject> Problem<O> {
     ghost use Rattle.lin_history.specs.Same.{SameProblem};
-    ghost use Rattle.lin_history.specs.Posing.{Posing, call_refusals, return_refusals, with_new_call, with_return};
+    ghost use Rattle.lin_history.specs.Posing.{Posing, AreTimed, call_refusals, return_refusals, with_new_call, with_return};
 
-    /// The problem of these calls.
+    /// The problem of these calls. Condition: they are in the order of their call events, return after they
+    /// were called, and no return event has the number of a call event.
     pub(crate) fn with_calls(
         object: O,
         start: O::State,
         calls: Vec<ProblemCall<O::Op, O::Reply>>,
     ) -> Self
+        requires { AreTimed calls.items }
         ensures { result ≡ record { object = object; start = start; calls = calls.items } }
     {
         let last = last_number(calls.as_slice());
@@ -212,6 +214,14 @@ impl<O: SeqObject> Problem<O> {
         ensures { slice_get self.now.calls call ≡ Some result.now }
     {
         &self.calls[call]
+    }
+
+    /// The calls, in the order of their call events.
+    pub(crate) fn calls(&self) -> &[ProblemCall<O::Op, O::Reply>]
+        ensures calls { result.now ≡ self.now.calls }
+        ensures timed { AreTimed self.now.calls }
+    {
+        self.calls.as_slice()
     }
 
     /// The state at the start.

@@ -1,8 +1,8 @@
 ghost use Rattle.std.specs.Prelude.{◌≡◌, Some, None, [], ◌∷◌, IfOk, pos};
 
 use crate::{
-    BuildFault, Builder, CallInfo, History, Order, Placed, Problem, ProblemCall, ProblemFault,
-    WholeOrder, is_name, join, verify,
+    BuildFault, Builder, CallInfo, History, Order, Placed, Problem, ProblemCall, ProblemEvent,
+    ProblemFault, WholeOrder, is_name, join, verify,
 };
 use lin_object::{AnyObject, Kind, ObjState, Op, Reply};
 use std::alloc::{AllocError, Global};
@@ -534,5 +534,26 @@ fn faults_are_told_in_words(rt: HostRuntime) -> Result<(), Fail> {
         told.as_str(),
         "process 7 has a pending call, bad object name"
     );
+    Ok(())
+}
+
+#[test]
+fn a_timeline_has_the_events_in_their_order(rt: HostRuntime) -> Result<(), Fail> {
+    let start = ObjState::Register(0);
+    let mut problem = Problem::new(rt.alloc(), AnyObject, start);
+    problem.add_call(1, Op::Write(1), 1)?;
+    problem.add_call(2, Op::Read, 3)?;
+    problem.add_return(1, Reply::Int(1), 4)?;
+    problem.add_return(0, Reply::Okay, 7)?;
+    problem.add_call(2, Op::Read, 9)?;
+    let timeline = problem.timeline(rt.alloc())?;
+    let want = [
+        ProblemEvent::Call(0),
+        ProblemEvent::Call(1),
+        ProblemEvent::Return(1),
+        ProblemEvent::Return(0),
+        ProblemEvent::Call(2),
+    ];
+    assert!(rt; timeline.as_slice() == want.as_slice());
     Ok(())
 }

@@ -1,11 +1,11 @@
-use Rattle.std.proofs.Common.{not, ◌≡◌, ℕ, zero, suc, ◌+◌, ◌<◌, Bool, true, false, List, [], ◌∷◌, length, replicate, ◌⊎◌, inl, inr, refl, sym, ◌∙◌, ap, subst, arith}
+use Rattle.std.proofs.Common.{not, ◌≡◌, ℕ, zero, suc, ◌+◌, ◌<◌, ◌≤◌, Bool, true, false, List, [], ◌∷◌, length, replicate, ◌⊎◌, inl, inr, refl, sym, ◌∙◌, ap, subst, arith}
 use Rattle.std.proofs.lemmas.List.{length-set}
 use Rattle.lin_history.specs.Posed.{Posed}
 use Rattle.lin_history.specs.Lists.{In}
 use Rattle.lin_history.specs.Legal.{Legal}
 use Rattle.lin_history.specs.Continuations.{has, IsContinuation, no_calls}
 use Rattle.lin_history.specs.Configurations.{IsReachable}
-use Rattle.lin_search.specs.CallSet.{with_call}
+use Rattle.lin_search.specs.CallSet.{with_call, with_calls}
 use Rattle.lin_search.specs.Next.{IsNext}
 use Rattle.lin_search.specs.declared.longest.Longest.{Longest}
 use Rattle.lin_search.specs.declared.outcome.Outcome.{Outcome}
@@ -30,8 +30,16 @@ module _ {State Op Reply : Type 0} (p : Posed State Op Reply) where
   last_or_less : (c i : ℕ) → c < i + 1 → (c < i) ⊎ (c ≡ i)
   last_or_less c i h = grind arith
 
-  pub followed_skip : (holds : List Bool → State → Type 0) (set : List Bool) (s : State) (i : ℕ) → Followed holds set s i → ((t : State) → IsNext p set s i t → ⊥) → Followed holds set s (i + 1)
-  followed_skip holds set s i k none c h t n = elim (last_or_less c i h) [ inl q ↦ k c q t n | inr q ↦ absurd (none t (subst (λ (x : ℕ). IsNext p set s x t) q n)) ]
+  less_or_not : (c i : ℕ) → (c < i) ⊎ (i ≤ c)
+  less_or_not c i = grind arith
+
+  -- calls that can't follow are passed over
+  pub followed_to : (holds : List Bool → State → Type 0) (set : List Bool) (s : State) (i j : ℕ) → Followed holds set s i → ((c : ℕ) → i ≤ c → c < j → (t : State) → IsNext p set s c t → ⊥) → Followed holds set s j
+  followed_to holds set s i j k none c h t n = elim (less_or_not c i) [ inl q ↦ k c q t n | inr q ↦ absurd (none c q h t n) ]
+
+  -- one call that can't follow is passed over
+  pub followed_one : (holds : List Bool → State → Type 0) (set : List Bool) (s : State) (i : ℕ) → Followed holds set s i → ((t : State) → IsNext p set s i t → ⊥) → Followed holds set s (i + 1)
+  followed_one holds set s i k none c h t n = elim (last_or_less c i h) [ inl q ↦ k c q t n | inr q ↦ absurd (none t (subst (λ (x : ℕ). IsNext p set s x t) q n)) ]
 
   pub followed_next : (old new : List Bool → State → Type 0) (set : List Bool) (s : State) (i : ℕ) (u : State) → ((set : List Bool) (s : State) → old set s → new set s) → Followed old set s i → IsNext p set s i u → new (with_call set i) u → Followed new set s (i + 1)
   followed_next old new set s i u lasting k is_next held c h t n =
@@ -59,11 +67,6 @@ module _ {State Op Reply : Type 0} (p : Posed State Op Reply) where
           let step = alike.there.steps t s u c f n.step in
           let there : IsNext p set s c step.0 = record { outside = rw (← e) n.outside; preceded = λ b before. rw (← e) (n.preceded b before); step = step.1 } in
           rw e (at_equal (with_call set c) step.0 u (alike.equal_states.symm step.0 u ∙ step.2) (lasting (with_call set c) step.0 (follows c step.0 there)))
-
--- the set and the calls of the list
-abbrev pub with_calls : List Bool → List ℕ → List Bool
-with_calls set [] = set
-with_calls set (c ∷ cs) = with_calls (with_call set c) cs
 
 -- sets of as many flags that have the same calls are equal
 same_flags : (a b : List Bool) → length a ≡ length b → ((c : ℕ) → (has a c ≡ true → has b c ≡ true) × (has b c ≡ true → has a c ≡ true)) → a ≡ b

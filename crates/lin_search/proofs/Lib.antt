@@ -1,5 +1,13 @@
 pub mod Tried
 pub mod LookupLemmas
 pub mod ClosedLemmas
+pub mod LinksLemmas
+pub mod PlacesLemmas
+pub mod EntriesLemmas
 pub mod SizeLemmas
 pub mod RunLemmas
+pub mod FrameLemmas
+pub mod FilledLemmas
+pub mod TotalLemmas
+pub mod WindowLemmas
+pub mod KeptLemmas

@@ -31,9 +31,6 @@ module _ {State Op Reply : Type 0} (p : Posed State Op Reply) (set : List Bool) 
       let q = continuation_split p set s c b.0 flags (subst (λ (l : List ℕ). IsContinuation p set s l) b.1 k.there.1) in
       (q.0, q.1)
 
-  pub first_within : (more c : ℕ) → IsLongest (IsContinuation p set s) more (Some c) → c < length p.calls
-  first_within more c k = let q = first_next more c k in next_within p s q.0 c q.1.step
-
   module _ (c : ℕ) (t : State) (is_next : IsNext p set s c t) where
     tail : (cs : List ℕ) → IsContinuation p set s (c ∷ cs) → IsContinuation p (with_call set c) t cs
     tail cs k = let n = continuation_split p set s c cs flags k in subst (λ (u : State). IsContinuation p (with_call set c) u cs) (next_one p set s c n.0 t n.1 is_next) n.2

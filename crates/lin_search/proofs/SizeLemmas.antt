@@ -79,11 +79,15 @@ module _ {State Op Reply : Type 0} (p : Posed State Op Reply) (set : List Bool) 
   abbrev pub Begun : ℕ → List ℕ → Type 0
   Begun i l = IsContinuation p set s l × IsBelow i l
 
-  pub many_skip : (i n : ℕ) → HasMany (Begun i) n → HasMany (Begun (i + 1)) n
-  many_skip i n k = record {
+  below_to : (i j : ℕ) → i ≤ j → (l : List ℕ) → IsBelow i l → IsBelow j l
+  below_to i j h [] b = tt
+  below_to i j h (c ∷ cs) b = omega (arith, b, h)
+
+  pub many_to : (i j n : ℕ) → i ≤ j → HasMany (Begun i) n → HasMany (Begun j) n
+  many_to i j n h k = record {
     lists = k.lists;
     different = k.different;
-    each = each_map (λ (l : List ℕ). Begun i l × (l ≡ [] → ⊥)) (λ (l : List ℕ). Begun (i + 1) l × (l ≡ [] → ⊥)) (λ l h. ((h.0.0, below_next i l h.0.1), h.1)) k.lists k.each;
+    each = each_map (λ (l : List ℕ). Begun i l × (l ≡ [] → ⊥)) (λ (l : List ℕ). Begun j l × (l ≡ [] → ⊥)) (λ l b. ((b.0.0, below_to i j h l b.0.1), b.1)) k.lists k.each;
     count = k.count;
   }
 
@@ -128,34 +132,6 @@ many_as P n m e k = record { lists = k.lists; different = k.different; each = k.
 
 pub count_start : (a : ℕ) → 0 ≡ a - a
 count_start a = omega arith
-
-pub count_gave_up : (old now limit : ℕ) → old ≤ now → now ≡ limit → (now - old) + 1 + 0 ≡ (limit - old) + 1
-count_gave_up old now limit h e = omega (arith, h, e)
-
-pub count_below_gave_up : (old now limit : ℕ) → old ≤ now → now + 1 ≤ limit → (now - old) + 1 + ((limit - (now + 1)) + 1) ≡ (limit - old) + 1
-count_below_gave_up old now limit h e = omega (arith, h, e)
-
-pub count_went_on : (old now new : ℕ) → old ≤ now → now + 1 ≤ new → (now - old) + 1 + (new - (now + 1)) ≡ new - old
-count_went_on old now new h e = omega (arith, h, e)
-
-module _ {State Op Reply : Type 0} (p : Posed State Op Reply) (set : List Bool) (s : State) (i : ℕ) (t : State) (flags : length set ≡ length p.calls) (is_next : IsNext p set s i t) where
-  -- a lift that was counted, and what the child's search counted
-  pub sized_on : (limit : Option ℕ) (old now mid new : ℕ) → old ≤ now → mid ≤ new → IfSome limit (λ (most : ℕ). mid ≡ now + 1) → (IsSome limit → HasMany (Begun p set s i) (now - old)) → (IsSome limit → HasMany (IsContinuation p (with_call set i) t) (new - mid)) → IsSome limit → HasMany (Begun p set s (i + 1)) (new - old)
-  sized_on None old now mid new a b e k m h = absurd (cc)
-  sized_on (Some most) old now mid new a b e k m h =
-      many_as (Begun p set s (i + 1)) ((now - old) + 1 + (new - mid)) (new - old) (omega (arith, a, b, e)) (many_step p set s i t (now - old) (new - mid) flags is_next (k h) (m h))
-
-  -- the limit was met at this lift
-  pub sized_here : (limit : Option ℕ) (old now : ℕ) → old ≤ now → IsSomeAnd limit (λ (most : ℕ). now ≡ most) → (IsSome limit → HasMany (Begun p set s i) (now - old)) → IsSomeAnd limit (λ (most : ℕ). HasMany (IsContinuation p set s) ((most - old) + 1))
-  sized_here None old now a e k = absurd e
-  sized_here (Some most) old now a e k =
-      many_as (IsContinuation p set s) ((now - old) + 1 + 0) ((most - old) + 1) (omega (arith, a, e)) (many_all p set s (i + 1) ((now - old) + 1 + 0) (many_step p set s i t (now - old) 0 flags is_next (k refl) (many_none (IsContinuation p (with_call set i) t))))
-
-  -- or below it
-  pub sized_below : (limit : Option ℕ) (old now mid : ℕ) → old ≤ now → IfSome limit (λ (most : ℕ). mid ≤ most) → IfSome limit (λ (most : ℕ). mid ≡ now + 1) → (IsSome limit → HasMany (Begun p set s i) (now - old)) → IsSomeAnd limit (λ (most : ℕ). HasMany (IsContinuation p (with_call set i) t) ((most - mid) + 1)) → IsSomeAnd limit (λ (most : ℕ). HasMany (IsContinuation p set s) ((most - old) + 1))
-  sized_below None old now mid a b e k m = absurd m
-  sized_below (Some most) old now mid a b e k m =
-      many_as (IsContinuation p set s) ((now - old) + 1 + ((most - mid) + 1)) ((most - old) + 1) (omega (arith, a, b, e)) (many_all p set s (i + 1) ((now - old) + 1 + ((most - mid) + 1)) (many_step p set s i t (now - old) ((most - mid) + 1) flags is_next (k refl) m))
 
 -- what the recursion tells of a configuration, when no lift was counted before
 module _ {State Op Reply : Type 0} (p : Posed State Op Reply) (set : List Bool) (s : State) where

@@ -4,6 +4,7 @@ use Rattle.lin_history.specs.Posed.{Posed}
 use Rattle.lin_history.specs.Lists.{IsUpTo, IsLeast, IsLongest, first_of}
 use Rattle.lin_history.specs.Continuations.{has, IsContinuation, IsCompletion}
 use Rattle.lin_search.specs.CallSet.{with_call}
+use Rattle.lin_search.specs.declared.longest.Longest.{Longest}
 use Rattle.lin_search.specs.Next.{IsNext, HasEveryCompleted}
 use Rattle.lin_search.specs.FirstCallLemmas.{continuation_split, continuation_join, completion_split, completion_join, none_continues, none_completes, complete_none, next_one, next_within}
 
@@ -95,6 +96,31 @@ module _ {State Op Reply : Type 0} (p : Posed State Op Reply) where
         | inr q ↦ absurd (let n = continuation_split p set s i q.0 flags (subst (λ (m : List ℕ). IsContinuation p set s m) q.1 k) in no_step n.0 n.1)
       ]
 
+  -- calls that can't follow are passed over
+  pub tried_to : (set : List Bool) (s : State) (i j more : ℕ) (first : Option ℕ) → length set ≡ length p.calls → i ≤ j → Tried set s i more first → ((c : ℕ) → i ≤ c → c < j → (t : State) → IsNext p set s c t → ⊥) → Tried set s j more first
+  tried_to set s i j more first flags h tried none = record {
+    none = λ l k b. tried.none l k (below l k.continuation b);
+    longest = record {
+      there = let q = tried.longest.there in (q.0, (q.1.0, above q.0 q.1.1), q.2, q.3);
+      greatest = λ l k. tried.longest.greatest l (k.0, below l k.0 k.1);
+      least = λ l k. tried.longest.least l (k.0, below l k.0 k.1);
+    };
+  }
+    where
+      less_or_not : (c i : ℕ) → (c < i) ⊎ (i ≤ c)
+      less_or_not c i = grind arith
+
+      below : (l : List ℕ) → IsContinuation p set s l → IsBelow j l → IsBelow i l
+      below [] k b = tt
+      below (c ∷ cs) k b = elim (less_or_not c i) [
+        | inl q ↦ q
+        | inr q ↦ absurd (let n = continuation_split p set s c cs flags k in none c q b n.0 n.1)
+      ]
+
+      above : (l : List ℕ) → IsBelow i l → IsBelow j l
+      above [] b = tt
+      above (c ∷ cs) b = omega (arith, b, h)
+
   -- the call i leads to a configuration that has no completion and this longest continuation
   module _ (set : List Bool) (s : State) (i : ℕ) (t : State) (below : ℕ) (below_first : Option ℕ) (flags : length set ≡ length p.calls) (is_next : IsNext p set s i t) (refuted : (l : List ℕ) → IsCompletion p (with_call set i) t l → ⊥) (deep : IsLongest (IsContinuation p (with_call set i) t) below below_first) where
     -- a continuation that begins with i goes on from that configuration
@@ -165,6 +191,17 @@ module _ {State Op Reply : Type 0} (p : Posed State Op Reply) where
             head_below : (m : List ℕ) (c : ℕ) → first_of m ≡ Some c → IsBelow i m → c < i
             head_below [] c e b = absurd (cc)
             head_below (d ∷ ds) c e b = let same : d ≡ c = cc in omega (arith, same, b)
+
+  -- what the calls up to this one tell, once it is known what this one leads to
+  pub tried_after : (set : List Bool) (s : State) (i : ℕ) (t : State) (longest deep after : Longest) → length set ≡ length p.calls → IsNext p set s i t → ((l : List ℕ) → IsCompletion p (with_call set i) t l → ⊥) → IsLongest (IsContinuation p (with_call set i) t) deep.more deep.first → Tried set s i longest.more longest.first → (longest.more < deep.more + 1 → after ≡ record { more = deep.more + 1; first = Some i }) → (deep.more + 1 ≤ longest.more → after ≡ longest) → Tried set s (i + 1) after.more after.first
+  tried_after set s i t longest deep after flags is_next none is_longest tried longer not_longer =
+      elim (less_or_not longest.more (deep.more + 1)) [
+        | inl h ↦ rw (longer h) (tried_longer set s i t deep.more deep.first flags is_next none is_longest longest.more longest.first tried h)
+        | inr h ↦ rw (not_longer h) (tried_no_longer set s i t deep.more deep.first flags is_next none is_longest longest.more longest.first tried h)
+      ]
+    where
+      less_or_not : (a b : ℕ) → (a < b) ⊎ (b ≤ a)
+      less_or_not a b = grind arith
 
   pub tried_all : (set : List Bool) (s : State) (n more : ℕ) (first : Option ℕ) → n ≡ length p.calls → length set ≡ length p.calls → Tried set s n more first → ((l : List ℕ) → IsCompletion p set s l → ⊥) × IsLongest (IsContinuation p set s) more first
   tried_all set s n more first all flags tried = (

@@ -1,10 +1,10 @@
 -- Sets of calls: the test of equality, and what a set with one call more has.
-use Rattle.std.proofs.Common.{◌≡◌, ◌≢◌, ℕ, ◌<◌, Bool, true, false, List, [], ◌∷◌, length, ◌⊎◌, inl, inr, refl, sym, ◌∙◌, ap, arith}
+use Rattle.std.proofs.Common.{◌≡◌, ◌≢◌, ℕ, ◌<◌, Bool, true, false, List, [], ◌∷◌, ◌++◌, length, ◌⊎◌, inl, inr, refl, sym, ◌∙◌, ap, arith}
 use Rattle.std.proofs.lemmas.List.{get_or-set_same, get_or-set_other}
 use lib.Pointwise.{pointwise}
 use mathlib.Core.Bool.{beq}
 use Rattle.lin_history.specs.Continuations.{has}
-use Rattle.lin_search.specs.CallSet.{with_call}
+use Rattle.lin_search.specs.CallSet.{with_call, with_calls}
 
 -- sets that the test finds equal are equal
 pub flags_same : (xs ys : List Bool) → pointwise beq xs ys ≡ true → xs ≡ ys
@@ -25,6 +25,10 @@ flags_itself (false ∷ xs) = flags_itself xs
 pub same_or_not : (a b : ℕ) → (a ≡ b) ⊎ (a ≢ b)
 same_or_not a b = grind arith
 
+pub true_or_false : (b : Bool) → (b ≡ true) ⊎ (b ≡ false)
+true_or_false true = inl refl
+true_or_false false = inr refl
+
 pub has_same : (s : List Bool) (c : ℕ) → c < length s → has (with_call s c) c ≡ true
 has_same s c h = get_or-set_same s c true false h
 
@@ -36,3 +40,8 @@ has_still s c a h e = elim (same_or_not a c) [ inl q ↦ rw q (has_same s c h) |
 
 pub has_with : (s : List Bool) (c a : ℕ) → has (with_call s c) a ≡ true → (a ≡ c) ⊎ (has s a ≡ true)
 has_with s c a e = elim (same_or_not a c) [ inl q ↦ inl q | inr ne ↦ inr (sym (has_other s c a ne) ∙ e) ]
+
+-- the calls of two lists, one after the other
+pub with_append : (set : List Bool) (l m : List ℕ) → with_calls set (l ++ m) ≡ with_calls (with_calls set l) m
+with_append set [] m = refl
+with_append set (c ∷ cs) m = with_append (with_call set c) cs m

@@ -1,6 +1,6 @@
 -- That to be the same configuration is an equivalence.
 use Rattle.std.specs.Prelude.{◌≡◌, ℕ, Bool, true, false, ◌&&◌, List, ◌++◌, IsTrue, refl}
-use Rattle.std.specs.Hash as fed
+use Rattle.lin_search.specs.CallSet.{fed_set}
 use lib.Pointwise.{pointwise}
 use mathlib.Core.Bool.{beq}
 use Rattle.lin_search.specs.CallSetLemmas.{flags_same}
@@ -23,7 +23,7 @@ both_true false b e = absurd (cc)
 
 -- What is the same is hashed alike.
 module _ {State : Type 0} (same : State → State → Bool) (fed_state : State → List (List ℕ)) (alike : (s t : State) → IsTrue (same s t) → fed_state s ≡ fed_state t) where
-  pub same_input : (a b : Configuration State) → IsTrue (same_configuration same a b) → fed.slice fed.bool a.lifted ++ fed_state a.state ≡ fed.slice fed.bool b.lifted ++ fed_state b.state
+  pub same_input : (a b : Configuration State) → IsTrue (same_configuration same a b) → fed_set a.lifted ++ fed_state a.state ≡ fed_set b.lifted ++ fed_state b.state
   same_input a b e =
       let both = both_true (pointwise beq a.lifted b.lifted) (same a.state b.state) e in
       let set = flags_same a.lifted b.lifted both.0 in

@@ -1,5 +1,10 @@
 pub mod CallSet
+pub mod Links
+pub mod Places
+pub mod Entries
+pub mod Entered
 pub mod CallSetLemmas
+pub mod Window
 pub mod Configuration
 pub mod ConfigurationLemmas
 pub mod Next
@@ -19,3 +24,4 @@ pub mod AlikeLemmas
 pub mod SameLemmas
 pub mod ReachableLemmas
 pub mod CountLemmas
+pub mod Frames

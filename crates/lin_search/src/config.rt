@@ -6,6 +6,7 @@ ghost use Rattle.lin_history.specs.Continuations.{has, no_calls};
 ghost use Rattle.lin_history.specs.Configurations.{IsReachable};
 ghost use Rattle.lin_search.specs.CallSet.{with_call};
 ghost use Rattle.lin_search.specs.Next.{IsNext, HasEveryCompleted};
+ghost use Rattle.lin_search.specs.Entries.{IsMinimal};
 
 use crate::call_set::CallSet;
 use lin_history::Problem;
@@ -51,10 +52,10 @@ impl<O: SeqObject> Eq for Config<O> {
 
 impl<O: SeqObject> Hash for Config<O> {
     ghost use Rattle.std.specs.Prelude.{◌++◌};
-    ghost use Rattle.std.specs.Hash as fed;
+    ghost use Rattle.lin_search.specs.CallSet.{fed_set};
     ghost use Rattle.lin_search.specs.ConfigurationLemmas.{same_input};
 
-    ghost hash_input = { λ config. fed.slice fed.bool config.lifted ++ O.State.hash_input config.state };
+    ghost hash_input = { λ config. fed_set config.lifted ++ O.State.hash_input config.state };
 
     ghost respects_eq = { λ x y same. same_input O.State.eq O.State.hash_input O.State.Hash.respects_eq x y same };
 
@@ -105,12 +106,12 @@ fn follows_later<O: SeqObject>(problem: &Problem<O>, set: &CallSet, call: usize)
     true
 }
 
-// Whether every call that returned before the call was called is in the set.
-fn is_preceded<O: SeqObject>(problem: &Problem<O>, set: &CallSet, call: usize) -> bool
+// Whether the call is not in the set while every call that returned before it was called is.
+fn is_minimal<O: SeqObject>(problem: &Problem<O>, set: &CallSet, call: usize) -> bool
     requires { call < length problem.now.calls }
-    ensures { IsTrue result ↔ ((a : ℕ) → Before (posed O.after O.State.eq O.Reply.eq problem.now) a call → has set.now a ≡ true) }
+    ensures { IsTrue result ↔ IsMinimal (posed O.after O.State.eq O.Reply.eq problem.now) set.now call }
 {
-    follows_earlier(problem, set, call) && follows_later(problem, set, call)
+    !set.has(call) && follows_earlier(problem, set, call) && follows_later(problem, set, call)
 }
 
 // The state after the call, where it has a step whose reply is the recorded one.
@@ -174,10 +175,27 @@ impl<O: SeqObject> Config<O> {
         ensures reachable { IfOk result (λ answer. IfSome answer (λ child. IsReachable (posed O.after O.State.eq O.Reply.eq problem.now) child.lifted child.state)) }
         ensures none { IfOk result (λ answer. IfNone answer ((t : O.State) → IsNext (posed O.after O.State.eq O.Reply.eq problem.now) self.now.lifted self.now.state call t → ⊥)) }
     {
-        lawful::<O>();
-        if self.lifted.has(call) || !is_preceded(problem, &self.lifted, call) {
-            return Ok(None);
+        if is_minimal(problem, &self.lifted, call) {
+            self.child_of_minimal(alloc, problem, call)
+        } else {
+            Ok(None)
         }
+    }
+
+    // `child` of a call that is minimal: its cost does not grow with the number of calls.
+    pub(crate) fn child_of_minimal(
+        &self,
+        alloc: Global,
+        problem: &Problem<O>,
+        call: usize,
+    ) -> Result<Option<Config<O>>, AllocError>
+        requires reachable { IsReachable (posed O.after O.State.eq O.Reply.eq problem.now) self.now.lifted self.now.state }
+        requires minimal { IsMinimal (posed O.after O.State.eq O.Reply.eq problem.now) self.now.lifted call }
+        ensures some { IfOk result (λ answer. IfSome answer (λ child. (child.lifted ≡ with_call self.now.lifted call) × IsNext (posed O.after O.State.eq O.Reply.eq problem.now) self.now.lifted self.now.state call child.state)) }
+        ensures reachable { IfOk result (λ answer. IfSome answer (λ child. IsReachable (posed O.after O.State.eq O.Reply.eq problem.now) child.lifted child.state)) }
+        ensures none { IfOk result (λ answer. IfNone answer ((t : O.State) → IsNext (posed O.after O.State.eq O.Reply.eq problem.now) self.now.lifted self.now.state call t → ⊥)) }
+    {
+        lawful::<O>();
         let Some(state) = state_after(alloc, problem, &self.state, call)? else {
             return Ok(None);
         };

@@ -1,13 +1,16 @@
-ghost use Rattle.std.specs.Prelude.{◌≡◌, ◌≤◌, ◌+◌, ◌⊎◌, Bool, List, true, IfOk, IfSome, IsTrue, IsSomeAnd};
+ghost use Rattle.std.specs.Prelude.{◌≡◌, ◌≤◌, ◌+◌, ◌⊎◌, Bool, List, length, true, IfOk, IfSome, IsTrue, IsSomeAnd};
 ghost use Rattle.lin_history.specs.Posed.{posed};
 ghost use Rattle.lin_history.specs.Configurations.{IsReachable};
 ghost use Rattle.lin_search.specs.Answer.{IsAnswer};
+ghost use Rattle.lin_search.specs.CallSet.{lifted_set};
 ghost use Rattle.lin_search.specs.Refuted.{IsRefutedWith};
 ghost use Rattle.lin_search.specs.Noted.{IsKept};
 ghost use Rattle.lin_search.specs.DepthFirst.{IsFinding, IsCounted, IsTold, EndsClosed};
 ghost use Rattle.lin_search.specs.declared.memo.Noted.TheVariants.{New};
 
 use crate::config::Config;
+use crate::entries::Entries;
+use crate::frame::{Frame, order_through};
 use crate::longest::Longest;
 use crate::memo::{Memo, Noted};
 use crate::outcome::Outcome;
@@ -87,8 +90,30 @@ fn count_lift(limit: Option<u64>, lifts: &mut u64) -> bool
     }
 }
 
+// The entries of the problem, from which the calls of the configuration are lifted.
+fn entries_at<'p, O: SeqObject>(
+    alloc: Global,
+    problem: &'p Problem<O>,
+    config: &Config<O>,
+) -> Result<Entries<'p, O>, AllocError>
+    requires { length config.now.lifted ≡ length problem.now.calls }
+    ensures problem { IfOk result (λ entries. entries.problem ≡ problem.now) }
+    ensures lifted { IfOk result (λ entries. lifted_set (posed O.after O.State.eq O.Reply.eq problem.now) entries.lifted ≡ config.now.lifted) }
+{
+    let mut entries = Entries::new(alloc, problem)?;
+    for call in 0..problem.len() {
+        if config.has(call) {
+            entries.lift(call);
+        }
+    }
+    Ok(entries)
+}
+
 // Searches a configuration and what it leads to, with the lifts counted so far. `here` tells that the
 // memo names the problem, so that it compares nothing.
+//
+// The frames are the configurations on the way, each with the call that leads on from it; `current` is where
+// they lead, and `candidate` the call that is tried next there.
 pub(crate) fn search_from<O: SeqObject, M: Memo<O>, S: Stop>(
     alloc: Global,
     problem: &Problem<O>,
@@ -111,7 +136,8 @@ pub(crate) fn search_from<O: SeqObject, M: Memo<O>, S: Stop>(
     ensures stop { S.follows stop.old stop.new }
     ensures told { IfOk result (λ ended. IsTold (S.tells stop.new) ended.outcome) }
 {
-    if config.is_complete(problem) {
+    let mut entries = entries_at(alloc, problem, &config)?;
+    if entries.is_complete() {
         return Ok(Ended {
             outcome: Outcome::Found(Order::new(Vec::new(alloc))),
             whole: true,
@@ -123,13 +149,31 @@ pub(crate) fn search_from<O: SeqObject, M: Memo<O>, S: Stop>(
             whole: true,
         });
     }
-    let mut longest = Longest {
-        more: 0,
-        first: None,
-    };
+    lawful::<O>();
+    let mut frames = Vec::with_capacity(alloc, problem.len())?;
     let mut whole = true;
-    for call in 0..problem.len() {
-        let Some(child) = config.child(alloc, problem, call)? else {
+    let mut current = config;
+    let mut longest = Longest::none();
+    let mut candidate = entries.first_minimal();
+    loop {
+        let Some(call) = candidate else {
+            let noted = note_at(problem, current, longest, memo, here);
+            whole = whole && noted.is_kept();
+            let Some(frame) = frames.pop() else {
+                return Ok(Ended {
+                    outcome: Outcome::Refuted(longest),
+                    whole,
+                });
+            };
+            let (left, call, before) = Frame::into_parts(frame);
+            current = left;
+            longest = before.or_after(call, longest);
+            entries.unlift(call);
+            candidate = entries.next_minimal(call);
+            continue;
+        };
+        let Some(child) = current.child_of_minimal(alloc, problem, call)? else {
+            candidate = entries.next_minimal(call);
             continue;
         };
         if !count_lift(limit, lifts) {
@@ -144,45 +188,24 @@ pub(crate) fn search_from<O: SeqObject, M: Memo<O>, S: Stop>(
                 whole,
             });
         }
-        let below = search_from(alloc, problem, child, memo, here, limit, lifts, stop)?;
-        whole = whole && below.whole;
-        match below.outcome {
-            Outcome::Found(order) => {
-                let mut calls = order.into_calls();
-                calls.insert(0, call)?;
-                return Ok(Ended {
-                    outcome: Outcome::Found(Order::new(calls)),
-                    whole,
-                });
-            }
-            Outcome::Undecided => {
-                return Ok(Ended {
-                    outcome: Outcome::Undecided,
-                    whole,
-                });
-            }
-            Outcome::Stopped(told) => {
-                return Ok(Ended {
-                    outcome: Outcome::Stopped(told),
-                    whole,
-                });
-            }
-            Outcome::Refuted(deep) => {
-                if longest.more < deep.more + 1 {
-                    longest = Longest {
-                        more: deep.more + 1,
-                        first: Some(call),
-                    };
-                }
-            }
+        entries.lift(call);
+        if entries.is_complete() {
+            return Ok(Ended {
+                outcome: Outcome::Found(order_through(alloc, frames.as_slice(), call)?),
+                whole,
+            });
         }
+        if let Some(deep) = look_at(problem, &child, memo, here) {
+            longest = longest.or_after(call, deep);
+            entries.unlift(call);
+            candidate = entries.next_minimal(call);
+            continue;
+        }
+        frames.push(Frame::new(current, call, longest))?;
+        current = child;
+        longest = Longest::none();
+        candidate = entries.first_minimal();
     }
-    lawful::<O>();
-    let noted = note_at(problem, config, longest, memo, here);
-    Ok(Ended {
-        outcome: Outcome::Refuted(longest),
-        whole: whole && noted.is_kept(),
-    })
 }
 
 /// The depth-first search from a configuration over a memo (Wing and Gong 1993; Lowe 2017): a complete

@@ -78,7 +78,7 @@ pub fn longest_run<O: SeqObject, M: Memo<O>>(
     let mut longest = longest_of(alloc, problem, &config, memo, here)?;
     while let Some(call) = longest.first {
         calls.push(call)?;
-        let Some(child) = config.child(alloc, problem, call)? else {
+        let Some(child) = config.child_of_minimal(alloc, problem, call)? else {
             unreachable!()
         };
         config = child;

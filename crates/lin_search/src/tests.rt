@@ -1,7 +1,10 @@
+mod call_sets;
 mod configurations;
+mod entries;
 mod fakes;
 mod limits;
 mod longest;
 mod memos;
 mod problems;
+mod random;
 mod searches;

@@ -6,7 +6,8 @@ use Rattle.lin_search.specs.FirstCallLemmas.{none_continues}
 use Rattle.lin_search.specs.AlikeLemmas.{like_completion}
 use Rattle.lin_search.specs.SameLemmas.{alike_itself}
 use Rattle.lin_search.proofs.Tried.{leads_down}
-use Rattle.lin_search.proofs.RunLemmas.{none_left, first_next, first_within, longest_step, none_after, alike_first, rest_next, rest_none}
+use Rattle.lin_search.proofs.FrameLemmas.{next_minimal}
+use Rattle.lin_search.proofs.RunLemmas.{none_left, first_next, longest_step, none_after, alike_first, rest_next, rest_none}
 use Rattle.lin_search.proofs.longest_runs.longest_run.Goals as goal
 
 pub longest_of-requires-clause-none : goal.longest_of-requires-clause-none
@@ -22,10 +23,10 @@ loop-longest-init g c = record {
   memo = c.longest_of.ensures.memo;
 }
 
-pub child-requires-clause-call : goal.child-requires-clause-call
-child-requires-clause-call g c =
-    let within = first_within _ _ _ c.loop-longest.invariant.reachable.flags _ _ (rw c.in-Some.is at c.loop-longest.invariant.longest) in
-    omega (arith, within)
+pub child_of_minimal-requires-clause-minimal : goal.child_of_minimal-requires-clause-minimal
+child_of_minimal-requires-clause-minimal g c =
+    let next = first_next _ _ _ c.loop-longest.invariant.reachable.flags _ _ (rw c.in-Some.is at c.loop-longest.invariant.longest) in
+    next_minimal _ _ _ _ _ next.1
 
 pub unreachable-requires : goal.unreachable-requires
 unreachable-requires g c =

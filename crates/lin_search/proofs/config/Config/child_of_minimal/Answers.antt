@@ -1,7 +1,7 @@
 use Rattle.std.proofs.Common.{rules}
 use Rattle.lin_search.specs.ReachableLemmas.{reachable_child}
 use Rattle.lin_search.specs.SameLemmas.{alike_itself}
-use Rattle.lin_search.proofs.config.Config.child.Goals as goal
+use Rattle.lin_search.proofs.config.Config.child_of_minimal.Goals as goal
 
 pub returns-clause-reachable : goal.returns-clause-reachable
 returns-clause-reachable g c =
