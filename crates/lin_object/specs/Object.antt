@@ -39,6 +39,11 @@ counter_step value (Add d) = if is_in_range (value +ℤ d) then Some (Counter (v
 counter_step value Get = Some (Counter value, Int value)
 counter_step value op = None
 
+-- What taking the first item out replies.
+abbrev pub reply_to_first : List ℤ → Reply
+reply_to_first [] = Empty
+reply_to_first (v ∷ items) = Int v
+
 -- A queue, oldest item first: enq(v) puts an item last, deq() takes the oldest out.
 abbrev pub queue_step : List ℤ → Op → Option (ObjState × Reply)
 queue_step items (Enqueue v) = Some (Queue (items ++ v ∷ []), Okay)

@@ -1,5 +1,6 @@
 ghost use Rattle.std.specs.Prelude.{◌≡◌, IfOk};
-ghost use Rattle.lin_object.specs.Object.{register_step, counter_step, queue_step, stack_step, set_step, mutex_step};
+ghost use Rattle.lin_object.specs.Step.{reply_in};
+ghost use Rattle.lin_object.specs.Object.{after as step_of, reply_to_first, register_step, counter_step, queue_step, stack_step, set_step, mutex_step};
 
 use crate::items::Items;
 use crate::object::SeqObject;
@@ -40,6 +41,16 @@ fn counter_answer(value: i64, op: &Op) -> Answer
     }
 }
 
+// What taking the first item out replies.
+fn first_reply(items: &Items) -> Reply
+    ensures { result ≡ reply_to_first items.now }
+{
+    match items.first() {
+        Some(item) => Reply::Int(item),
+        None => Reply::Empty,
+    }
+}
+
 fn queue_answer(alloc: Global, items: &Items, op: &Op) -> Result<Answer, AllocError>
     ensures { IfOk result (λ answer. answer ≡ queue_step items.now op.now) }
 {
@@ -49,10 +60,7 @@ fn queue_answer(alloc: Global, items: &Items, op: &Op) -> Result<Answer, AllocEr
             Reply::Okay,
         ))),
         Op::Dequeue => {
-            let reply = match items.first() {
-                Some(item) => Reply::Int(item),
-                None => Reply::Empty,
-            };
+            let reply = first_reply(items);
             Ok(Some((ObjState::Queue(items.without_first(alloc)?), reply)))
         }
         _ => Ok(None),
@@ -68,10 +76,7 @@ fn stack_answer(alloc: Global, items: &Items, op: &Op) -> Result<Answer, AllocEr
             Reply::Okay,
         ))),
         Op::Pop => {
-            let reply = match items.first() {
-                Some(item) => Reply::Int(item),
-                None => Reply::Empty,
-            };
+            let reply = first_reply(items);
             Ok(Some((ObjState::Stack(items.without_first(alloc)?), reply)))
         }
         _ => Ok(None),
@@ -128,6 +133,51 @@ fn mutex_answer(holder: Option<u32>, process: u32, op: &Op) -> Answer
     }
 }
 
+// What a step of a queue replies, without its next state. Below, the same for stacks and sets.
+fn queue_reply(items: &Items, op: &Op) -> Option<Reply>
+    ensures { result ≡ reply_in (queue_step items.now op.now) }
+{
+    match op {
+        Op::Enqueue(_) => Some(Reply::Okay),
+        Op::Dequeue => Some(first_reply(items)),
+        _ => None,
+    }
+}
+
+fn stack_reply(items: &Items, op: &Op) -> Option<Reply>
+    ensures { result ≡ reply_in (stack_step items.now op.now) }
+{
+    match op {
+        Op::Push(_) => Some(Reply::Okay),
+        Op::Pop => Some(first_reply(items)),
+        _ => None,
+    }
+}
+
+fn set_reply(items: &Items, op: &Op) -> Option<Reply>
+    ensures { result ≡ reply_in (set_step items.now op.now) }
+{
+    match op {
+        Op::Insert(item) => Some(Reply::Flag(!items.has(*item))),
+        Op::Remove(item) | Op::Contains(item) => Some(Reply::Flag(items.has(*item))),
+        _ => None,
+    }
+}
+
+// What the step replies. It needs no memory: no state with items is made.
+fn reply_of(state: &ObjState, process: u32, op: &Op) -> Option<Reply>
+    ensures { result ≡ reply_in (step_of state.now process op.now) }
+{
+    match state {
+        ObjState::Register(value) => register_answer(*value, op).map(|(_, reply)| reply),
+        ObjState::Counter(value) => counter_answer(*value, op).map(|(_, reply)| reply),
+        ObjState::Queue(items) => queue_reply(items, op),
+        ObjState::Stack(items) => stack_reply(items, op),
+        ObjState::Set(items) => set_reply(items, op),
+        ObjState::Mutex(holder) => mutex_answer(*holder, process, op).map(|(_, reply)| reply),
+    }
+}
+
 // The same state.
 fn copied(alloc: Global, state: &ObjState) -> Result<ObjState, AllocError>
     ensures { IfOk result (λ copy. copy ≡ state.now) }
@@ -172,6 +222,22 @@ impl SeqObject for AnyObject {
             ObjState::Stack(items) => stack_answer(alloc, items, op),
             ObjState::Set(items) => set_answer(alloc, items, op),
             ObjState::Mutex(holder) => Ok(mutex_answer(*holder, process, op)),
+        }
+    }
+
+    fn step_with(
+        &self,
+        alloc: Global,
+        state: &ObjState,
+        process: u32,
+        op: &Op,
+        reply: &Reply,
+    ) -> Result<Option<ObjState>, AllocError> {
+        match reply_of(state, process, op) {
+            Some(answered) if answered == *reply => {
+                Ok(self.step(alloc, state, process, op)?.map(|(next, _)| next))
+            }
+            _ => Ok(None),
         }
     }
 

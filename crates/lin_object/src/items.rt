@@ -71,6 +71,17 @@ fn place_of(items: &[i64], item: i64) -> usize
     first_greater(items, item).unwrap_or(items.len())
 }
 
+// The items in front, this one, and the items behind it. Room for all of them is made at once.
+fn joined(alloc: Global, front: &[i64], item: i64, behind: &[i64]) -> Result<Items, AllocError>
+    ensures { IfOk result (λ items. items ≡ front.now ++ item ∷ behind.now) }
+{
+    let mut items = Vec::with_capacity(alloc, front.len() + behind.len() + 1)?;
+    items.extend_from_slice(front)?;
+    items.push(item)?;
+    items.extend_from_slice(behind)?;
+    Ok(Items { items })
+}
+
 impl Items {
     ghost use Rattle.std.specs.Prelude.{drop};
     ghost use Rattle.lin_object.specs.Items.{is_in, with_in_order, without};
@@ -96,18 +107,14 @@ impl Items {
     pub fn with_last(&self, alloc: Global, item: i64) -> Result<Items, AllocError>
         ensures { IfOk result (λ items. items ≡ self.now ++ item ∷ []) }
     {
-        let mut items = Vec::from_slice(alloc, self.items.as_slice())?;
-        items.push(item)?;
-        Ok(Items { items })
+        joined(alloc, self.items.as_slice(), item, &[])
     }
 
     /// This item, and the items behind it.
     pub fn with_first(&self, alloc: Global, item: i64) -> Result<Items, AllocError>
         ensures { IfOk result (λ items. items ≡ item ∷ self.now) }
     {
-        let mut items = Vec::from_slice(alloc, &[item])?;
-        items.extend_from_slice(self.items.as_slice())?;
-        Ok(Items { items })
+        joined(alloc, &[], item, self.items.as_slice())
     }
 
     /// The first item, where there is one.
@@ -139,21 +146,17 @@ impl Items {
     pub fn with_in_order(&self, alloc: Global, item: i64) -> Result<Items, AllocError>
         ensures { IfOk result (λ items. items ≡ with_in_order item self.now) }
     {
-        let mut items = Vec::from_slice(alloc, self.items.as_slice())?;
-        items.insert(place_of(self.items.as_slice(), item), item)?;
-        Ok(Items { items })
+        let items = self.items.as_slice();
+        let (front, behind) = items.split_at(place_of(items, item));
+        joined(alloc, front, item, behind)
     }
 
     /// The items that are not this one.
     pub fn without(&self, alloc: Global, item: i64) -> Result<Items, AllocError>
         ensures { IfOk result (λ items. items ≡ without item self.now) }
     {
-        let items = self
-            .items
-            .iter()
-            .copied()
-            .filter(|other| *other != item)
-            .collect(alloc)?;
+        let mut items = Vec::from_slice(alloc, self.items.as_slice())?;
+        items.retain(|other| *other != item);
         Ok(Items { items })
     }
 }

@@ -1,5 +1,5 @@
 ghost use Rattle.std.specs.Prelude.{◌≡◌, ℕ, Bool, true, Option, IfOk};
-ghost use Rattle.lin_object.specs.Step.{SameStep};
+ghost use Rattle.lin_object.specs.Step.{SameStep, state_with};
 ghost use Rattle.lin_object.specs.Lawful.{IsLawful};
 
 use std::alloc::{AllocError, Global};
@@ -32,6 +32,31 @@ pub trait SeqObject: Eq + Drop {
         op: &Self::Op,
     ) -> Result<Option<(Self::State, Self::Reply)>, AllocError>
         ensures { IfOk result (λ answer. answer ≡ after self.now state.now process op.now) };
+
+    /// The next state, where the object has a step whose reply equals this one; `None` where it has none.
+    /// `AllocError` where memory for the next state was refused.
+    ///
+    /// An object that can tell the reply before it makes the next state does better with a body of its
+    /// own: most calls that a search tries have another reply than the recorded one.
+    fn step_with(
+        &self,
+        alloc: Global,
+        state: &Self::State,
+        process: u32,
+        op: &Self::Op,
+        reply: &Self::Reply,
+    ) -> Result<Option<Self::State>, AllocError>
+        ensures { IfOk result (λ answer. answer ≡ state_with Self.Reply.eq reply.now (after self.now state.now process op.now)) }
+    {
+        let Some((next, answered)) = self.step(alloc, state, process, op)? else {
+            return Ok(None);
+        };
+        if answered == *reply {
+            Ok(Some(next))
+        } else {
+            Ok(None)
+        }
+    }
 
     /// A state equal to this one. `AllocError` where memory for it was refused.
     fn copy_state(&self, alloc: Global, state: &Self::State) -> Result<Self::State, AllocError>

@@ -322,6 +322,116 @@ fn operations_of_another_kind(rt: HostRuntime) -> Result<(), Fail> {
 }
 
 #[test]
+fn steps_with_a_reply(rt: HostRuntime) -> Result<(), Fail> {
+    let alloc = rt.alloc();
+    let one = ObjState::Queue(Items::none(alloc).with_last(alloc, 2)?);
+    let two = ObjState::Queue(Items::none(alloc).with_last(alloc, 1)?.with_last(alloc, 2)?);
+    let next = AnyObject.step_with(alloc, &two, 1, &Op::Dequeue, &Reply::Int(1))?;
+    assert_eq!(rt; next, Some(one));
+    let next = AnyObject.step_with(alloc, &two, 1, &Op::Dequeue, &Reply::Int(2))?;
+    assert_eq!(rt; next, None);
+    let next = AnyObject.step_with(alloc, &two, 1, &Op::Dequeue, &Reply::Empty)?;
+    assert_eq!(rt; next, None);
+    let next = AnyObject.step_with(alloc, &two, 1, &Op::Pop, &Reply::Int(1))?;
+    assert_eq!(rt; next, None);
+    Ok(())
+}
+
+// An object that compares the reply of a step after the step.
+#[derive(PartialEq, Eq, Drop)]
+struct Stepwise;
+
+impl SeqObject for Stepwise {
+    ghost use Rattle.lin_object.specs.Object.{after as step_of};
+
+    type State = ObjState;
+
+    type Op = Op;
+
+    type Reply = Reply;
+
+    ghost after = { λ _ state process op. step_of state process op };
+
+    fn step(
+        &self,
+        alloc: Global,
+        state: &ObjState,
+        process: u32,
+        op: &Op,
+    ) -> Result<Option<(ObjState, Reply)>, AllocError> {
+        AnyObject.step(alloc, state, process, op)
+    }
+
+    fn copy_state(&self, alloc: Global, state: &ObjState) -> Result<ObjState, AllocError> {
+        AnyObject.copy_state(alloc, state)
+    }
+
+    ghost use Rattle.lin_object.specs.Alike.{alike};
+
+    ghost steps_alike = { λ x y s t process a b same_object same_state same_op. alike s t process a b same_state same_op };
+}
+
+#[test]
+fn steps_with_every_reply(rt: HostRuntime) -> Result<(), Fail> {
+    let alloc = rt.alloc();
+    let calls = [
+        (1, Op::Enqueue(3)),
+        (1, Op::Push(3)),
+        (1, Op::Insert(3)),
+        (1, Op::Lock),
+        (1, Op::Add(3)),
+    ];
+    let ops = [
+        Op::Write(5),
+        Op::Read,
+        Op::Cas(3, 5),
+        Op::Cas(5, 3),
+        Op::Add(1),
+        Op::Get,
+        Op::Enqueue(5),
+        Op::Dequeue,
+        Op::Push(5),
+        Op::Pop,
+        Op::Insert(3),
+        Op::Insert(5),
+        Op::Remove(3),
+        Op::Remove(5),
+        Op::Contains(3),
+        Op::Contains(5),
+        Op::Lock,
+        Op::Unlock,
+        Op::TryLock,
+    ];
+    let replies = [
+        Reply::Okay,
+        Reply::Int(3),
+        Reply::Flag(true),
+        Reply::Flag(false),
+        Reply::Empty,
+    ];
+    for kind in [
+        Kind::Register,
+        Kind::Counter,
+        Kind::Queue,
+        Kind::Stack,
+        Kind::Set,
+        Kind::Mutex,
+    ] {
+        let start = start_state(alloc, kind, 3);
+        let (later, _) = run(alloc, start_state(alloc, kind, 0), &calls)?;
+        for state in [&start, &later] {
+            for op in &ops {
+                for reply in &replies {
+                    let next = AnyObject.step_with(alloc, state, 1, op, reply)?;
+                    assert_eq!(rt; next, Stepwise.step_with(alloc, state, 1, op, reply)?);
+                }
+            }
+        }
+    }
+    Ok(())
+}
+
+#[test]
 fn copies_of_states(rt: HostRuntime) -> Result<(), Fail> {
     let alloc = rt.alloc();
     let calls = [

@@ -125,21 +125,13 @@ fn state_after<O: SeqObject>(
     ensures { IfOk result (λ answer. answer ≡ next (posed O.after O.State.eq O.Reply.eq problem.now) state.now call) }
 {
     let taken = problem.call(call);
-    let Some((state, reply)) = problem
-        .object()
-        .step(alloc, state, taken.process, &taken.op)?
-    else {
-        return Ok(None);
-    };
+    let object = problem.object();
     match &taken.returned {
-        None => Ok(Some(state)),
-        Some((_, recorded)) => {
-            if reply == *recorded {
-                Ok(Some(state))
-            } else {
-                Ok(None)
-            }
+        None => {
+            let answer = object.step(alloc, state, taken.process, &taken.op)?;
+            Ok(answer.map(|(next, _)| next))
         }
+        Some((_, recorded)) => object.step_with(alloc, state, taken.process, &taken.op, recorded),
     }
 }
 
