@@ -1,5 +1,5 @@
 -- A set of calls that is filled up to another, call by call.
-use Rattle.std.proofs.Common.{◌≡◌, ◌≢◌, ℕ, zero, suc, ◌+◌, ◌<◌, ◌≤◌, Bool, true, false, List, [], ◌∷◌, ◌++◌, length, replicate, ◌⊎◌, inl, inr, refl, sym, ◌∙◌, ap, arith}
+use Rattle.std.proofs.Common.{◌≡◌, ◌≢◌, ℕ, zero, suc, ◌+◌, ◌<◌, ◌≤◌, Bool, true, false, List, [], ◌∷◌, ◌++◌, length, replicate, ◌⊎◌, inl, inr, refl, sym, ◌∙◌, arith}
 use Rattle.std.proofs.lemmas.List.{length-set}
 use Rattle.lin_history.specs.Posed.{Posed}
 use Rattle.lin_history.specs.Continuations.{has, no_calls}
@@ -13,15 +13,6 @@ pub record IsFilledTo (set whole : List Bool) (i : ℕ) : Type 0 where
   pub seen : (a : ℕ) → a < i → has set a ≡ has whole a
   pub unseen : (a : ℕ) → i ≤ a → has set a ≡ false
 
-none_has : (n a : ℕ) → has (replicate n false) a ≡ false
-none_has zero a = refl
-none_has (suc n) zero = refl
-none_has (suc n) (suc a) = none_has n a
-
-length_none : (n : ℕ) → length (replicate n false) ≡ n
-length_none zero = refl
-length_none (suc n) = ap suc (length_none n)
-
 past_end : (set : List Bool) (a : ℕ) → length set ≤ a → has set a ≡ false
 past_end [] a h = refl
 past_end (x ∷ set) zero h = absurd (omega (arith, h))
@@ -32,13 +23,6 @@ less_or_last a i h = grind arith
 
 less_or_not : (a i : ℕ) → (a < i) ⊎ (i ≤ a)
 less_or_not a i = grind arith
-
-pub filled_start : (whole : List Bool) (n : ℕ) → length whole ≡ n → IsFilledTo (replicate n false) whole 0
-filled_start whole n e = record {
-  flags = length_none n ∙ sym e;
-  seen = λ a h. absurd (omega (arith, h));
-  unseen = λ a h. none_has n a;
-}
 
 pub filled_skip : (set whole : List Bool) (i : ℕ) → has whole i ≡ false → IsFilledTo set whole i → IsFilledTo set whole (i + 1)
 filled_skip set whole i e k = record {

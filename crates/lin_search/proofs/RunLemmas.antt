@@ -5,7 +5,7 @@ use Rattle.lin_history.specs.Continuations.{IsContinuation, IsCompletion}
 use Rattle.lin_search.specs.CallSet.{with_call}
 use Rattle.lin_search.specs.Next.{IsNext}
 use Rattle.lin_search.specs.LongestRun.{IsFirstLongest}
-use Rattle.lin_search.specs.FirstCallLemmas.{continuation_split, continuation_join, completion_join, next_one, next_within}
+use Rattle.lin_search.specs.FirstCallLemmas.{continuation_split, continuation_join, completion_join, next_one}
 use Rattle.lin_search.specs.AlikeLemmas.{AreAlike, turned, like_continuation}
 
 -- a longest list with no first call is empty

@@ -1,5 +1,5 @@
 use Rattle.std.proofs.Common.{◌≡◌, ℕ, suc, ◌+◌, ◌-◌, Option, Some, None, ◌<◌, ◌≤◌, Bool, List, [], ◌∷◌, ◌++◌, length, ◌⊎◌, inl, inr, refl, sym, ◌∙◌, ap, subst, arith, length-append}
-use Rattle.std.specs.Prelude.{IfSome, IsSome, IsSomeAnd}
+use Rattle.std.specs.Prelude.{IsSomeAnd}
 use Rattle.lin_history.specs.Posed.{Posed}
 use Rattle.lin_history.specs.Continuations.{IsContinuation}
 use Rattle.lin_search.specs.CallSet.{with_call}

@@ -62,10 +62,9 @@ fn replayed(alloc: Global, problem: &Register, order: &Order) -> Result<WholeOrd
             break;
         }
         let taken = problem.call(*call);
-        let Some((next, reply)) =
-            problem
-                .object()
-                .step(alloc, &state, taken.process, &taken.op)?
+        let Some((next, reply)) = problem
+            .object()
+            .step(alloc, &state, taken.process, &taken.op)?
         else {
             break;
         };

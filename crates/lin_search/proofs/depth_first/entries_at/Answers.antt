@@ -1,4 +1,4 @@
-use Rattle.std.proofs.Common.{◌≡◌, sym, ◌∙◌, arith}
+use Rattle.std.proofs.Common.{sym, ◌∙◌, arith}
 use Rattle.lin_history.specs.Posed.{posed}
 use Rattle.lin_search.proofs.FilledLemmas.{filled_skip, filled_lifted, filled_all}
 use Rattle.lin_search.proofs.FrameLemmas.{kept_problem}

@@ -1,4 +1,4 @@
-use Rattle.std.proofs.Common.{ap, ◌≡◌, ℕ, ◌∷◌, ◌++◌, [], List, true≢false, arith, sym, ◌∙◌, refl, subst, append-nil}
+use Rattle.std.proofs.Common.{ap, ◌≡◌, ℕ, ◌∷◌, ◌++◌, [], List, true≢false, arith, sym, ◌∙◌, subst, append-nil}
 use Rattle.lin_history.specs.Posed.{posed}
 use Rattle.lin_history.specs.Continuations.{IsContinuation, no_calls}
 use Rattle.lin_search.specs.CallSet.{with_calls}

@@ -1,6 +1,6 @@
-use Rattle.std.proofs.Common.{ℕ, ◌+◌, ◌≤◌, ◌≡◌, ◌++◌, true, List, Bool, length}
+use Rattle.std.proofs.Common.{ℕ, ◌≤◌, ◌≡◌, ◌++◌, true, List, length}
 use Rattle.std.specs.Prelude.{IfSome, IsSome}
-use Rattle.lin_history.specs.Posed.{posed, Posed}
+use Rattle.lin_history.specs.Posed.{posed}
 use Rattle.lin_history.specs.Continuations.{no_calls}
 use Rattle.lin_search.specs.CallSet.{with_calls}
 use Rattle.lin_search.specs.Frames.{calls_of}

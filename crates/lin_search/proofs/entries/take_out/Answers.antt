@@ -1,4 +1,3 @@
-use Rattle.std.proofs.Common.{ap, ◌∙◌, Some, Option, ℕ}
 use Rattle.lin_search.proofs.entries.take_out.Goals as goal
 
 pub take_out-requires-in-Some : goal.take_out-requires-in-Some

@@ -1,4 +1,3 @@
-use Rattle.std.proofs.Common.{arith}
 use Rattle.lin_history.specs.Posed.{posed}
 use Rattle.lin_history.specs.Linearizations.{IsRun}
 use Rattle.lin_search.specs.LongestRun.{IsFirstLongest}

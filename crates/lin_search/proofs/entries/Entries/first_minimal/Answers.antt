@@ -1,9 +1,4 @@
-use Rattle.std.proofs.Common.{◌≡◌, ◌<◌, ◌-◌, ◌∙◌, sym, ap, subst, ℕ, Option}
-use Rattle.std.specs.List.{slice_get}
 use Rattle.lin_history.specs.Posed.{posed}
-use Rattle.lin_search.specs.CallSet.{lifted_set}
-use Rattle.lin_search.specs.Entries.{IsLeastMinimal}
-use Rattle.lin_search.specs.Entered.{called_at}
 use Rattle.lin_search.proofs.EntriesLemmas.{first_inside, first_above, first_least}
 use Rattle.lin_search.proofs.entries.Entries.first_minimal.Goals as goal
 

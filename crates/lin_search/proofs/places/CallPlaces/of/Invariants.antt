@@ -1,5 +1,3 @@
-use Rattle.std.proofs.Common.{◌≡◌, ℕ, ◌+◌, ◌<◌, Some, length}
-use Rattle.std.specs.List.{slice_get}
 use Rattle.lin_search.proofs.PlacesLemmas.{ArePlacesBelow}
 use Rattle.lin_search.proofs.places.CallPlaces.of.Given as goal
 
