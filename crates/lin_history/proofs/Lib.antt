@@ -11,5 +11,6 @@ pub mod KeptLemmas
 pub mod PlacingLemmas
 pub mod VerifyingLemmas
 pub mod IndexLemmas
+pub mod PartCallsLemmas
 pub mod JoiningLemmas
 pub mod Rows

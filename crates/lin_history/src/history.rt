@@ -1,8 +1,9 @@
-ghost use Rattle.std.specs.Prelude.{◌≡◌, ◌<◌, Some, length, map, filter, take, option_map, slice_get, IfOk};
-ghost use Rattle.lin_history.specs.Recorded.{is_on};
+ghost use Rattle.std.specs.Prelude.{◌≡◌, ℕ, ◌<◌, Some, length, map, take, option_map, slice_get, IfOk};
 ghost use Rattle.lin_history.specs.Seen.{call_seen, object_seen};
-ghost use Rattle.lin_history.specs.Parts.{start_of, problem_call, part_calls};
+ghost use Rattle.lin_history.specs.Parts.{start_of, part_calls};
+ghost use Rattle.lin_history.specs.Joined.{indices_from};
 
+use crate::indices::{indices_of_all, indices_on};
 use crate::problem::{Problem, ProblemCall};
 use indexmap::IndexMap;
 use lin_object::{AnyObject, Kind, Op, Reply, start_state};
@@ -81,27 +82,6 @@ impl Model for History {
     ghost invariant = { λ h. IsHistory (record { objects = map object_seen h.objects.entries; calls = map call_seen h.calls.items; events = h.events }) × AreNumbered h.calls.items };
 }
 
-fn part_of(
-    alloc: Global,
-    calls: &[CallInfo],
-    object: usize,
-) -> Result<Vec<ProblemCall<Op, Reply>>, AllocError>
-    ensures { IfOk result (λ part. part.items ≡ map problem_call (filter (is_on object) (map call_seen calls.now))) }
-{
-    let mut part = Vec::new(alloc);
-    for call in calls {
-        if call.object == object {
-            part.push(ProblemCall {
-                process: call.process,
-                op: call.op,
-                called: call.called,
-                returned: call.returned,
-            })?;
-        }
-    }
-    Ok(part)
-}
-
 fn object_at(objects: &IndexMap<String, Declaration>, object: usize) -> ObjectInfo<'_>
     requires { object < length objects.now.entries }
     ensures { slice_get (map object_seen objects.now.entries) object ≡ Some (record { name = result.name.now; kind = result.kind; start = result.start }) }
@@ -112,6 +92,34 @@ fn object_at(objects: &IndexMap<String, Declaration>, object: usize) -> ObjectIn
         kind: declared.kind,
         start: declared.start,
     }
+}
+
+// The part of the history on the object of this index, where the indices of the object's calls are known. Conditions:
+// the object is declared, and these are the indices of its calls.
+fn problem_at(
+    alloc: Global,
+    history: &History,
+    object: usize,
+    indices: &[usize],
+) -> Result<Problem<AnyObject>, AllocError>
+    requires object { object < length history.now.objects }
+    requires indices { indices.now ≡ indices_from object 0 history.now.calls }
+    ensures start { IfOk result (λ problem. option_map start_of (slice_get history.now.objects object) ≡ Some problem.start) }
+    ensures calls { IfOk result (λ problem. problem.calls ≡ part_calls history.now object) }
+{
+    let mut calls = Vec::with_capacity(alloc, indices.len())?;
+    for index in indices {
+        let call = history.call(*index);
+        calls.push(ProblemCall {
+            process: call.process,
+            op: call.op,
+            called: call.called,
+            returned: call.returned,
+        })?;
+    }
+    let declared = object_at(&history.objects, object);
+    let start = start_state(alloc, declared.kind, declared.start);
+    Ok(Problem::with_calls(AnyObject, start, calls))
 }
 
 impl History {
@@ -177,12 +185,22 @@ impl History {
         ensures start { IfOk result (λ problem. option_map start_of (slice_get self.now.objects object) ≡ Some problem.start) }
         ensures calls { IfOk result (λ problem. problem.calls ≡ part_calls self.now object) }
     {
-        let declared = self.object(object);
-        let calls = part_of(alloc, self.calls.as_slice(), object)?;
-        Ok(Problem::with_calls(
-            AnyObject,
-            start_state(alloc, declared.kind, declared.start),
-            calls,
-        ))
+        let indices = indices_on(alloc, self, object)?;
+        problem_at(alloc, self, object, indices.as_slice())
+    }
+
+    /// The parts of the history on all objects, in the order of declaration; it walks the calls once.
+    pub fn problems(&self, alloc: Global) -> Result<Vec<Problem<AnyObject>>, AllocError>
+        ensures count { IfOk result (λ problems. length problems.items ≡ length self.now.objects) }
+        ensures starts { IfOk result (λ problems. (object : ℕ) (problem : _) → slice_get problems.items object ≡ Some problem → option_map start_of (slice_get self.now.objects object) ≡ Some problem.start) }
+        ensures calls { IfOk result (λ problems. (object : ℕ) (problem : _) → slice_get problems.items object ≡ Some problem → problem.calls ≡ part_calls self.now object) }
+    {
+        let lists = indices_of_all(alloc, self)?;
+        let mut problems = Vec::with_capacity(alloc, lists.len())?;
+        for object in 0..lists.len() {
+            let indices = lists[object].as_slice();
+            problems.push(problem_at(alloc, self, object, indices)?)?;
+        }
+        Ok(problems)
     }
 }

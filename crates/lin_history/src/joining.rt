@@ -2,11 +2,12 @@ ghost use Rattle.std.specs.Prelude.{◌≡◌, ℕ, ◌<◌, ◌++◌, List, Som
 ghost use Rattle.lin_history.specs.Linearizations.{IsLinearization};
 ghost use Rattle.lin_history.specs.Whole.{IsLinearizationOfWhole};
 ghost use Rattle.lin_history.specs.Flagged.{AreKnown};
-ghost use Rattle.lin_history.specs.Joined.{indices_from, IsJoined};
+ghost use Rattle.lin_history.specs.Joined.{IsJoined};
 ghost use Rattle.lin_history.specs.Points.{placed_of, with_points, has_point, Rise, AreOrders};
 ghost use Rattle.lin_history.specs.WholeOf.{whole_of, part_of};
 
 use crate::history::History;
+use crate::indices::indices_of_all;
 use crate::order::Order;
 use crate::placed::{Placed, WholeOrder};
 use crate::placing::place_at;
@@ -17,41 +18,6 @@ use std::alloc::{AllocError, Global};
 struct Pointed {
     point: u32,
     placed: Placed,
-}
-
-// That many lists with nothing in them, one for each object.
-fn empty_lists(alloc: Global, count: usize) -> Result<Vec<Vec<usize>>, AllocError>
-    ensures count { IfOk result (λ lists. length lists.items ≡ count) }
-    ensures empty { IfOk result (λ lists. (object : ℕ) (v : _) → slice_get lists.items object ≡ Some v → v.items ≡ []) }
-{
-    let mut lists = Vec::with_capacity(alloc, count)?;
-    for _ in 0..count {
-        lists.push(Vec::new(alloc))?;
-    }
-    Ok(lists)
-}
-
-// Appends the index to the object's list.
-fn add_index(lists: &mut [Vec<usize>], object: usize, index: usize) -> Result<(), AllocError>
-    requires { object < length lists.old }
-    ensures count { length lists.new ≡ length lists.old }
-    ensures own { OnOk result ((v : _) (w : _) → slice_get lists.old object ≡ Some v → slice_get lists.new object ≡ Some w → w.items ≡ v.items ++ index ∷ []) }
-    ensures others { OnOk result ((other : ℕ) → (other ≡ object → ⊥) → slice_get lists.new other ≡ slice_get lists.old other) }
-{
-    lists[object].push(index)?;
-    Ok(())
-}
-
-// For each object the indices of its calls, by one walk over the calls.
-fn indices_of_all(alloc: Global, history: &History) -> Result<Vec<Vec<usize>>, AllocError>
-    ensures count { IfOk result (λ lists. length lists.items ≡ length history.now.objects) }
-    ensures each { IfOk result (λ lists. (object : ℕ) (v : _) → slice_get lists.items object ≡ Some v → v.items ≡ indices_from object 0 history.now.calls) }
-{
-    let mut lists = empty_lists(alloc, history.object_count())?;
-    for index in 0..history.call_count() {
-        add_index(lists.as_mut_slice(), history.call(index).object, index)?;
-    }
-    Ok(lists)
 }
 
 // Appends the calls of one object's order, each with its point.

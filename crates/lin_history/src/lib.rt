@@ -5,6 +5,7 @@
 mod builder;
 mod fault;
 mod history;
+mod indices;
 mod joining;
 mod name;
 mod order;

@@ -5,23 +5,11 @@ ghost use Rattle.lin_history.specs.Joined.{indices_from, Places};
 ghost use Rattle.lin_history.specs.WholeOf.{whole_of, part_of, start_at};
 
 use crate::history::History;
+use crate::indices::indices_on;
 use crate::order::Order;
 use crate::placed::Placed;
 use lin_object::{AnyObject, SeqObject, start_state};
 use std::alloc::{AllocError, Global};
-
-// The indices of the calls on the object.
-fn indices_on(alloc: Global, history: &History, object: usize) -> Result<Vec<usize>, AllocError>
-    ensures { IfOk result (λ indices. indices.items ≡ indices_from object 0 history.now.calls) }
-{
-    let mut indices = Vec::new(alloc);
-    for index in 0..history.call_count() {
-        if history.call(index).object == object {
-            indices.push(index)?;
-        }
-    }
-    Ok(indices)
-}
 
 /// The calls of one object's order, by their indices in the history, each with the reply of its step, where the indices
 /// of the object's calls are known. `AllocError` where memory was refused.

@@ -416,6 +416,32 @@ fn linearizations_of_two_objects_are_verified(rt: HostRuntime) -> Result<(), Fai
 }
 
 #[test]
+fn the_parts_on_all_objects_have_their_calls(rt: HostRuntime) -> Result<(), Fail> {
+    let history = crossed(rt.alloc())?.finish();
+    let problems = history.problems(rt.alloc())?;
+    assert_eq!(rt; problems.len(), 2);
+    let on_x = &problems[0];
+    assert_eq!(rt; on_x.len(), 2);
+    let read_x = ProblemCall {
+        process: 2,
+        op: Op::Read,
+        called: 4,
+        returned: Some((5, Reply::Int(0))),
+    };
+    assert!(rt; *on_x.call(1) == read_x);
+    let on_y = &problems[1];
+    assert_eq!(rt; on_y.len(), 2);
+    let read_y = ProblemCall {
+        process: 2,
+        op: Op::Read,
+        called: 6,
+        returned: Some((7, Reply::Int(7))),
+    };
+    assert!(rt; *on_y.call(1) == read_y);
+    Ok(())
+}
+
+#[test]
 fn an_order_by_call_events_alone_is_not_verified(rt: HostRuntime) -> Result<(), Fail> {
     let history = crossed(rt.alloc())?.finish();
     let by_calls = [

@@ -1,7 +1,7 @@
 use Rattle.std.proofs.Common.{◌∙◌, ℕ, Vec, Global, length, arith, drop}
 use Rattle.lin_history.specs.Seen.{call_seen}
 use Rattle.lin_history.proofs.IndexLemmas.{written_over, indices_none, indices_next, indices_done}
-use Rattle.lin_history.proofs.joining.indices_of_all.Goals as goal
+use Rattle.lin_history.proofs.indices.indices_of_all.Goals as goal
 
 pub loop-index-init : goal.loop-index-init
 loop-index-init c =

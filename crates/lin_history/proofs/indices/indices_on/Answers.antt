@@ -1,7 +1,7 @@
 use Rattle.lin_history.specs.Seen.{call_seen}
 use Rattle.lin_history.proofs.PlacingLemmas.{index_pushed, index_kept}
-use Rattle.lin_history.proofs.placing.indices_on.Goals as goal
-use Rattle.lin_history.proofs.placing.indices_on.Goals.{then-call-object+in_ok-push, else-call-object}
+use Rattle.lin_history.proofs.indices.indices_on.Goals as goal
+use Rattle.lin_history.proofs.indices.indices_on.Goals.{then-call-object+in_ok-push, else-call-object}
 
 pub loop-index-preserved : goal.loop-index-preserved
 loop-index-preserved c =
