@@ -257,6 +257,53 @@ fn is_printed(rt: &HostRuntime, text: &str, status: Status, printed: &str) -> Re
     Ok(answer == Ok(status) && written.as_slice() == printed.as_bytes())
 }
 
+/// Writes of 1, 2 and so on by process 1, each returned before the next is called.
+fn writes_in_turn(rt: &HostRuntime, count: u32) -> Result<String, Fail> {
+    let mut text = history_of(rt, "register", None, &[])?;
+    for before in 0..count {
+        let value = before.wrapping_add(1);
+        write!(
+            text,
+            "{{\"event\":\"call\",\"process\":1,\"object\":\"x\",\"op\":\"write\",\"args\":[{value}]}}\n"
+        )?;
+        line(&mut text, "1 = \"ok\"")?;
+    }
+    Ok(text)
+}
+
+/// The lines of those calls in an answer, behind its first lines.
+fn lines_in_turn(rt: &HostRuntime, first: &str, count: u32) -> Result<String, Fail> {
+    let mut text = String::new(rt.alloc());
+    write!(text, "{first}")?;
+    for before in 0..count {
+        let number = before.wrapping_add(1);
+        write!(text, "{number} 1 x write({number}) = ok\n")?;
+    }
+    Ok(text)
+}
+
+#[test]
+fn many_calls_in_turn(rt: HostRuntime) -> Result<(), Fail> {
+    let text = writes_in_turn(&rt, 300)?;
+    let printed = lines_in_turn(&rt, "linearizable\n", 300)?;
+    assert!(rt; is_printed(&rt, &text, Status::Yes, &printed)?);
+    let text = writes_in_turn(&rt, 4096)?;
+    let printed = lines_in_turn(&rt, "linearizable\n", 4096)?;
+    assert!(rt; is_printed(&rt, &text, Status::Yes, &printed)?);
+    Ok(())
+}
+
+#[test]
+fn a_stale_read_after_many_calls_in_turn(rt: HostRuntime) -> Result<(), Fail> {
+    let mut text = writes_in_turn(&rt, 4095)?;
+    line(&mut text, "1 read")?;
+    line(&mut text, "1 = 9")?;
+    let first = "not linearizable: x\nlongest run: 4095 of 4096 calls\n";
+    let printed = lines_in_turn(&rt, first, 4095)?;
+    assert!(rt; is_printed(&rt, &text, Status::No, &printed)?);
+    Ok(())
+}
+
 #[test]
 fn orders_of_two_objects_are_joined(rt: HostRuntime) -> Result<(), Fail> {
     let crossed = r#"{"event":"object","object":"x","kind":"register"}
