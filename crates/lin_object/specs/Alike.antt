@@ -1,6 +1,6 @@
 -- Equal objects step alike.
 use Rattle.std.specs.Prelude.{◌≡◌, ℕ, ℤ, true, false, Option, Some, None, refl}
-use Rattle.std.proofs.Common.{ap, eqb-true, eq-eqb}
+use Rattle.std.proofs.Common.{ap, sym, eqb-true, eq-eqb}
 use Rattle.std.specs.Ordering.{int_eq}
 use Rattle.std.specs.Cmp.{signed_Decides}
 use Rattle.std.proofs.lemmas.Cmp.{int_eq_equiv}
@@ -16,6 +16,9 @@ use Rattle.lin_object.specs.contracts.state.ObjStatePartialEq.TheImpl.{eq-value 
 use Rattle.lin_object.specs.ItemLemmas.{both_true, items_same, items_itself}
 use Rattle.lin_object.specs.Step.{SameStep}
 use Rattle.lin_object.specs.Object.{after}
+
+no : true ≡ false → ⊥
+no e = cc
 
 int_same : (a b : ℤ) → int_eq a b ≡ true → a ≡ b
 int_same a b e = (signed_Decides a b).0 e
@@ -36,7 +39,7 @@ op_same (Contains v) (Contains w) e = ap Contains (int_same v w e)
 op_same Lock Lock e = refl
 op_same Unlock Unlock e = refl
 op_same TryLock TryLock e = refl
-op_same a b e = absurd (cc)
+op_same a b e = absurd (no (sym e))
 
 holder_same : (a b : Option ℕ) → state_eq.it (Mutex a) (Mutex b) ≡ true → a ≡ b
 holder_same None None e = refl
@@ -51,7 +54,7 @@ state_same (Queue v) (Queue w) e = ap Queue (items_same v w e)
 state_same (Stack v) (Stack w) e = ap Stack (items_same v w e)
 state_same (Set v) (Set w) e = ap Set (items_same v w e)
 state_same (Mutex a) (Mutex b) e = ap Mutex (holder_same a b e)
-state_same s t e = absurd (cc)
+state_same s t e = absurd (no (sym e))
 
 pub state_refl : (s : ObjState) → state_eq.it s s ≡ true
 state_refl (Register v) = int_eq_equiv.refl v
