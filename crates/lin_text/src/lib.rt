@@ -5,8 +5,6 @@ mod cause;
 mod fields;
 mod line;
 mod reading;
-#[cfg(test)]
-mod tests;
 mod text;
 
 pub use cause::{Cause, TextFault, write_cause};
