@@ -6,5 +6,4 @@ mod fakes;
 mod histories;
 mod objects;
 mod program;
-mod records;
 mod searches;

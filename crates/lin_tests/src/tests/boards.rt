@@ -34,6 +34,13 @@ fn share_three_tasks(board: &Board, a: &mut Seat, b: &mut Seat) -> bool
         && (a.claims(), b.claims()) == (2, 1)
 }
 
+// Whether the board closes with these seats, and tells so many claims and this least task.
+fn tallies(board: Board, seats: Vec<Seat>, claimed: u64, least: Option<u64>) -> bool
+    requires { All (IsSeatOf board) seats.items }
+{
+    matches!(board.close(seats), Ok(told) if told == Tally { claimed, least })
+}
+
 // Whether a board stays open without the seat that comes late, and tells the tally of three tasks with it.
 fn closes_with_both(board: Board, seats: Vec<Seat>, late: Seat) -> Result<bool, AllocError>
     requires seats { All (IsSeatOf board) seats.items }
@@ -43,11 +50,7 @@ fn closes_with_both(board: Board, seats: Vec<Seat>, late: Seat) -> Result<bool, 
         return Ok(false);
     };
     seats.push(late)?;
-    let tally = Tally {
-        claimed: 3,
-        least: Some(1),
-    };
-    Ok(matches!(board.close(seats), Ok(told) if told == tally))
+    Ok(tallies(board, seats, 3, Some(1)))
 }
 
 // Whether two seats do so on a board of their own.
@@ -98,6 +101,24 @@ fn are_all(mut tasks: Vec<u64>, count: u64) -> Result<bool, AllocError> {
     Ok(tasks.len() as u64 == count)
 }
 
+// Whether two seats brought a thousand tasks between them, each once, and the board closes with both.
+fn brought_all(
+    board: Board,
+    mut seats: Vec<Seat>,
+    one: Claimed,
+    other: Claimed,
+) -> Result<bool, AllocError>
+    requires seats { All (IsSeatOf board) seats.items }
+    requires one { IsSeatOf board one.seat }
+    requires other { IsSeatOf board other.seat }
+{
+    seats.push(one.seat)?;
+    seats.push(other.seat)?;
+    let mut tasks = one.tasks;
+    tasks.extend_from_slice(&other.tasks)?;
+    Ok(are_all(tasks, 1000)? && tallies(board, seats, 1000, None))
+}
+
 // Whether two threads claim a thousand tasks between them, each once.
 fn two_threads_claim(rt: &impl Threads, alloc: Global) -> Result<bool, AllocError> {
     let (board, mut seats) = Board::new(alloc, 1000, 2)?;
@@ -110,15 +131,7 @@ fn two_threads_claim(rt: &impl Threads, alloc: Global) -> Result<bool, AllocErro
         move || claim_all(alloc, shared, a),
         move || claim_all(alloc, shared, b),
     );
-    let mut tasks = one.tasks;
-    tasks.extend_from_slice(&other.tasks)?;
-    seats.push(one.seat)?;
-    seats.push(other.seat)?;
-    let tally = Tally {
-        claimed: 1000,
-        least: None,
-    };
-    Ok(are_all(tasks, 1000)? && matches!(board.close(seats), Ok(told) if told == tally))
+    brought_all(board, seats, one, other)
 }
 
 #[test]

@@ -1,8 +1,8 @@
 //! Problems by hand, the verifier, and faults in words.
 
-use super::records::Event::{Call, Return};
-use super::records::{Event, recorded};
-use lin_history::{BuildFault, History, Placed, Problem, ProblemFault, WholeOrder, verify};
+use lin_history::{
+    BuildFault, Builder, History, Placed, Problem, ProblemFault, WholeOrder, verify,
+};
 use lin_object::{AnyObject, Kind, ObjState, Op, Reply};
 use lin_text::{Cause, TextFault};
 use lincheck::RunFault;
@@ -23,6 +23,17 @@ fn a_problem_takes_a_call_by_hand(rt: HostRuntime) {
     let mut problem = Problem::new(rt.alloc(), AnyObject, ObjState::Register(0));
     assert!(rt; takes_a_call(&mut problem));
 }
+
+// An event on an object.
+#[derive(Clone, Copy)]
+enum Event {
+    // A process calls an operation.
+    Call(u32, &'static str, Op),
+    // The call of a process returns a reply.
+    Return(u32, &'static str, Reply),
+}
+
+use Event::{Call, Return};
 
 // A write of 1 and a read of 1 that overlap.
 const READ_BESIDE_A_WRITE: [Event; 4] = [
@@ -53,6 +64,20 @@ const CROSSED: [Event; 8] = [
     Return(2, "y", Reply::Int(7)),
     Return(1, "x", Reply::Okay),
 ];
+
+// The history of two objects of one kind, `x` and `y`, with these events. An event that is refused is left out.
+fn recorded(alloc: Global, kind: Kind, events: &[Event]) -> History {
+    let mut builder = Builder::new(alloc);
+    let _ = builder.declare(alloc, "x", kind, 0);
+    let _ = builder.declare(alloc, "y", kind, 0);
+    for event in events {
+        let _ = match *event {
+            Call(process, object, op) => builder.call(process, object, op),
+            Return(process, object, reply) => builder.ret(process, object, reply),
+        };
+    }
+    builder.finish()
+}
 
 // An order of calls with their replies, and whether it is a linearization.
 type Row = (&'static [Event], &'static [(usize, Reply)], bool);
@@ -168,12 +193,20 @@ fn is_told_of_a_line(alloc: Global) -> Result<bool, AllocError> {
 }
 
 #[test]
-fn faults_are_told_in_words(rt: HostRuntime) {
+fn refusals_are_told_in_words(rt: HostRuntime) {
     for (fault, words) in REFUSALS {
         assert!(rt; matches!(is_told(rt.alloc(), &fault, words), Ok(true)));
     }
+}
+
+#[test]
+fn ends_of_runs_are_told_in_words(rt: HostRuntime) {
     for (fault, words) in ENDS {
         assert!(rt; matches!(is_told_of_a_run(rt.alloc(), fault, words), Ok(true)));
     }
+}
+
+#[test]
+fn faults_of_lines_are_told_in_words(rt: HostRuntime) {
     assert!(rt; matches!(is_told_of_a_line(rt.alloc()), Ok(true)));
 }

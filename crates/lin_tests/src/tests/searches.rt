@@ -1,162 +1,239 @@
 //! Searches: their limits and stops, the memo, entries, and searches that must agree.
 
-ghost use Rattle.std.specs.Prelude.{◌≡◌, ◌++◌, ◌∷◌, [], IfSome};
+ghost use Rattle.std.specs.Prelude.{◌≡◌, ◌++◌, ◌∷◌, [], ◌<◌, IfSome};
 
 use super::fakes::{Countdown, Forgetful};
-use super::records::{
-    Event, Part, READ_OF_NO_WRITTEN_VALUE, READ_OF_THE_LAST_VALUE, TWO_AT_ONCE,
-    WRITES_OF_ONE_VALUE, first_part, posed_by,
-};
-use lin_history::{Builder, History, Order, Placed, WholeOrder, verify};
-use lin_object::{AnyObject, Kind, ObjState, Op, Reply, SeqObject};
+use lin_history::{Builder, History, Order, Placed, Problem, WholeOrder, verify};
+use lin_object::{AnyObject, Kind, ObjState, Op, Reply, SeqObject, start_state};
 use lin_search::{
     Config, Entries, Longest, Memo, NoStop, Noted, Outcome, OwnMemo, Refutation, Stop, search,
     search_alone, search_plain,
 };
 use std::alloc::{AllocError, Global};
 
+type Part = Problem<AnyObject>;
+
+// An event of a problem.
+#[derive(Clone, Copy)]
+enum Event {
+    // A process calls an operation.
+    Call(u32, Op),
+    // The call of this number returns a reply.
+    Return(usize, Reply),
+}
+
+use Event::{Call, Return};
+
+// Three writes that overlap one another, and after them a read of what nobody wrote.
+const READ_OF_NO_WRITTEN_VALUE: [Event; 8] = [
+    Call(1, Op::Write(1)),
+    Call(2, Op::Write(2)),
+    Call(3, Op::Write(3)),
+    Return(0, Reply::Okay),
+    Return(1, Reply::Okay),
+    Return(2, Reply::Okay),
+    Call(4, Op::Read),
+    Return(3, Reply::Int(9)),
+];
+
+// The same with a read of the last write's value.
+const READ_OF_THE_LAST_VALUE: [Event; 8] = [
+    Call(1, Op::Write(1)),
+    Call(2, Op::Write(2)),
+    Call(3, Op::Write(3)),
+    Return(0, Reply::Okay),
+    Return(1, Reply::Okay),
+    Return(2, Reply::Okay),
+    Call(4, Op::Read),
+    Return(3, Reply::Int(3)),
+];
+
+// The same with writes of one value, which is not read.
+const WRITES_OF_ONE_VALUE: [Event; 8] = [
+    Call(1, Op::Write(1)),
+    Call(2, Op::Write(1)),
+    Call(3, Op::Write(1)),
+    Return(0, Reply::Okay),
+    Return(1, Reply::Okay),
+    Return(2, Reply::Okay),
+    Call(4, Op::Read),
+    Return(3, Reply::Int(9)),
+];
+
+// Two enqueues that overlap, and after them two dequeues, of the second item first.
+const TWO_AT_ONCE: [Event; 8] = [
+    Call(1, Op::Enqueue(1)),
+    Call(2, Op::Enqueue(2)),
+    Return(0, Reply::Okay),
+    Return(1, Reply::Okay),
+    Call(1, Op::Dequeue),
+    Return(2, Reply::Int(2)),
+    Call(2, Op::Dequeue),
+    Return(3, Reply::Int(1)),
+];
+
+// The problem with these events, numbered from 1. An event that is refused is left out.
+fn posed_by(alloc: Global, kind: Kind, events: &[Event]) -> Part {
+    let mut problem = Problem::new(alloc, AnyObject, start_state(alloc, kind, 0));
+    let mut number = 0u32;
+    for event in events {
+        number = number.wrapping_add(1);
+        let _ = match *event {
+            Call(process, op) => problem.add_call(process, op, number),
+            Return(call, reply) => problem.add_return(call, reply, number),
+        };
+    }
+    problem
+}
+
 const THREE_MORE: Longest = Longest {
     more: 3,
     first: Some(0),
 };
 
-// The part on one register with these events.
-fn register(alloc: Global, events: &[Event]) -> Result<Part, AllocError> {
-    posed_by(alloc, Kind::Register, events)
-}
-
-// Whether the search by itself answers so, and stores so many configurations.
-fn stores(
-    alloc: Global,
-    events: &[Event],
-    wanted: Outcome,
-    count: u64,
-) -> Result<bool, AllocError> {
-    let problem = register(alloc, events)?;
-    Ok(search_alone(alloc, &problem)? == (wanted, count))
-}
-
-// Whether the search by itself finds the order of all calls in turn.
-fn finds_them_in_turn(alloc: Global) -> Result<bool, AllocError> {
-    let problem = register(alloc, &READ_OF_THE_LAST_VALUE)?;
+// Whether the search by itself finds all four calls in turn.
+fn finds_four_in_turn(alloc: Global, problem: &Part) -> Result<bool, AllocError> {
     let order = Order::new(vec![in alloc; 0, 1, 2, 3]?);
-    let (outcome, _) = search_alone(alloc, &problem)?;
+    let (outcome, _) = search_alone(alloc, problem)?;
     Ok(outcome == Outcome::Found(order))
 }
 
 #[test]
-fn a_search_by_itself_counts_what_it_stores(rt: HostRuntime) {
+fn a_search_by_itself_finds_or_counts(rt: HostRuntime) {
+    let found = posed_by(rt.alloc(), Kind::Register, &READ_OF_THE_LAST_VALUE);
+    assert!(rt; matches!(finds_four_in_turn(rt.alloc(), &found), Ok(true)));
     // The root, and each of the 3 + 6 + 3 sets of writes with the value of its last.
-    let refuted = Outcome::Refuted(THREE_MORE);
-    let stored = stores(rt.alloc(), &READ_OF_NO_WRITTEN_VALUE, refuted, 13);
-    assert!(rt; matches!(stored, Ok(true)));
-    assert!(rt; matches!(finds_them_in_turn(rt.alloc()), Ok(true)));
+    let refuted = posed_by(rt.alloc(), Kind::Register, &READ_OF_NO_WRITTEN_VALUE);
+    let wanted = (Outcome::Refuted(THREE_MORE), 13);
+    assert!(rt; matches!(search_alone(rt.alloc(), &refuted), Ok(told) if told == wanted));
 }
 
-// What the search from the root answers.
-fn answer<M: Memo<AnyObject>, S: Stop>(
+// Whether the search from the root answers so.
+fn answers<M: Memo<AnyObject>, S: Stop>(
     alloc: Global,
     problem: &Part,
     memo: &mut M,
     limit: Option<u64>,
     stop: &mut S,
-) -> Result<Outcome, AllocError> {
-    let root = Config::root(alloc, problem)?;
-    search(alloc, problem, &root, memo, limit, stop)
-}
-
-// What the search over a new memo answers within this limit, and how many configurations it stores.
-fn within(alloc: Global, events: &[Event], limit: u64) -> Result<(Outcome, u64), AllocError> {
-    let problem = register(alloc, events)?;
-    let mut memo = OwnMemo::new(alloc, &problem);
-    let outcome = answer(alloc, &problem, &mut memo, Some(limit), &mut NoStop)?;
-    Ok((outcome, memo.count()))
-}
-
-// Whether that is the refutation with this many configurations.
-fn is_refuted_within(
-    alloc: Global,
-    events: &[Event],
-    limit: u64,
-    count: u64,
+    wanted: &Outcome,
 ) -> Result<bool, AllocError> {
-    Ok(within(alloc, events, limit)? == (Outcome::Refuted(THREE_MORE), count))
+    let root = Config::root(alloc, problem)?;
+    Ok(search(alloc, problem, &root, memo, limit, stop)? == *wanted)
+}
+
+// How many configurations the search stores within this limit, where it answers so.
+fn stored_within(
+    alloc: Global,
+    problem: &Part,
+    limit: u64,
+    wanted: &Outcome,
+) -> Result<Option<u64>, AllocError> {
+    let mut memo = OwnMemo::new(alloc, problem);
+    if answers(alloc, problem, &mut memo, Some(limit), &mut NoStop, wanted)? {
+        Ok(Some(memo.count()))
+    } else {
+        Ok(None)
+    }
+}
+
+// Whether the search is refuted within this limit with so many configurations stored, and not within one lift less.
+fn needs(alloc: Global, problem: &Part, limit: u64, count: u64) -> Result<bool, AllocError>
+    requires { 0 < limit }
+{
+    let refuted = Outcome::Refuted(THREE_MORE);
+    let stored = stored_within(alloc, problem, limit, &refuted)?;
+    let less = stored_within(alloc, problem, limit - 1, &Outcome::Undecided)?;
+    Ok(stored == Some(count) && less.is_some())
 }
 
 #[test]
 fn a_search_ends_at_its_limit(rt: HostRuntime) {
-    let events = &READ_OF_NO_WRITTEN_VALUE;
-    assert!(rt; matches!(is_refuted_within(rt.alloc(), events, 15, 13), Ok(true)));
-    assert!(rt; matches!(within(rt.alloc(), events, 14), Ok((Outcome::Undecided, _))));
-    assert!(rt; matches!(within(rt.alloc(), events, 3), Ok((Outcome::Undecided, 2))));
+    let problem = posed_by(rt.alloc(), Kind::Register, &READ_OF_NO_WRITTEN_VALUE);
+    assert!(rt; matches!(needs(rt.alloc(), &problem, 15, 13), Ok(true)));
+    let early = stored_within(rt.alloc(), &problem, 3, &Outcome::Undecided);
+    assert!(rt; matches!(early, Ok(Some(2))));
 }
 
 #[test]
 fn a_hit_is_a_lift(rt: HostRuntime) {
-    let events = &WRITES_OF_ONE_VALUE;
-    assert!(rt; matches!(is_refuted_within(rt.alloc(), events, 12, 8), Ok(true)));
-    assert!(rt; matches!(within(rt.alloc(), events, 11), Ok((Outcome::Undecided, _))));
+    let problem = posed_by(rt.alloc(), Kind::Register, &WRITES_OF_ONE_VALUE);
+    assert!(rt; matches!(needs(rt.alloc(), &problem, 12, 8), Ok(true)));
 }
 
 // Whether the search over a memo that keeps nothing answers so within this limit.
-fn ends_without_a_memo(alloc: Global, limit: u64, wanted: Outcome) -> Result<bool, AllocError> {
-    let problem = register(alloc, &READ_OF_NO_WRITTEN_VALUE)?;
-    let outcome = answer(alloc, &problem, &mut Forgetful, Some(limit), &mut NoStop)?;
-    Ok(outcome == wanted)
+fn answers_without_a_memo(
+    alloc: Global,
+    problem: &Part,
+    limit: u64,
+    wanted: &Outcome,
+) -> Result<bool, AllocError> {
+    answers(
+        alloc,
+        problem,
+        &mut Forgetful,
+        Some(limit),
+        &mut NoStop,
+        wanted,
+    )
 }
 
 #[test]
 fn lifts_are_counted_without_a_memo(rt: HostRuntime) {
-    let refuted = ends_without_a_memo(rt.alloc(), 15, Outcome::Refuted(THREE_MORE));
-    assert!(rt; matches!(refuted, Ok(true)));
-    let last = ends_without_a_memo(rt.alloc(), 14, Outcome::Undecided);
-    assert!(rt; matches!(last, Ok(true)));
+    let problem = posed_by(rt.alloc(), Kind::Register, &READ_OF_NO_WRITTEN_VALUE);
+    let refuted = Outcome::Refuted(THREE_MORE);
+    let whole = answers_without_a_memo(rt.alloc(), &problem, 15, &refuted);
+    assert!(rt; matches!(whole, Ok(true)));
+    let less = answers_without_a_memo(rt.alloc(), &problem, 14, &Outcome::Undecided);
+    assert!(rt; matches!(less, Ok(true)));
 }
 
 // Whether a search that is stopped after three lifts tells so, with two configurations stored.
-fn is_stopped(alloc: Global) -> Result<bool, AllocError> {
-    let problem = register(alloc, &READ_OF_NO_WRITTEN_VALUE)?;
-    let mut memo = OwnMemo::new(alloc, &problem);
+fn is_stopped(alloc: Global, problem: &Part) -> Result<bool, AllocError> {
+    let mut memo = OwnMemo::new(alloc, problem);
     let mut stop = Countdown { lifts: 3 };
-    let outcome = answer(alloc, &problem, &mut memo, None, &mut stop)?;
-    Ok(outcome == Outcome::Stopped(0) && memo.count() == 2)
+    let wanted = Outcome::Stopped(0);
+    let is_told = answers(alloc, problem, &mut memo, None, &mut stop, &wanted)?;
+    Ok(is_told && memo.count() == 2)
 }
 
 // Whether what a search stored up to its limit serves the next one.
-fn is_taken_up(alloc: Global) -> Result<bool, AllocError> {
-    let problem = register(alloc, &READ_OF_NO_WRITTEN_VALUE)?;
-    let mut memo = OwnMemo::new(alloc, &problem);
-    let first = answer(alloc, &problem, &mut memo, Some(3), &mut NoStop)?;
-    let second = answer(alloc, &problem, &mut memo, None, &mut NoStop)?;
-    Ok(first == Outcome::Undecided && second == Outcome::Refuted(THREE_MORE) && memo.count() == 13)
+fn is_taken_up(alloc: Global, problem: &Part) -> Result<bool, AllocError> {
+    let mut memo = OwnMemo::new(alloc, problem);
+    let undecided = Outcome::Undecided;
+    let first = answers(alloc, problem, &mut memo, Some(3), &mut NoStop, &undecided)?;
+    let refuted = Outcome::Refuted(THREE_MORE);
+    let second = answers(alloc, problem, &mut memo, None, &mut NoStop, &refuted)?;
+    Ok(first && second && memo.count() == 13)
 }
 
 #[test]
 fn a_search_is_stopped_and_taken_up(rt: HostRuntime) {
-    assert!(rt; matches!(is_stopped(rt.alloc()), Ok(true)));
-    assert!(rt; matches!(is_taken_up(rt.alloc()), Ok(true)));
+    let problem = posed_by(rt.alloc(), Kind::Register, &READ_OF_NO_WRITTEN_VALUE);
+    assert!(rt; matches!(is_stopped(rt.alloc(), &problem), Ok(true)));
+    assert!(rt; matches!(is_taken_up(rt.alloc(), &problem), Ok(true)));
 }
 
-// Whether the second write leads from the root to its configuration.
-fn leads_to_its_state(alloc: Global, problem: &Part) -> Result<bool, AllocError> {
+// Whether the configuration is that of the second of three writes alone.
+fn is_after_the_second(config: &Config<AnyObject>) -> bool {
+    config.has(1) && !config.has(0) && *config.state() == ObjState::Register(2)
+}
+
+// Whether the second call leads from the root to that configuration.
+fn second_leads_on(alloc: Global, problem: &Part) -> Result<bool, AllocError> {
     if problem.len() < 2 {
         return Ok(false);
     }
     let root = Config::root(alloc, problem)?;
     match root.child(alloc, problem, 1)? {
-        Some(child) => Ok(child.has(1) && !child.has(0) && *child.state() == ObjState::Register(2)),
+        Some(child) => Ok(is_after_the_second(&child)),
         None => Ok(false),
     }
 }
 
-// The same of three writes.
-fn second_of_three_leads(alloc: Global) -> Result<bool, AllocError> {
-    leads_to_its_state(alloc, &register(alloc, &READ_OF_NO_WRITTEN_VALUE)?)
-}
-
 #[test]
 fn one_call_leads_to_the_next_configuration(rt: HostRuntime) {
-    assert!(rt; matches!(second_of_three_leads(rt.alloc()), Ok(true)));
+    let problem = posed_by(rt.alloc(), Kind::Register, &READ_OF_NO_WRITTEN_VALUE);
+    assert!(rt; matches!(second_leads_on(rt.alloc(), &problem), Ok(true)));
 }
 
 // That the root of the problem is refuted, where it is.
@@ -193,13 +270,17 @@ fn told(
     Ok(memo.look(problem, &root.copy(alloc, problem)?))
 }
 
-// Whether a memo keeps the root of its problem once, and tells it of no other.
-fn is_kept_once(alloc: Global, problem: &Part, other: &Part) -> Result<bool, AllocError> {
-    let mut memo = OwnMemo::new(alloc, problem);
-    let first = noted(alloc, &mut memo, problem)?;
-    let second = noted(alloc, &mut memo, problem)?;
-    let own = told(alloc, &memo, problem)?;
-    let strange = told(alloc, &memo, other)?;
+// Whether the memo keeps the root of its problem once, and tells it of no other.
+fn keeps_once(
+    alloc: Global,
+    memo: &mut OwnMemo<'_, AnyObject>,
+    problem: &Part,
+    other: &Part,
+) -> Result<bool, AllocError> {
+    let first = noted(alloc, memo, problem)?;
+    let second = noted(alloc, memo, problem)?;
+    let own = told(alloc, memo, problem)?;
+    let strange = told(alloc, memo, other)?;
     Ok(
         (first, second) == (Some(Noted::New), Some(Noted::Known))
             && (own, strange) == (Some(THREE_MORE), None)
@@ -207,20 +288,21 @@ fn is_kept_once(alloc: Global, problem: &Part, other: &Part) -> Result<bool, All
     )
 }
 
-// The same of two problems that differ in one reply.
-fn is_kept_for_its_problem(alloc: Global) -> Result<bool, AllocError> {
-    let problem = register(alloc, &READ_OF_NO_WRITTEN_VALUE)?;
-    let other = register(alloc, &READ_OF_THE_LAST_VALUE)?;
-    is_kept_once(alloc, &problem, &other)
-}
-
 #[test]
 fn a_memo_keeps_a_configuration_once(rt: HostRuntime) {
-    assert!(rt; matches!(is_kept_for_its_problem(rt.alloc()), Ok(true)));
+    let problem = posed_by(rt.alloc(), Kind::Register, &READ_OF_NO_WRITTEN_VALUE);
+    let other = posed_by(rt.alloc(), Kind::Register, &READ_OF_THE_LAST_VALUE);
+    let mut memo = OwnMemo::new(rt.alloc(), &problem);
+    assert!(rt;
+        matches!(
+            keeps_once(rt.alloc(), &mut memo, &problem, &other),
+            Ok(true)
+        )
+    );
 }
 
 // The two least minimal calls.
-fn two_minimal<O: SeqObject>(entries: &Entries<'_, O>) -> (Option<usize>, Option<usize>) {
+fn two_minimal(entries: &Entries<'_, AnyObject>) -> (Option<usize>, Option<usize>) {
     match entries.first_minimal() {
         Some(first) => (Some(first), entries.next_minimal(first)),
         None => (None, None),
@@ -228,7 +310,7 @@ fn two_minimal<O: SeqObject>(entries: &Entries<'_, O>) -> (Option<usize>, Option
 }
 
 // Lifts the least minimal call.
-fn lift_first<O: SeqObject>(entries: &mut Entries<'_, O>) -> Option<usize>
+fn lift_first(entries: &mut Entries<'_, AnyObject>) -> Option<usize>
     ensures problem { entries.new.problem ≡ entries.old.problem }
     ensures lifted { IfSome result (λ call. entries.new.lifted ≡ entries.old.lifted ++ call ∷ []) }
 {
@@ -238,7 +320,7 @@ fn lift_first<O: SeqObject>(entries: &mut Entries<'_, O>) -> Option<usize>
 }
 
 // Lifts the second least minimal call.
-fn lift_second<O: SeqObject>(entries: &mut Entries<'_, O>) -> Option<usize>
+fn lift_second(entries: &mut Entries<'_, AnyObject>) -> Option<usize>
     ensures problem { entries.new.problem ≡ entries.old.problem }
     ensures lifted { IfSome result (λ call. entries.new.lifted ≡ entries.old.lifted ++ call ∷ []) }
 {
@@ -248,44 +330,34 @@ fn lift_second<O: SeqObject>(entries: &mut Entries<'_, O>) -> Option<usize>
     Some(second)
 }
 
-// Lifts the second call and then the first, puts both back, and tells what was minimal after each step.
-fn lift_and_put_back(
-    alloc: Global,
-    problem: &Part,
-) -> Result<Vec<(Option<usize>, Option<usize>)>, AllocError> {
-    let mut entries = Entries::new(alloc, problem)?;
-    let mut minimal = Vec::new(alloc);
-    minimal.push(two_minimal(&entries))?;
-    let Some(second) = lift_second(&mut entries) else {
-        return Ok(minimal);
+// Whether the right calls are minimal: at first, with the second lifted, with both, and with both put back.
+fn are_minimal_in_turn(entries: &mut Entries<'_, AnyObject>) -> bool {
+    let at_first = two_minimal(entries);
+    let Some(second) = lift_second(entries) else {
+        return false;
     };
-    minimal.push(two_minimal(&entries))?;
-    let Some(first) = lift_first(&mut entries) else {
-        return Ok(minimal);
+    let without_one = two_minimal(entries);
+    let Some(first) = lift_first(entries) else {
+        return false;
     };
-    minimal.push(two_minimal(&entries))?;
+    let without_two = two_minimal(entries);
     entries.unlift(first);
     entries.unlift(second);
-    minimal.push(two_minimal(&entries))?;
-    Ok(minimal)
+    at_first == (Some(0), Some(1))
+        && without_one == (Some(0), None)
+        && without_two == (Some(2), None)
+        && two_minimal(entries) == at_first
 }
 
-// Whether the calls of a queue are minimal in their turn.
-fn are_minimal_in_turn(alloc: Global) -> Result<bool, AllocError> {
-    let problem = posed_by(alloc, Kind::Queue, &TWO_AT_ONCE)?;
-    let minimal = lift_and_put_back(alloc, &problem)?;
-    let wanted = [
-        (Some(0), Some(1)),
-        (Some(0), None),
-        (Some(2), None),
-        (Some(0), Some(1)),
-    ];
-    Ok(minimal.as_slice() == wanted.as_slice())
+// The same of a new list of the problem's entries.
+fn entries_are_minimal_in_turn(alloc: Global, problem: &Part) -> Result<bool, AllocError> {
+    Ok(are_minimal_in_turn(&mut Entries::new(alloc, problem)?))
 }
 
 #[test]
 fn calls_are_minimal_in_their_turn(rt: HostRuntime) {
-    assert!(rt; matches!(are_minimal_in_turn(rt.alloc()), Ok(true)));
+    let problem = posed_by(rt.alloc(), Kind::Queue, &TWO_AT_ONCE);
+    assert!(rt; matches!(entries_are_minimal_in_turn(rt.alloc(), &problem), Ok(true)));
 }
 
 // Numbers that look random, the same at each run.
@@ -337,39 +409,49 @@ fn random_history(alloc: Global, seed: u64) -> History {
     builder.finish()
 }
 
-// The calls of the order with the replies of their steps, as far as they have steps.
-fn replayed(alloc: Global, problem: &Part, order: &Order) -> Result<WholeOrder, AllocError> {
-    let mut placed = Vec::new(alloc);
-    let mut state = problem.object().copy_state(alloc, problem.start())?;
-    for call in order.calls() {
-        if *call >= problem.len() {
-            break;
-        }
-        let taken = problem.call(*call);
-        let step = problem
-            .object()
-            .step(alloc, &state, taken.process, &taken.op)?;
-        let Some((next, reply)) = step else {
-            break;
-        };
-        placed.push(Placed { call: *call, reply })?;
-        state = next;
+// Takes one call of an order more: whether it has a step.
+fn take_step(
+    alloc: Global,
+    problem: &Part,
+    call: usize,
+    state: &mut ObjState,
+    placed: &mut Vec<Placed>,
+) -> Result<bool, AllocError> {
+    if call >= problem.len() {
+        return Ok(false);
     }
-    Ok(WholeOrder::new(placed))
+    let taken = problem.call(call);
+    match AnyObject.step(alloc, state, taken.process, &taken.op)? {
+        Some((next, reply)) => {
+            *state = next;
+            placed.push(Placed { call, reply })?;
+            Ok(true)
+        }
+        None => Ok(false),
+    }
 }
 
-// What the search over a memo of its own answers, where the one over a memo that forgets answers the same.
-fn searched(alloc: Global, problem: &Part) -> Result<Option<Outcome>, AllocError> {
-    let mut memo = OwnMemo::new(alloc, problem);
-    let kept = answer(alloc, problem, &mut memo, None, &mut NoStop)?;
-    let forgot = answer(alloc, problem, &mut Forgetful, None, &mut NoStop)?;
-    Ok(if kept == forgot { Some(kept) } else { None })
+// The calls of the order with the replies of their steps, but those without one.
+fn replayed(alloc: Global, problem: &Part, order: &Order) -> Result<WholeOrder, AllocError> {
+    let mut placed = Vec::new(alloc);
+    let mut state = start_state(alloc, Kind::Register, 0);
+    for call in order.calls() {
+        take_step(alloc, problem, *call, &mut state, &mut placed)?;
+    }
+    Ok(WholeOrder::new(placed))
 }
 
 // What the search without a memo answers.
 fn plainly_searched(alloc: Global, problem: &Part) -> Result<Outcome, AllocError> {
     let root = Config::root(alloc, problem)?;
     search_plain(alloc, problem, &root)
+}
+
+// Whether the searches over a memo of its own and over one that forgets answer so.
+fn others_answer(alloc: Global, problem: &Part, wanted: &Outcome) -> Result<bool, AllocError> {
+    let mut memo = OwnMemo::new(alloc, problem);
+    let kept = answers(alloc, problem, &mut memo, None, &mut NoStop, wanted)?;
+    Ok(kept && answers(alloc, problem, &mut Forgetful, None, &mut NoStop, wanted)?)
 }
 
 // Whether the verifier takes the order that was found, if one was.
@@ -385,18 +467,24 @@ fn is_taken(
     }
 }
 
-// Whether all searches answer the same of the history, and the verifier takes what they found.
-fn searches_agree(alloc: Global, history: &History) -> Result<bool, AllocError> {
-    let problem = first_part(alloc, history)?;
-    let plain = plainly_searched(alloc, &problem)?;
-    let is_right = is_taken(alloc, history, &problem, &plain)?;
-    Ok(is_right && searched(alloc, &problem)? == Some(plain))
+// Whether all searches answer the same, and the verifier takes what they found.
+fn all_agree(alloc: Global, history: &History, problem: &Part) -> Result<bool, AllocError> {
+    let plain = plainly_searched(alloc, problem)?;
+    Ok(is_taken(alloc, history, problem, &plain)? && others_answer(alloc, problem, &plain)?)
+}
+
+// The same of the first object of a history.
+fn all_agree_on(alloc: Global, history: &History) -> Result<bool, AllocError> {
+    if history.object_count() == 0 {
+        return Ok(false);
+    }
+    all_agree(alloc, history, &history.problem(alloc, 0)?)
 }
 
 #[test]
 fn searches_and_verifier_agree(rt: HostRuntime) {
     for seed in 0..200 {
         let history = random_history(rt.alloc(), seed);
-        assert!(rt; matches!(searches_agree(rt.alloc(), &history), Ok(true)));
+        assert!(rt; matches!(all_agree_on(rt.alloc(), &history), Ok(true)));
     }
 }
