@@ -160,33 +160,6 @@ fn a_hit_is_a_lift(rt: HostRuntime) {
     assert!(rt; matches!(needs(rt.alloc(), &problem, 12, 8), Ok(true)));
 }
 
-// Whether the search over a memo that keeps nothing answers so within this limit.
-fn answers_without_a_memo(
-    alloc: Global,
-    problem: &Part,
-    limit: u64,
-    wanted: &Outcome,
-) -> Result<bool, AllocError> {
-    answers(
-        alloc,
-        problem,
-        &mut Forgetful,
-        Some(limit),
-        &mut NoStop,
-        wanted,
-    )
-}
-
-#[test]
-fn lifts_are_counted_without_a_memo(rt: HostRuntime) {
-    let problem = posed_by(rt.alloc(), Kind::Register, &READ_OF_NO_WRITTEN_VALUE);
-    let refuted = Outcome::Refuted(THREE_MORE);
-    let whole = answers_without_a_memo(rt.alloc(), &problem, 15, &refuted);
-    assert!(rt; matches!(whole, Ok(true)));
-    let less = answers_without_a_memo(rt.alloc(), &problem, 14, &Outcome::Undecided);
-    assert!(rt; matches!(less, Ok(true)));
-}
-
 // Whether a search that is stopped after three lifts tells so, with two configurations stored.
 fn is_stopped(alloc: Global, problem: &Part) -> Result<bool, AllocError> {
     let mut memo = OwnMemo::new(alloc, problem);
