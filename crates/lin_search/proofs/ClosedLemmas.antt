@@ -1,10 +1,10 @@
 use Rattle.std.proofs.Common.{not, ◌≡◌, ℕ, zero, suc, ◌+◌, ◌<◌, ◌≤◌, Bool, true, false, List, [], ◌∷◌, length, replicate, ◌⊎◌, inl, inr, refl, sym, ◌∙◌, ap, subst, arith}
 use Rattle.std.proofs.lemmas.List.{length-set}
-use Rattle.lin_history.specs.Posed.{Posed}
-use Rattle.lin_history.specs.Lists.{In}
-use Rattle.lin_history.specs.Legal.{Legal}
-use Rattle.lin_history.specs.Continuations.{has, IsContinuation, no_calls}
-use Rattle.lin_history.specs.Configurations.{IsReachable}
+use Rattle.lin_history.specs.Problems.Problem.{Problem}
+use Rattle.lin_history.specs.Problems.Lists.{In}
+use Rattle.lin_history.specs.Problems.LegalLists.{Legal}
+use Rattle.lin_history.specs.Problems.Continuations.{has, IsContinuation, no_calls}
+use Rattle.lin_history.specs.Problems.Configurations.{IsReachable}
 use Rattle.lin_search.specs.CallSet.{with_call, with_calls}
 use Rattle.lin_search.specs.Next.{IsNext}
 use Rattle.lin_search.specs.declared.longest.Longest.{Longest}
@@ -19,7 +19,7 @@ use Rattle.lin_search.specs.FirstCallLemmas.{continuation_split, next_within, ne
 use Rattle.lin_search.specs.CallSetLemmas.{has_same, has_with, has_still}
 use Rattle.lin_search.specs.AlikeLemmas.{AreAlike}
 
-module _ {State Op Reply : Type 0} (p : Posed State Op Reply) where
+module _ {State Op Reply : Type 0} (p : Problem State Op Reply) where
   -- what each call below i leads to is held
   abbrev pub Followed : (List Bool → State → Type 0) → List Bool → State → ℕ → Type 0
   Followed holds set s i = (c : ℕ) → c < i → (t : State) → IsNext p set s c t → holds (with_call set c) t
@@ -78,7 +78,7 @@ same_flags (false ∷ a) (false ∷ b) e h = ap (λ (l : List Bool). false ∷ l
 same_flags (true ∷ a) (false ∷ b) e h = absurd (let q = (h 0).0 refl in cc)
 same_flags (false ∷ a) (true ∷ b) e h = absurd (let q = (h 0).1 refl in cc)
 
-module _ {State Op Reply : Type 0} (p : Posed State Op Reply) where
+module _ {State Op Reply : Type 0} (p : Problem State Op Reply) where
   legal_one : (l : List ℕ) (s t u : State) → Legal p s l t → Legal p s l u → t ≡ u
   legal_one [] s t u a b = sym a ∙ b
   legal_one (c ∷ cs) s t u a b =
@@ -145,14 +145,14 @@ module _ {State Op Reply : Type 0} (p : Posed State Op Reply) where
       at_equal set run.3.0 s run.3.2 (rw (← flags, ← ends) r.2)
 
 -- a store with nothing is closed
-pub closed_empty : {State Op Reply : Type 0} (p : Posed State Op Reply) (es : List (Configuration State × Longest)) → es ≡ [] → IsClosed p (Holds p.same_state es)
+pub closed_empty : {State Op Reply : Type 0} (p : Problem State Op Reply) (es : List (Configuration State × Longest)) → es ≡ [] → IsClosed p (Holds p.same_state es)
 closed_empty p es e set s h = absurd (rw e at h)
 
 pub was_true : (b : Bool) → not b ≡ false → b ≡ true
 was_true true e = refl
 was_true false e = sym e
 
-pub refuted_closed : {State Op Reply : Type 0} (p : Posed State Op Reply) (old new : List Bool → State → Type 0) (set : List Bool) (s : State) (o : Outcome) → EndsClosed p old new set s o → IsRefutation o → IsClosed p old → IsClosed p new × new set s
+pub refuted_closed : {State Op Reply : Type 0} (p : Problem State Op Reply) (old new : List Bool → State → Type 0) (set : List Bool) (s : State) (o : Outcome) → EndsClosed p old new set s o → IsRefutation o → IsClosed p old → IsClosed p new × new set s
 refuted_closed p old new set s (Found order) k r = absurd r
 refuted_closed p old new set s (Refuted longest) k r = k
 refuted_closed p old new set s Undecided k r = absurd r

@@ -2,11 +2,11 @@
 use Rattle.std.proofs.Common.{◌≡◌, ℕ, zero, suc, ◌+◌, ◌-◌, ◌*◌, ◌<◌, ◌≤◌, Bool, true, Option, Some, None, List, [], ◌∷◌, ◌++◌, length, ◌⊎◌, refl, sym, ◌∙◌, ap, subst, arith}
 use Rattle.std.specs.Prelude.{IfSome, IsSome, IsSomeAnd}
 use Rattle.std.proofs.lemmas.Nat.{mul-le}
-use Rattle.lin_history.specs.Posed.{Posed, posed}
-use Rattle.lin_history.specs.Posing.{Posing}
-use Rattle.lin_history.specs.Lists.{IsLeast, IsLongest}
-use Rattle.lin_history.specs.Continuations.{IsContinuation, IsCompletion, no_calls}
-use Rattle.lin_history.specs.Configurations.{IsReachable}
+use Rattle.lin_history.specs.Problems.Problem.{Problem, problem_of}
+use Rattle.lin_history.specs.Problems.ProblemParts.{ProblemParts}
+use Rattle.lin_history.specs.Problems.Lists.{IsLeast, IsLongest}
+use Rattle.lin_history.specs.Problems.Continuations.{IsContinuation, IsCompletion, no_calls}
+use Rattle.lin_history.specs.Problems.Configurations.{IsReachable}
 use Rattle.lin_search.specs.declared.longest.Longest.{Longest}
 use Rattle.lin_search.specs.CallSet.{with_call, with_calls, lifted_set}
 use Rattle.lin_search.specs.CallSetLemmas.{with_append}
@@ -24,11 +24,11 @@ use Rattle.lin_search.proofs.ClosedLemmas.{Followed, followed_to, followed_one, 
 use Rattle.lin_search.proofs.SizeLemmas.{Begun, many_none, many_to, many_step, many_all, many_as}
 
 -- where the calls that were tried end: at the candidate, or after all calls
-abbrev pub bound : {State Op Reply : Type 0} → Posed State Op Reply → Option ℕ → ℕ
+abbrev pub bound : {State Op Reply : Type 0} → Problem State Op Reply → Option ℕ → ℕ
 bound p None = length p.calls
 bound p (Some c) = c
 
-module _ {State Op Reply : Type 0} (p : Posed State Op Reply) where
+module _ {State Op Reply : Type 0} (p : Problem State Op Reply) where
   pub next_minimal : (set : List Bool) (s : State) (c : ℕ) (t : State) → IsNext p set s c t → IsMinimal p set c
   next_minimal set s c t n = record { within = next_within p s t c n.step; outside = n.outside; preceded = n.preceded }
 
@@ -208,7 +208,7 @@ module _ {State Op Reply : Type 0} (p : Posed State Op Reply) where
     pub followed : IsClosed p old → Followed p now here.lifted here.state (bound p candidate)
     pub all : IsClosed p old → AllFollowed now fs
 
-module _ {State Op Reply : Type 0} {p : Posed State Op Reply} where
+module _ {State Op Reply : Type 0} {p : Problem State Op Reply} where
   -- the calls from i to the candidate can't follow
   on_to : (here : Configuration State) (longest : Longest) (i : ℕ) (candidate : Option ℕ) → length here.lifted ≡ length p.calls → i ≤ length p.calls → Tried p here.lifted here.state i longest.more longest.first → IsLeastMinimal p here.lifted i candidate → Tried p here.lifted here.state (bound p candidate) longest.more longest.first
   on_to here longest i candidate flags within tried least =
@@ -396,21 +396,21 @@ module _ {State : Type 0} where
   none_there (f ∷ fs) e = absurd (omega (arith, e))
 
 -- what the entries tell, as their problem is the one that is searched
-module _ {Object State Op Reply : Type 0} (after : Object → State → ℕ → Op → Option (State × Reply)) (same_state : State → State → Bool) (same_reply : Reply → Reply → Bool) (problem : Posing Object State Op Reply) where
-  abbrev searched : Posing Object State Op Reply → Posed State Op Reply
-  searched q = posed after same_state same_reply q
+module _ {Object State Op Reply : Type 0} (after : Object → State → ℕ → Op → Option (State × Reply)) (same_state : State → State → Bool) (same_reply : Reply → Reply → Bool) (problem : ProblemParts Object State Op Reply) where
+  abbrev searched : ProblemParts Object State Op Reply → Problem State Op Reply
+  searched q = problem_of after same_state same_reply q
 
   pub seen_least : (e : Lifting Object State Op Reply) (set : List Bool) (i : ℕ) (answer : Option ℕ) → e.problem ≡ problem → with_calls (no_calls (searched problem)) e.lifted ≡ set → IsLeastMinimal (searched e.problem) (lifted_set (searched e.problem) e.lifted) i answer → IsLeastMinimal (searched problem) set i answer
-  seen_least e set i answer a b k = subst (λ (s : List Bool). IsLeastMinimal (searched problem) s i answer) b (subst (λ (q : Posing Object State Op Reply). IsLeastMinimal (searched q) (lifted_set (searched q) e.lifted) i answer) a k)
+  seen_least e set i answer a b k = subst (λ (s : List Bool). IsLeastMinimal (searched problem) s i answer) b (subst (λ (q : ProblemParts Object State Op Reply). IsLeastMinimal (searched q) (lifted_set (searched q) e.lifted) i answer) a k)
 
   pub seen_minimal : (e : Lifting Object State Op Reply) (set : List Bool) (c : ℕ) → e.problem ≡ problem → with_calls (no_calls (searched problem)) e.lifted ≡ set → IsMinimal (searched problem) set c → IsMinimal (searched e.problem) (lifted_set (searched e.problem) e.lifted) c
-  seen_minimal e set c a b k = subst (λ (q : Posing Object State Op Reply). IsMinimal (searched q) (lifted_set (searched q) e.lifted) c) (sym a) (subst (λ (s : List Bool). IsMinimal (searched problem) s c) (sym b) k)
+  seen_minimal e set c a b k = subst (λ (q : ProblemParts Object State Op Reply). IsMinimal (searched q) (lifted_set (searched q) e.lifted) c) (sym a) (subst (λ (s : List Bool). IsMinimal (searched problem) s c) (sym b) k)
 
   pub seen_complete : (e : Lifting Object State Op Reply) (set : List Bool) → e.problem ≡ problem → with_calls (no_calls (searched problem)) e.lifted ≡ set → HasEveryCompleted (searched e.problem) (lifted_set (searched e.problem) e.lifted) → HasEveryCompleted (searched problem) set
-  seen_complete e set a b k = subst (λ (s : List Bool). HasEveryCompleted (searched problem) s) b (subst (λ (q : Posing Object State Op Reply). HasEveryCompleted (searched q) (lifted_set (searched q) e.lifted)) a k)
+  seen_complete e set a b k = subst (λ (s : List Bool). HasEveryCompleted (searched problem) s) b (subst (λ (q : ProblemParts Object State Op Reply). HasEveryCompleted (searched q) (lifted_set (searched q) e.lifted)) a k)
 
   pub seen_incomplete : (e : Lifting Object State Op Reply) (set : List Bool) → e.problem ≡ problem → with_calls (no_calls (searched problem)) e.lifted ≡ set → (HasEveryCompleted (searched e.problem) (lifted_set (searched e.problem) e.lifted) → ⊥) → HasEveryCompleted (searched problem) set → ⊥
-  seen_incomplete e set a b k h = k (subst (λ (q : Posing Object State Op Reply). HasEveryCompleted (searched q) (lifted_set (searched q) e.lifted)) (sym a) (subst (λ (s : List Bool). HasEveryCompleted (searched problem) s) (sym b) h))
+  seen_incomplete e set a b k h = k (subst (λ (q : ProblemParts Object State Op Reply). HasEveryCompleted (searched q) (lifted_set (searched q) e.lifted)) (sym a) (subst (λ (s : List Bool). HasEveryCompleted (searched problem) s) (sym b) h))
 
   pub kept_problem : (e was : Lifting Object State Op Reply) (l : List ℕ) → e ≡ record { problem = was.problem; lifted = l } → was.problem ≡ problem → e.problem ≡ problem
   kept_problem e was l a b = rw a b
@@ -419,7 +419,7 @@ module _ {Object State Op Reply : Type 0} (after : Object → State → ℕ → 
   pub set_more : (lifted : List ℕ) (c : ℕ) (set more : List Bool) → with_calls (no_calls (searched problem)) lifted ≡ set → more ≡ with_call set c → with_calls (no_calls (searched problem)) (lifted ++ c ∷ []) ≡ more
   set_more lifted c set more a b = with_append (no_calls (searched problem)) lifted (c ∷ []) ∙ rw (a, b) refl
 
-pub lifted_calls : {Object State Op Reply : Type 0} (e : Lifting Object State Op Reply) (q : Posing Object State Op Reply) (l : List ℕ) → e ≡ record { problem = q; lifted = l } → e.lifted ≡ l
+pub lifted_calls : {Object State Op Reply : Type 0} (e : Lifting Object State Op Reply) (q : ProblemParts Object State Op Reply) (l : List ℕ) → e ≡ record { problem = q; lifted = l } → e.lifted ≡ l
 lifted_calls e q l a = rw a refl
 
 -- the product of so many factors
@@ -483,7 +483,7 @@ module _ {State : Type 0} where
           omega (arith, e, r, k, q)
 
 -- with each step of a search less is left
-module _ {State Op Reply : Type 0} (p : Posed State Op Reply) where
+module _ {State Op Reply : Type 0} (p : Problem State Op Reply) where
   pub less_on : (fs : List (Framed State)) (set : List Bool) (was : Option ℕ) (c : ℕ) (candidate : Option ℕ) → was ≡ Some c → IfSome was (λ (d : ℕ). IsMinimal p set d) → IsLeastMinimal p set (c + 1) candidate → work (length p.calls) fs set (bound p candidate) < work (length p.calls) fs set (bound p was)
   less_on fs set was c candidate e minimal least =
       rw e (work_on (length p.calls) fs set c (bound p candidate) (let h = way_on set c candidate (rw e at minimal) least in omega (arith, h)) (bound_within p set (c + 1) candidate least))

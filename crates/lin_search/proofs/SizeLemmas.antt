@@ -1,7 +1,7 @@
 use Rattle.std.proofs.Common.{◌≡◌, ℕ, suc, ◌+◌, ◌-◌, Option, Some, None, ◌<◌, ◌≤◌, Bool, List, [], ◌∷◌, ◌++◌, length, ◌⊎◌, inl, inr, refl, sym, ◌∙◌, ap, subst, arith, length-append}
 use Rattle.std.specs.Prelude.{IsSomeAnd}
-use Rattle.lin_history.specs.Posed.{Posed}
-use Rattle.lin_history.specs.Continuations.{IsContinuation}
+use Rattle.lin_history.specs.Problems.Problem.{Problem}
+use Rattle.lin_history.specs.Problems.Continuations.{IsContinuation}
 use Rattle.lin_search.specs.CallSet.{with_call}
 use Rattle.lin_search.specs.Next.{IsNext}
 use Rattle.lin_search.specs.declared.outcome.Outcome.{Outcome}
@@ -74,7 +74,7 @@ not_empty i l e = cc
 pub many_none : (P : List ℕ → Type 0) → HasMany P 0
 many_none P = record { lists = []; different = tt; each = tt; count = refl }
 
-module _ {State Op Reply : Type 0} (p : Posed State Op Reply) (set : List Bool) (s : State) where
+module _ {State Op Reply : Type 0} (p : Problem State Op Reply) (set : List Bool) (s : State) where
   -- continuations that begin with a call below i
   abbrev pub Begun : ℕ → List ℕ → Type 0
   Begun i l = IsContinuation p set s l × IsBelow i l
@@ -134,7 +134,7 @@ pub count_start : (a : ℕ) → 0 ≡ a - a
 count_start a = omega arith
 
 -- what the recursion tells of a configuration, when no lift was counted before
-module _ {State Op Reply : Type 0} (p : Posed State Op Reply) (set : List Bool) (s : State) where
+module _ {State Op Reply : Type 0} (p : Problem State Op Reply) (set : List Bool) (s : State) where
   more_than : (limit : Option ℕ) → IsSomeAnd limit (λ (most : ℕ). HasMany (IsContinuation p set s) ((most - 0) + 1)) → IsSomeAnd limit (λ (most : ℕ). HasMoreThan (IsContinuation p set s) most)
   more_than None k = absurd k
   more_than (Some most) k = many_as (IsContinuation p set s) ((most - 0) + 1) (most + 1) (omega arith) k

@@ -1,8 +1,8 @@
 use Rattle.std.proofs.Common.{◌≡◌, ℕ, zero, suc, ◌+◌, ◌<◌, ◌≤◌, Bool, true, false, Option, Some, None, List, [], ◌∷◌, length, set, ◌⊎◌, inl, inr, refl, sym, ◌∙◌, ap, subst, arith}
 use Rattle.std.proofs.lemmas.List.{length-set}
-use Rattle.lin_history.specs.Posed.{Posed}
-use Rattle.lin_history.specs.Lists.{IsUpTo, IsLeast, IsLongest, first_of}
-use Rattle.lin_history.specs.Continuations.{has, IsContinuation, IsCompletion}
+use Rattle.lin_history.specs.Problems.Problem.{Problem}
+use Rattle.lin_history.specs.Problems.Lists.{IsUpTo, IsLeast, IsLongest, first_of}
+use Rattle.lin_history.specs.Problems.Continuations.{has, IsContinuation, IsCompletion}
 use Rattle.lin_search.specs.CallSet.{with_call}
 use Rattle.lin_search.specs.declared.longest.Longest.{Longest}
 use Rattle.lin_search.specs.Next.{IsNext, HasEveryCompleted}
@@ -31,7 +31,7 @@ abbrev pub IsBelow : ℕ → List ℕ → Type 0
 IsBelow i [] = Unit {0}
 IsBelow i (c ∷ cs) = c < i
 
-module _ {State Op Reply : Type 0} (p : Posed State Op Reply) where
+module _ {State Op Reply : Type 0} (p : Problem State Op Reply) where
   pub flags_kept : (set : List Bool) (c : ℕ) → length set ≡ length p.calls → length (with_call set c) ≡ length p.calls
   flags_kept set c e = length-set set c true ∙ e
 

@@ -1,6 +1,6 @@
 ghost use Rattle.std.specs.Prelude.{◌≡◌, ◌≤◌, ◌+◌, ◌⊎◌, Bool, List, length, true, IfOk, IfSome, IsTrue, IsSomeAnd};
-ghost use Rattle.lin_history.specs.Posed.{posed};
-ghost use Rattle.lin_history.specs.Configurations.{IsReachable};
+ghost use Rattle.lin_history.specs.Problems.Problem.{problem_of};
+ghost use Rattle.lin_history.specs.Problems.Configurations.{IsReachable};
 ghost use Rattle.lin_search.specs.Answer.{IsAnswer};
 ghost use Rattle.lin_search.specs.CallSet.{lifted_set};
 ghost use Rattle.lin_search.specs.Refuted.{IsRefutedWith};
@@ -35,7 +35,7 @@ pub(crate) fn look_at<O: SeqObject, M: Memo<O>>(
     here: bool,
 ) -> Option<Longest>
     requires { IsTrue here → M.is_of memo.old problem.now }
-    ensures refuted { IfSome result (λ longest. IsRefutedWith (posed O.after O.State.eq O.Reply.eq problem.now) config.now.lifted config.now.state longest) }
+    ensures refuted { IfSome result (λ longest. IsRefutedWith (problem_of O.after O.State.eq O.Reply.eq problem.now) config.now.lifted config.now.state longest) }
     ensures held { IfSome result (λ longest. M.holds memo.new config.now.lifted config.now.state) }
     ensures only { (set : List Bool) (s : O.State) → M.holds memo.new set s → M.holds memo.old set s }
     ensures changes { M.changes memo.old memo.new }
@@ -56,7 +56,7 @@ fn note_at<O: SeqObject, M: Memo<O>>(
     here: bool,
 ) -> Noted
     requires here { IsTrue here → M.is_of memo.old problem.now }
-    requires refuted { IsRefutedWith (posed O.after O.State.eq O.Reply.eq problem.now) config.lifted config.state longest }
+    requires refuted { IsRefutedWith (problem_of O.after O.State.eq O.Reply.eq problem.now) config.lifted config.state longest }
     ensures held { IsKept result → M.holds memo.new config.lifted config.state }
     ensures only { (set : List Bool) (s : O.State) → M.holds memo.new set s → M.holds memo.old set s ⊎ ((result ≡ New) × (set ≡ config.lifted) × (O.State.eq s config.state ≡ true)) }
     ensures changes { M.changes memo.old memo.new }
@@ -98,7 +98,7 @@ fn entries_at<'p, O: SeqObject>(
 ) -> Result<Entries<'p, O>, AllocError>
     requires { length config.now.lifted ≡ length problem.now.calls }
     ensures problem { IfOk result (λ entries. entries.problem ≡ problem.now) }
-    ensures lifted { IfOk result (λ entries. lifted_set (posed O.after O.State.eq O.Reply.eq problem.now) entries.lifted ≡ config.now.lifted) }
+    ensures lifted { IfOk result (λ entries. lifted_set (problem_of O.after O.State.eq O.Reply.eq problem.now) entries.lifted ≡ config.now.lifted) }
 {
     let mut entries = Entries::new(alloc, problem)?;
     for call in 0..problem.len() {
@@ -124,15 +124,15 @@ pub(crate) fn search_from<O: SeqObject, M: Memo<O>, S: Stop>(
     lifts: &mut u64,
     stop: &mut S,
 ) -> Result<Ended, AllocError>
-    requires reachable { IsReachable (posed O.after O.State.eq O.Reply.eq problem.now) config.lifted config.state }
+    requires reachable { IsReachable (problem_of O.after O.State.eq O.Reply.eq problem.now) config.lifted config.state }
     requires here { IsTrue here → M.is_of memo.old problem.now }
     requires within { IfSome limit (λ most. lifts.old ≤ most) }
-    ensures answer { IfOk result (λ ended. IsFinding (posed O.after O.State.eq O.Reply.eq problem.now) config.lifted config.state ended.outcome) }
+    ensures answer { IfOk result (λ ended. IsFinding (problem_of O.after O.State.eq O.Reply.eq problem.now) config.lifted config.state ended.outcome) }
     ensures memo { M.changes memo.old memo.new }
-    ensures closed { IfOk result (λ ended. IsTrue ended.whole → EndsClosed (posed O.after O.State.eq O.Reply.eq problem.now) (M.holds memo.old) (M.holds memo.new) config.lifted config.state ended.outcome) }
+    ensures closed { IfOk result (λ ended. IsTrue ended.whole → EndsClosed (problem_of O.after O.State.eq O.Reply.eq problem.now) (M.holds memo.old) (M.holds memo.new) config.lifted config.state ended.outcome) }
     ensures more { lifts.old ≤ lifts.new }
     ensures within { IfSome limit (λ most. lifts.new ≤ most) }
-    ensures size { IfOk result (λ ended. IsCounted (posed O.after O.State.eq O.Reply.eq problem.now) config.lifted config.state limit lifts.old lifts.new ended.outcome) }
+    ensures size { IfOk result (λ ended. IsCounted (problem_of O.after O.State.eq O.Reply.eq problem.now) config.lifted config.state limit lifts.old lifts.new ended.outcome) }
     ensures stop { S.follows stop.old stop.new }
     ensures told { IfOk result (λ ended. IsTold (S.tells stop.new) ended.outcome) }
 {
@@ -227,8 +227,8 @@ pub fn search<O: SeqObject, M: Memo<O>, S: Stop>(
     limit: Option<u64>,
     stop: &mut S,
 ) -> Result<Outcome, AllocError>
-    requires { IsReachable (posed O.after O.State.eq O.Reply.eq problem.now) config.now.lifted config.now.state }
-    ensures answer { IfOk result (IsAnswer (posed O.after O.State.eq O.Reply.eq problem.now) config.now.lifted config.now.state limit (S.tells stop.new)) }
+    requires { IsReachable (problem_of O.after O.State.eq O.Reply.eq problem.now) config.now.lifted config.now.state }
+    ensures answer { IfOk result (IsAnswer (problem_of O.after O.State.eq O.Reply.eq problem.now) config.now.lifted config.now.state limit (S.tells stop.new)) }
     ensures memo { M.changes memo.old memo.new }
     ensures stop { S.follows stop.old stop.new }
 {

@@ -1,9 +1,9 @@
 ghost use Rattle.std.specs.Prelude.{ℕ, List, IfOk, IsTrue};
-ghost use Rattle.lin_history.specs.Lists.{IsLongest};
-ghost use Rattle.lin_history.specs.Posed.{posed};
-ghost use Rattle.lin_history.specs.Continuations.{IsContinuation};
-ghost use Rattle.lin_history.specs.Configurations.{IsReachable};
-ghost use Rattle.lin_history.specs.Linearizations.{IsLinearization, IsRun};
+ghost use Rattle.lin_history.specs.Problems.Lists.{IsLongest};
+ghost use Rattle.lin_history.specs.Problems.Problem.{problem_of};
+ghost use Rattle.lin_history.specs.Problems.Continuations.{IsContinuation};
+ghost use Rattle.lin_history.specs.Problems.Configurations.{IsReachable};
+ghost use Rattle.lin_history.specs.Problems.Linearizations.{IsLinearization, IsRun};
 ghost use Rattle.lin_search.specs.Answer.{HasNoCompletion};
 ghost use Rattle.lin_search.specs.LongestRun.{IsFirstLongest};
 
@@ -26,10 +26,10 @@ fn longest_of<O: SeqObject, M: Memo<O>>(
     memo: &mut M,
     here: bool,
 ) -> Result<Longest, AllocError>
-    requires reachable { IsReachable (posed O.after O.State.eq O.Reply.eq problem.now) config.now.lifted config.now.state }
-    requires none { HasNoCompletion (posed O.after O.State.eq O.Reply.eq problem.now) config.now.lifted config.now.state }
+    requires reachable { IsReachable (problem_of O.after O.State.eq O.Reply.eq problem.now) config.now.lifted config.now.state }
+    requires none { HasNoCompletion (problem_of O.after O.State.eq O.Reply.eq problem.now) config.now.lifted config.now.state }
     requires here { IsTrue here → M.is_of memo.old problem.now }
-    ensures longest { IfOk result (λ longest. IsLongest (IsContinuation (posed O.after O.State.eq O.Reply.eq problem.now) config.now.lifted config.now.state) longest.more longest.first) }
+    ensures longest { IfOk result (λ longest. IsLongest (IsContinuation (problem_of O.after O.State.eq O.Reply.eq problem.now) config.now.lifted config.now.state) longest.more longest.first) }
     ensures memo { M.changes memo.old memo.new }
 {
     lawful::<O>();
@@ -67,8 +67,8 @@ pub fn longest_run<O: SeqObject, M: Memo<O>>(
     problem: &Problem<O>,
     memo: &mut M,
 ) -> Result<Order, AllocError>
-    requires { (l : List ℕ) → IsLinearization (posed O.after O.State.eq O.Reply.eq problem.now) l → ⊥ }
-    ensures run { IfOk result (λ order. IsFirstLongest (IsRun (posed O.after O.State.eq O.Reply.eq problem.now)) order) }
+    requires { (l : List ℕ) → IsLinearization (problem_of O.after O.State.eq O.Reply.eq problem.now) l → ⊥ }
+    ensures run { IfOk result (λ order. IsFirstLongest (IsRun (problem_of O.after O.State.eq O.Reply.eq problem.now)) order) }
     ensures memo { M.changes memo.old memo.new }
 {
     lawful::<O>();

@@ -3,9 +3,9 @@ use Rattle.std.proofs.Common.{◌≡◌, ℕ, ◌≤◌, Bool, true, false, nat_
 use Rattle.std.proofs.lemmas.Bool.Decides.{nat_tests}
 use Rattle.serde_json.specs.Data.{Data}
 use Rattle.lin_text.specs.declared.cause.Cause.{Cause}
-use Rattle.lin_history.specs.declared.fault.BuildFault.{BuildFault}
+use Rattle.lin_history.specs.declared.recorder.fault.BuildFault.{BuildFault}
 use Rattle.lin_history.specs.Refusals.{first_that_holds}
-use Rattle.lin_history.specs.Recorded.{Recorded, kind_named}
+use Rattle.lin_history.specs.Recorder.RecordedHistory.{RecordedHistory, kind_named}
 use Rattle.lin_text.specs.Causes.{cause_of}
 use Rattle.lin_text.specs.Line.{LineEvent, json, conditions_in, IsLineEventIn}
 use Rattle.lin_text.specs.Text.{is_blank, max_line, event_at, as_cause, refusals, refusals_at, taken, causes_of, HasCause, Leads}
@@ -27,21 +27,21 @@ none_passes [] b e = refl
 none_passes (c ∷ cs) b e = head_none c.0 c.1 (first_that_holds cs) (first_that_holds (cs ++ b)) (first_that_holds b) (none_passes cs b) e
 
 -- a line that is neither too long nor blank, with a value
-pub record IsRead (h : Recorded) (line : List ℕ) (d : Data) : Type 0 where
+pub record IsRead (h : RecordedHistory) (line : List ℕ) (d : Data) : Type 0 where
   pub short : length line ≤ max_line
   pub there : is_blank line ≡ false
   pub value : json line ≡ Some d
 
-of_value : (h : Recorded) (line : List ℕ) (d : Data) → IsRead h line d → first_that_holds (causes_of h line) ≡ first_that_holds (conditions_in (kind_named h) d ++ refusals_at h (event_at h line))
+of_value : (h : RecordedHistory) (line : List ℕ) (d : Data) → IsRead h line d → first_that_holds (causes_of h line) ≡ first_that_holds (conditions_in (kind_named h) d ++ refusals_at h (event_at h line))
 of_value h line d r =
     let test : nat_lt max_line (length line) ≡ false = grind (arith, nat_tests, r.short) in
     rw (test, r.there, r.value) refl
 
-event_is : (h : Recorded) (line : List ℕ) (d : Data) (event : LineEvent) → IsRead h line d → IsLineEventIn (kind_named h) d event → event_at h line ≡ Some event
+event_is : (h : RecordedHistory) (line : List ℕ) (d : Data) (event : LineEvent) → IsRead h line d → IsLineEventIn (kind_named h) d event → event_at h line ≡ Some event
 unfolding event_at
 event_is h line d event r e = rw r.value e.read_as
 
-pub refused_value : (h : Recorded) (line : List ℕ) (d : Data) (cause : Cause) → IsRead h line d → first_that_holds (conditions_in (kind_named h) d) ≡ Some cause → HasCause h line cause
+pub refused_value : (h : RecordedHistory) (line : List ℕ) (d : Data) (cause : Cause) → IsRead h line d → first_that_holds (conditions_in (kind_named h) d) ≡ Some cause → HasCause h line cause
 refused_value h line d cause r e = of_value h line d r ∙ some_stays (conditions_in (kind_named h) d) (refusals_at h (event_at h line)) cause e
 
 mapped_head : (t : Bool) (x : BuildFault) (r : Option BuildFault) (s : Option Cause) → ((fault : BuildFault) → r ≡ Some fault → s ≡ Some (cause_of fault)) → (fault : BuildFault) → cond t (Some x) r ≡ Some fault → cond t (Some (cause_of x)) s ≡ Some (cause_of fault)
@@ -61,12 +61,12 @@ mapped_none : (rs : List (Bool × BuildFault)) → first_that_holds rs ≡ None 
 mapped_none [] e = refl
 mapped_none (r ∷ rs) e = none_head r.0 r.1 (first_that_holds rs) (first_that_holds (map as_cause rs)) (mapped_none rs) e
 
-pub refused_event : (h : Recorded) (line : List ℕ) (d : Data) (event : LineEvent) (fault : BuildFault) → IsRead h line d → IsLineEventIn (kind_named h) d event
+pub refused_event : (h : RecordedHistory) (line : List ℕ) (d : Data) (event : LineEvent) (fault : BuildFault) → IsRead h line d → IsLineEventIn (kind_named h) d event
     → first_that_holds (refusals h event) ≡ Some fault → HasCause h line (cause_of fault)
 refused_event h line d event fault r e refused =
     of_value h line d r ∙ (none_passes (conditions_in (kind_named h) d) (refusals_at h (event_at h line)) e.sound ∙ rw (event_is h line d event r e) (mapped_some (refusals h event) fault refused))
 
-pub leads_by : (h g : Recorded) (line : List ℕ) (d : Data) (event : LineEvent) → IsRead h line d → IsLineEventIn (kind_named h) d event
+pub leads_by : (h g : RecordedHistory) (line : List ℕ) (d : Data) (event : LineEvent) → IsRead h line d → IsLineEventIn (kind_named h) d event
     → first_that_holds (refusals h event) ≡ None → g ≡ taken h event → Leads h line g
 leads_by h g line d event r e sound is = record {
   sound = of_value h line d r ∙ (none_passes (conditions_in (kind_named h) d) (refusals_at h (event_at h line)) e.sound ∙ rw (event_is h line d event r e) (mapped_none (refusals h event) sound));

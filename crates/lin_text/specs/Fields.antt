@@ -8,7 +8,7 @@ use Rattle.lin_object.specs.declared.kind.Kind.TheVariants.{Register, Counter}
 use Rattle.lin_object.specs.declared.op.Op.{Op}
 use Rattle.lin_object.specs.declared.reply.Reply.{Reply}
 use Rattle.lin_object.specs.declared.reply.Reply.TheVariants.{Okay, Int, Flag, Empty}
-use Rattle.lin_history.specs.Names.{is_name}
+use Rattle.lin_history.specs.Recorder.Names.{is_name}
 use Rattle.lin_text.specs.declared.line.What.{What}
 use Rattle.lin_text.specs.declared.line.What.TheVariants.{Declaration, Call, Return}
 use Rattle.lin_text.specs.declared.cause.Cause.{Cause}

@@ -4,8 +4,8 @@ use Rattle.std.specs.List.{list_all}
 use Rattle.lin_text.specs.declared.cause.Cause.{Cause}
 use Rattle.lin_text.specs.declared.cause.Cause.TheVariants.{LineTooLong, InputTooLong}
 use Rattle.lin_history.specs.Refusals.{first_that_holds}
-use Rattle.lin_history.specs.declared.fault.BuildFault.{BuildFault}
-use Rattle.lin_history.specs.Recorded.{Recorded, nothing_recorded, kind_named, index_named, declaration_refusals, call_refusals, return_refusals, with_object, with_call, with_return}
+use Rattle.lin_history.specs.declared.recorder.fault.BuildFault.{BuildFault}
+use Rattle.lin_history.specs.Recorder.RecordedHistory.{RecordedHistory, nothing_recorded, kind_named, index_named, declaration_refusals, call_refusals, return_refusals, with_object, with_call, with_return}
 use Rattle.lin_object.specs.declared.op.Op.{Op}
 use Rattle.lin_text.specs.Causes.{cause_of}
 use Rattle.lin_text.specs.Line.{LineEvent, declares, calls, returns_, json, conditions, event_in}
@@ -36,7 +36,7 @@ is_blank line = list_all is_blank_byte line
 abbrev pub max_line : ℕ
 max_line = 65536
 
-unfoldable pub event_at : Recorded → List ℕ → Option LineEvent
+unfoldable pub event_at : RecordedHistory → List ℕ → Option LineEvent
 event_at h line = option_and_then (event_in (kind_named h)) (json line)
 
 -- A condition of the builder, as one of a text.
@@ -44,61 +44,61 @@ abbrev pub as_cause : Bool × BuildFault → Bool × Cause
 as_cause r = (r.0, cause_of r.1)
 
 -- Why the history so far refuses the event.
-abbrev pub refusals : Recorded → LineEvent → List (Bool × BuildFault)
+abbrev pub refusals : RecordedHistory → LineEvent → List (Bool × BuildFault)
 refusals h (declares name kind start) = declaration_refusals h name
 refusals h (calls process name op) = call_refusals h process name
 refusals h (returns_ process name reply) = return_refusals h process name
 
-abbrev pub refusals_at : Recorded → Option LineEvent → List (Bool × Cause)
+abbrev pub refusals_at : RecordedHistory → Option LineEvent → List (Bool × Cause)
 refusals_at h None = []
 refusals_at h (Some event) = map as_cause (refusals h event)
 
 -- The history with the call on the object of this index.
-abbrev pub call_at : Recorded → ℕ → Op → Option ℕ → Recorded
+abbrev pub call_at : RecordedHistory → ℕ → Op → Option ℕ → RecordedHistory
 call_at h process op None = h
 call_at h process op (Some object) = with_call h process object op
 
 -- The history with the event of one line more.
-abbrev pub taken : Recorded → LineEvent → Recorded
+abbrev pub taken : RecordedHistory → LineEvent → RecordedHistory
 taken h (declares name kind start) = with_object h name kind start
 taken h (calls process name op) = call_at h process op (index_named h name)
 taken h (returns_ process name reply) = with_return h process reply
 
-abbrev pub with_event : Recorded → Option LineEvent → Recorded
+abbrev pub with_event : RecordedHistory → Option LineEvent → RecordedHistory
 with_event h None = h
 with_event h (Some event) = taken h event
 
 -- the causes that a line can have, in order
-abbrev pub causes_of : Recorded → List ℕ → List (Bool × Cause)
+abbrev pub causes_of : RecordedHistory → List ℕ → List (Bool × Cause)
 causes_of h line =
     (nat_lt max_line (length line), LineTooLong)
     ∷ (if is_blank line then [] else conditions (kind_named h) line ++ refusals_at h (event_at h line))
 
-abbrev pub HasCause : Recorded → List ℕ → Cause → Type 0
+abbrev pub HasCause : RecordedHistory → List ℕ → Cause → Type 0
 HasCause h line cause = first_that_holds (causes_of h line) ≡ Some cause
 
 -- The line has no cause, and its event, if it is not blank, leads from one history to the other.
-pub record Leads (h : Recorded) (line : List ℕ) (g : Recorded) : Type 0 where
+pub record Leads (h : RecordedHistory) (line : List ℕ) (g : RecordedHistory) : Type 0 where
   pub sound : first_that_holds (causes_of h line) ≡ None
   pub after : g ≡ (if is_blank line then h else with_event h (event_at h line))
 
 -- ---- all lines
 
 -- no line of these has a cause, and their events lead from h to g
-abbrev pub Lead : Recorded → List (List ℕ) → Recorded → Type 0
+abbrev pub Lead : RecordedHistory → List (List ℕ) → RecordedHistory → Type 0
 Lead h [] g = h ≡ g
-Lead h (line ∷ more) g = (m : Recorded) × Leads h line m × Lead m more g
+Lead h (line ∷ more) g = (m : RecordedHistory) × Leads h line m × Lead m more g
 
 abbrev pub max_input : ℕ
 max_input = 67108864
 
 -- the text means this history
-pub record MeansHistory (text : List ℕ) (h : Recorded) : Type 0 where
+pub record MeansHistory (text : List ℕ) (h : RecordedHistory) : Type 0 where
   pub short : length text ≤ max_input
   pub events : Lead nothing_recorded (lines text) h
 
 -- The lines before this one, which is the number-th, have no cause, and their events lead to h.
-pub record IsReached (text : List ℕ) (number : ℕ) (line : List ℕ) (h : Recorded) : Type 0 where
+pub record IsReached (text : List ℕ) (number : ℕ) (line : List ℕ) (h : RecordedHistory) : Type 0 where
   pub short : length text ≤ max_input
   pub before : List (List ℕ)
   pub after : List (List ℕ)
@@ -108,7 +108,7 @@ pub record IsReached (text : List ℕ) (number : ℕ) (line : List ℕ) (h : Rec
 
 -- the first line with a cause, and that line's first cause
 abbrev pub HasFaultyLine : List ℕ → ℕ → Cause → Type 0
-HasFaultyLine text number cause = (line : List ℕ) × (h : Recorded) × IsReached text number line h × HasCause h line cause
+HasFaultyLine text number cause = (line : List ℕ) × (h : RecordedHistory) × IsReached text number line h × HasCause h line cause
 
 abbrev pub IsTooLong : List ℕ → ℕ → Cause → Type 0
 IsTooLong text number cause = (max_input < length text) × (number ≡ 0) × (cause ≡ InputTooLong)
@@ -119,4 +119,4 @@ MeansFault text number cause = IsTooLong text number cause ⊎ HasFaultyLine tex
 
 -- memory ran out at a line that is not too long, and no line before it has a cause
 abbrev pub RanOutAt : List ℕ → ℕ → Type 0
-RanOutAt text number = (line : List ℕ) × (h : Recorded) × IsReached text number line h × (length line ≤ max_line)
+RanOutAt text number = (line : List ℕ) × (h : RecordedHistory) × IsReached text number line h × (length line ≤ max_line)

@@ -1,7 +1,7 @@
 ghost use Rattle.std.specs.Prelude.{◌≡◌, ◌≢◌, ◌≤◌, length, is_some, true, Some, Ok, Err, IfOk, IfErr, OnErr, MatchResult};
 ghost use Rattle.serde_json.specs.Find.{as_object};
 ghost use Rattle.serde_json.specs.View.{view};
-ghost use Rattle.lin_history.specs.Recorded.{kind_named};
+ghost use Rattle.lin_history.specs.Recorder.RecordedHistory.{kind_named};
 ghost use Rattle.lin_text.specs.Fields.{what_in};
 ghost use Rattle.lin_text.specs.Line.{Tells};
 

@@ -2,7 +2,7 @@ ghost use Rattle.std.specs.Prelude.{position, IfSome, ◌≡◌, ◌≢◌, ◌<
 ghost use Rattle.std.specs.List.{list_all};
 ghost use Rattle.serde_json.specs.View.{view};
 ghost use Rattle.lin_text.specs.Line.{json, seen};
-ghost use Rattle.lin_history.specs.Recorded.{nothing_recorded};
+ghost use Rattle.lin_history.specs.Recorder.RecordedHistory.{nothing_recorded};
 ghost use Rattle.lin_text.specs.Text.{is_newline, lines, is_blank, is_blank_byte, max_line, max_input, refusals, taken, HasCause, Leads, MeansHistory, MeansFault, RanOutAt};
 ghost use Rattle.lin_history.specs.Refusals.{first_that_holds};
 

@@ -1,5 +1,5 @@
 ghost use Rattle.std.specs.Prelude.{◌≡◌, ◌<◌, Some, length, option_map, slice_get, IfOk};
-ghost use Rattle.lin_history.specs.Parts.{start_of, part_calls};
+ghost use Rattle.lin_history.specs.Recorder.Parts.{start_of, part_calls};
 ghost use Rattle.lincheck.specs.Verdict.{IsObjectVerdict, IsVerdict};
 
 use crate::verdict::{ObjectVerdict, Verdict};

@@ -1,8 +1,8 @@
 ghost use Rattle.std.specs.Prelude.{◌≡◌, ℕ, ◌<◌, ◌++◌, length, slice_get, slice_index_or, vec_len, string_bytes, false, IfOk, OnOk, Some};
 ghost use Rattle.lin_object.specs.declared.op.Op.{Op};
 ghost use Rattle.lin_object.specs.declared.reply.Reply.{Reply};
-ghost use Rattle.lin_history.specs.Events.{Call};
-ghost use Rattle.lin_history.specs.Recorded.{calls_on};
+ghost use Rattle.lin_history.specs.Recorder.Events.{Call};
+ghost use Rattle.lin_history.specs.Recorder.RecordedHistory.{calls_on};
 ghost use Rattle.lincheck.specs.Report.{mark_of, call_line, call_lines, dropped_line, dropped_lines, is_placed, name_line, length_line, yes_report, no_report};
 ghost use Rattle.lincheck.specs.Verdict.{AreCalls, IsOf, report_of};
 

@@ -1,6 +1,6 @@
 ghost use Rattle.std.specs.Prelude.{IfOk, IfSome};
-ghost use Rattle.lin_history.specs.Posed.{posed};
-ghost use Rattle.lin_history.specs.Configurations.{IsReachable};
+ghost use Rattle.lin_history.specs.Problems.Problem.{problem_of};
+ghost use Rattle.lin_history.specs.Problems.Configurations.{IsReachable};
 
 use crate::Config;
 use crate::tests::problems::{
@@ -18,7 +18,7 @@ fn reached<O: SeqObject>(
     problem: &Problem<O>,
     path: &[usize],
 ) -> Result<Option<Config<O>>, AllocError>
-    ensures { IfOk result (λ answer. IfSome answer (λ config. IsReachable (posed O.after O.State.eq O.Reply.eq problem.now) config.lifted config.state)) }
+    ensures { IfOk result (λ answer. IfSome answer (λ config. IsReachable (problem_of O.after O.State.eq O.Reply.eq problem.now) config.lifted config.state)) }
 {
     let mut config = Config::root(alloc, problem)?;
     for call in path {

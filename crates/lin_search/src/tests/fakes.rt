@@ -1,5 +1,5 @@
 ghost use Rattle.std.specs.Prelude.{◌≡◌, ◌⊎◌, Bool, List, true, IfSome};
-ghost use Rattle.lin_history.specs.Posed.{posed};
+ghost use Rattle.lin_history.specs.Problems.Problem.{problem_of};
 ghost use Rattle.lin_search.specs.Refuted.{IsRefutedWith};
 ghost use Rattle.lin_search.specs.declared.memo.Noted.TheVariants.{Busy};
 

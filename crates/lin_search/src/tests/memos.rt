@@ -1,4 +1,4 @@
-ghost use Rattle.lin_history.specs.Same.{SameProblem};
+ghost use Rattle.lin_history.specs.Problems.SameProblem.{SameProblem};
 ghost use Rattle.lin_search.specs.Store.{IsNoted};
 
 use crate::tests::problems::read_after_three_writes;

@@ -1,5 +1,5 @@
 use Rattle.std.proofs.Common.{None, refl}
-use Rattle.lin_history.specs.Posed.{posed}
+use Rattle.lin_history.specs.Problems.Problem.{problem_of}
 use Rattle.lin_search.specs.Store.{Holds}
 use Rattle.lin_search.specs.StoreLemmas.{held_at_equal}
 use Rattle.lin_search.specs.AlikeLemmas.{alike_answer}
@@ -20,6 +20,6 @@ returns-clause-answer g c =
 pub returns-clause-all : goal.returns-clause-all
 returns-clause-all g c =
     λ refuted.
-    let closed = refuted_closed (posed g.O.SeqObject.after g.O.State.PartialEq.eq g.O.Reply.PartialEq.eq c.args.problem.now) (Holds g.O.State.PartialEq.eq c.args.memo.now.pairs) (Holds g.O.State.PartialEq.eq c.search_from.new.memo.pairs) _ _ c.in_ok-ended.ended.outcome (c.in_ok-ended.ensures.closed (was_true _ c.if-not-ended.false)) refuted (closed_empty (posed g.O.SeqObject.after g.O.State.PartialEq.eq g.O.Reply.PartialEq.eq c.args.problem.now) c.args.memo.now.pairs (rw c.requires refl)) in
+    let closed = refuted_closed (problem_of g.O.SeqObject.after g.O.State.PartialEq.eq g.O.Reply.PartialEq.eq c.args.problem.now) (Holds g.O.State.PartialEq.eq c.args.memo.now.pairs) (Holds g.O.State.PartialEq.eq c.search_from.new.memo.pairs) _ _ c.in_ok-ended.ended.outcome (c.in_ok-ended.ensures.closed (was_true _ c.if-not-ended.false)) refuted (closed_empty (problem_of g.O.SeqObject.after g.O.State.PartialEq.eq g.O.Reply.PartialEq.eq c.args.problem.now) c.args.memo.now.pairs (rw c.requires refl)) in
     let root = held_at_equal g.O.State.PartialEq.eq c.lawful.ensures.states _ _ _ _ c.in_ok-root.ensures.state (rw c.in_ok-root.ensures.lifted at closed.1) in
-    closed_has_all (posed g.O.SeqObject.after g.O.State.PartialEq.eq g.O.Reply.PartialEq.eq c.args.problem.now) (Holds g.O.State.PartialEq.eq c.search_from.new.memo.pairs) (held_at_equal g.O.State.PartialEq.eq c.lawful.ensures.states c.search_from.new.memo.pairs) closed.0 root
+    closed_has_all (problem_of g.O.SeqObject.after g.O.State.PartialEq.eq g.O.Reply.PartialEq.eq c.args.problem.now) (Holds g.O.State.PartialEq.eq c.search_from.new.memo.pairs) (held_at_equal g.O.State.PartialEq.eq c.lawful.ensures.states c.search_from.new.memo.pairs) closed.0 root

@@ -1,6 +1,6 @@
 use Rattle.std.proofs.Common.{ap, ◌≡◌, ℕ, ◌∷◌, ◌++◌, [], List, true≢false, arith, sym, ◌∙◌, subst, append-nil}
-use Rattle.lin_history.specs.Posed.{posed}
-use Rattle.lin_history.specs.Continuations.{IsContinuation, no_calls}
+use Rattle.lin_history.specs.Problems.Problem.{problem_of}
+use Rattle.lin_history.specs.Problems.Continuations.{IsContinuation, no_calls}
 use Rattle.lin_search.specs.CallSet.{with_calls}
 use Rattle.lin_search.specs.Frames.{calls_of}
 use Rattle.lin_search.specs.SameLemmas.{alike_itself}
@@ -18,12 +18,12 @@ returns-then-is_complete-clause-answer g c =
 pub returns-in-Some-clause-closed : goal.returns-in-Some-clause-closed
 returns-in-Some-clause-closed g c =
     λ w closed. (
-      closed_look (posed g.O.SeqObject.after g.O.State.PartialEq.eq g.O.Reply.PartialEq.eq c.args.problem.now) (g.M.Memo.holds c.args.memo.now) (g.M.Memo.holds c.look_at.new.memo) c.look_at.ensures.only (g.met.M.Memo.lasting _ _ c.look_at.ensures.changes) closed,
+      closed_look (problem_of g.O.SeqObject.after g.O.State.PartialEq.eq g.O.Reply.PartialEq.eq c.args.problem.now) (g.M.Memo.holds c.args.memo.now) (g.M.Memo.holds c.look_at.new.memo) c.look_at.ensures.only (g.met.M.Memo.lasting _ _ c.look_at.ensures.changes) closed,
       rw c.in-Some.is at c.look_at.ensures.held,
     )
 
 pub returns-in-Some-clause-size : goal.returns-in-Some-clause-size
-returns-in-Some-clause-size g c = λ h. many_as (IsContinuation (posed g.O.SeqObject.after g.O.State.PartialEq.eq g.O.Reply.PartialEq.eq c.args.problem.now) c.args.config.lifted c.args.config.state) _ _ (count_start c.args.lifts.now) (many_none _)
+returns-in-Some-clause-size g c = λ h. many_as (IsContinuation (problem_of g.O.SeqObject.after g.O.State.PartialEq.eq g.O.Reply.PartialEq.eq c.args.problem.now) c.args.config.lifted c.args.config.state) _ _ (count_start c.args.lifts.now) (many_none _)
 
 pub loop-candidate-init : goal.loop-candidate-init
 loop-candidate-init g c =
@@ -90,7 +90,7 @@ loop-candidate-smaller-in_default-candidate g c =
     let kept = kept_problem g.O.SeqObject.after g.O.State.PartialEq.eq g.O.Reply.PartialEq.eq c.args.problem.now c.unlift.new.self c.loop-candidate.entries _ unlifted c.loop-candidate.invariant.entries in
     let set = pop_set c.loop-candidate.invariant.lifted.0 _ c.pop.new.self.items c.in-Some-pop.frame _ _ _ _ _ (lifted_calls c.unlift.new.self _ _ unlifted) split c.loop-candidate.invariant.lifted.2 c.loop-candidate.invariant.way in
     let least = seen_least g.O.SeqObject.after g.O.State.PartialEq.eq g.O.Reply.PartialEq.eq c.args.problem.now c.unlift.new.self _ _ _ kept set (rw c.into_parts-left.ensures.call at c.next_minimal-candidate.ensures) in
-    rw c.into_parts-left.ensures.config (less_up (posed g.O.SeqObject.after g.O.State.PartialEq.eq g.O.Reply.PartialEq.eq c.args.problem.now) _ _ c.in-Some-pop.frame c.loop-candidate.current.lifted c.loop-candidate.candidate _ split (way_pop_minimal _ _ _ c.in-Some-pop.frame _ _ _ split c.loop-candidate.invariant.way) least)
+    rw c.into_parts-left.ensures.config (less_up (problem_of g.O.SeqObject.after g.O.State.PartialEq.eq g.O.Reply.PartialEq.eq c.args.problem.now) _ _ c.in-Some-pop.frame c.loop-candidate.current.lifted c.loop-candidate.candidate _ split (way_pop_minimal _ _ _ c.in-Some-pop.frame _ _ _ split c.loop-candidate.invariant.way) least)
 
 pub loop-candidate-preserved-in_default-candidate : goal.loop-candidate-preserved-in_default-candidate
 loop-candidate-preserved-in_default-candidate g c =
@@ -122,7 +122,7 @@ next_minimal-candidate-requires-in_default-2 g c = seen_minimal g.O.SeqObject.af
 pub loop-candidate-smaller-in_default-2 : goal.loop-candidate-smaller-in_default-2
 loop-candidate-smaller-in_default-2 g c =
     let least = seen_least g.O.SeqObject.after g.O.State.PartialEq.eq g.O.Reply.PartialEq.eq c.args.problem.now c.loop-candidate.entries _ _ _ c.loop-candidate.invariant.entries (way_set _ _ _ _ _ _ c.loop-candidate.invariant.lifted.0 c.loop-candidate.invariant.lifted.1 c.loop-candidate.invariant.lifted.2 c.loop-candidate.invariant.way) c.next_minimal-candidate-in_default-2.ensures in
-    less_on (posed g.O.SeqObject.after g.O.State.PartialEq.eq g.O.Reply.PartialEq.eq c.args.problem.now) _ _ _ _ _ c.in-Some-candidate.is c.loop-candidate.invariant.way.minimal least
+    less_on (problem_of g.O.SeqObject.after g.O.State.PartialEq.eq g.O.Reply.PartialEq.eq c.args.problem.now) _ _ _ _ _ c.in-Some-candidate.is c.loop-candidate.invariant.way.minimal least
 
 pub loop-candidate-preserved-in_default-2 : goal.loop-candidate-preserved-in_default-2
 loop-candidate-preserved-in_default-2 g c =
@@ -143,7 +143,7 @@ loop-candidate-preserved-in_default-2 g c =
 pub returns-then-not-count_lift-clause-size : goal.returns-then-not-count_lift-clause-size
 returns-then-not-count_lift-clause-size g c =
     let child = rw c.in-Some-2.is at c.in_ok-child.ensures.some in
-    sized_met (posed g.O.SeqObject.after g.O.State.PartialEq.eq g.O.Reply.PartialEq.eq c.args.problem.now) c.args.limit _ _ _ _ _ _ _ _ _ c.loop-candidate.invariant.way.leads c.loop-candidate.invariant.way.reachable.flags child.1 (c.count_lift.ensures.met (λ h. true≢false (sym h ∙ c.if-not-count_lift.true))) (λ h. rw c.in-Some-candidate.is at (c.loop-candidate.invariant.sized h))
+    sized_met (problem_of g.O.SeqObject.after g.O.State.PartialEq.eq g.O.Reply.PartialEq.eq c.args.problem.now) c.args.limit _ _ _ _ _ _ _ _ _ c.loop-candidate.invariant.way.leads c.loop-candidate.invariant.way.reachable.flags child.1 (c.count_lift.ensures.met (λ h. true≢false (sym h ∙ c.if-not-count_lift.true))) (λ h. rw c.in-Some-candidate.is at (c.loop-candidate.invariant.sized h))
 
 pub returns-in-Some-ask-clause-stop : goal.returns-in-Some-ask-clause-stop
 returns-in-Some-ask-clause-stop g c = g.met.S.Stop.chained _ _ _ c.loop-candidate.invariant.stop c.ask.ensures.follows
@@ -159,7 +159,7 @@ returns-then-is_complete-2-clause-answer g c =
     let child = rw c.in-Some-2.is at c.in_ok-child.ensures.some in
     let more = lifted_calls c.lift.new.self _ _ c.lift.ensures in
     let kept = kept_problem g.O.SeqObject.after g.O.State.PartialEq.eq g.O.Reply.PartialEq.eq c.args.problem.now c.lift.new.self c.loop-candidate.entries _ c.lift.ensures c.loop-candidate.invariant.entries in
-    let set = subst (λ (l : List ℕ). with_calls (no_calls (posed g.O.SeqObject.after g.O.State.PartialEq.eq g.O.Reply.PartialEq.eq c.args.problem.now)) l ≡ c.in-Some-2.child.lifted) (sym more) (set_more g.O.SeqObject.after g.O.State.PartialEq.eq g.O.Reply.PartialEq.eq c.args.problem.now c.loop-candidate.entries.lifted _ _ _ (way_set _ _ _ _ _ _ c.loop-candidate.invariant.lifted.0 c.loop-candidate.invariant.lifted.1 c.loop-candidate.invariant.lifted.2 c.loop-candidate.invariant.way) child.0) in
+    let set = subst (λ (l : List ℕ). with_calls (no_calls (problem_of g.O.SeqObject.after g.O.State.PartialEq.eq g.O.Reply.PartialEq.eq c.args.problem.now)) l ≡ c.in-Some-2.child.lifted) (sym more) (set_more g.O.SeqObject.after g.O.State.PartialEq.eq g.O.Reply.PartialEq.eq c.args.problem.now c.loop-candidate.entries.lifted _ _ _ (way_set _ _ _ _ _ _ c.loop-candidate.invariant.lifted.0 c.loop-candidate.invariant.lifted.1 c.loop-candidate.invariant.lifted.2 c.loop-candidate.invariant.way) child.0) in
     rw (c.in_ok-order_through.ensures, c.as_slice.ensures.value) (way_found _ _ _ _ _ _ _ c.in-Some-candidate.is c.loop-candidate.invariant.way child.1 child.0 (seen_complete g.O.SeqObject.after g.O.State.PartialEq.eq g.O.Reply.PartialEq.eq c.args.problem.now c.lift.new.self _ kept set (c.is_complete-in-loop-candidate.ensures.0 c.if-is_complete-2.true)))
 
 pub returns-then-is_complete-2-clause-stop : goal.returns-then-is_complete-2-clause-stop
@@ -180,7 +180,7 @@ next_minimal-candidate-requires-in-Some-look_at g c =
     let unlifted = c.unlift-in-Some-look_at.ensures c.loop-candidate.entries.lifted more in
     let kept = kept_problem g.O.SeqObject.after g.O.State.PartialEq.eq g.O.Reply.PartialEq.eq c.args.problem.now c.unlift-in-Some-look_at.new.self c.lift.new.self _ unlifted (kept_problem g.O.SeqObject.after g.O.State.PartialEq.eq g.O.Reply.PartialEq.eq c.args.problem.now c.lift.new.self c.loop-candidate.entries _ c.lift.ensures c.loop-candidate.invariant.entries) in
     let back = lifted_calls c.unlift-in-Some-look_at.new.self _ _ unlifted in
-    let set = subst (λ (l : List ℕ). with_calls (no_calls (posed g.O.SeqObject.after g.O.State.PartialEq.eq g.O.Reply.PartialEq.eq c.args.problem.now)) l ≡ c.loop-candidate.current.lifted) (sym back) (way_set _ _ _ _ _ _ c.loop-candidate.invariant.lifted.0 c.loop-candidate.invariant.lifted.1 c.loop-candidate.invariant.lifted.2 c.loop-candidate.invariant.way) in
+    let set = subst (λ (l : List ℕ). with_calls (no_calls (problem_of g.O.SeqObject.after g.O.State.PartialEq.eq g.O.Reply.PartialEq.eq c.args.problem.now)) l ≡ c.loop-candidate.current.lifted) (sym back) (way_set _ _ _ _ _ _ c.loop-candidate.invariant.lifted.0 c.loop-candidate.invariant.lifted.1 c.loop-candidate.invariant.lifted.2 c.loop-candidate.invariant.way) in
     seen_minimal g.O.SeqObject.after g.O.State.PartialEq.eq g.O.Reply.PartialEq.eq c.args.problem.now c.unlift-in-Some-look_at.new.self _ _ kept set (rw c.in-Some-candidate.is at c.loop-candidate.invariant.way.minimal)
 
 pub loop-candidate-smaller-in-Some-look_at : goal.loop-candidate-smaller-in-Some-look_at
@@ -189,9 +189,9 @@ loop-candidate-smaller-in-Some-look_at g c =
     let unlifted = c.unlift-in-Some-look_at.ensures c.loop-candidate.entries.lifted more in
     let kept = kept_problem g.O.SeqObject.after g.O.State.PartialEq.eq g.O.Reply.PartialEq.eq c.args.problem.now c.unlift-in-Some-look_at.new.self c.lift.new.self _ unlifted (kept_problem g.O.SeqObject.after g.O.State.PartialEq.eq g.O.Reply.PartialEq.eq c.args.problem.now c.lift.new.self c.loop-candidate.entries _ c.lift.ensures c.loop-candidate.invariant.entries) in
     let back = lifted_calls c.unlift-in-Some-look_at.new.self _ _ unlifted in
-    let set = subst (λ (l : List ℕ). with_calls (no_calls (posed g.O.SeqObject.after g.O.State.PartialEq.eq g.O.Reply.PartialEq.eq c.args.problem.now)) l ≡ c.loop-candidate.current.lifted) (sym back) (way_set _ _ _ _ _ _ c.loop-candidate.invariant.lifted.0 c.loop-candidate.invariant.lifted.1 c.loop-candidate.invariant.lifted.2 c.loop-candidate.invariant.way) in
+    let set = subst (λ (l : List ℕ). with_calls (no_calls (problem_of g.O.SeqObject.after g.O.State.PartialEq.eq g.O.Reply.PartialEq.eq c.args.problem.now)) l ≡ c.loop-candidate.current.lifted) (sym back) (way_set _ _ _ _ _ _ c.loop-candidate.invariant.lifted.0 c.loop-candidate.invariant.lifted.1 c.loop-candidate.invariant.lifted.2 c.loop-candidate.invariant.way) in
     let least = seen_least g.O.SeqObject.after g.O.State.PartialEq.eq g.O.Reply.PartialEq.eq c.args.problem.now c.unlift-in-Some-look_at.new.self _ _ _ kept set c.next_minimal-candidate-in-Some-look_at.ensures in
-    less_on (posed g.O.SeqObject.after g.O.State.PartialEq.eq g.O.Reply.PartialEq.eq c.args.problem.now) _ _ _ _ _ c.in-Some-candidate.is c.loop-candidate.invariant.way.minimal least
+    less_on (problem_of g.O.SeqObject.after g.O.State.PartialEq.eq g.O.Reply.PartialEq.eq c.args.problem.now) _ _ _ _ _ c.in-Some-candidate.is c.loop-candidate.invariant.way.minimal least
 
 pub loop-candidate-preserved-in-Some-look_at : goal.loop-candidate-preserved-in-Some-look_at
 loop-candidate-preserved-in-Some-look_at g c =
@@ -200,7 +200,7 @@ loop-candidate-preserved-in-Some-look_at g c =
     let unlifted = c.unlift-in-Some-look_at.ensures c.loop-candidate.entries.lifted more in
     let kept = kept_problem g.O.SeqObject.after g.O.State.PartialEq.eq g.O.Reply.PartialEq.eq c.args.problem.now c.unlift-in-Some-look_at.new.self c.lift.new.self _ unlifted (kept_problem g.O.SeqObject.after g.O.State.PartialEq.eq g.O.Reply.PartialEq.eq c.args.problem.now c.lift.new.self c.loop-candidate.entries _ c.lift.ensures c.loop-candidate.invariant.entries) in
     let back = lifted_calls c.unlift-in-Some-look_at.new.self _ _ unlifted in
-    let set = subst (λ (l : List ℕ). with_calls (no_calls (posed g.O.SeqObject.after g.O.State.PartialEq.eq g.O.Reply.PartialEq.eq c.args.problem.now)) l ≡ c.loop-candidate.current.lifted) (sym back) (way_set _ _ _ _ _ _ c.loop-candidate.invariant.lifted.0 c.loop-candidate.invariant.lifted.1 c.loop-candidate.invariant.lifted.2 c.loop-candidate.invariant.way) in
+    let set = subst (λ (l : List ℕ). with_calls (no_calls (problem_of g.O.SeqObject.after g.O.State.PartialEq.eq g.O.Reply.PartialEq.eq c.args.problem.now)) l ≡ c.loop-candidate.current.lifted) (sym back) (way_set _ _ _ _ _ _ c.loop-candidate.invariant.lifted.0 c.loop-candidate.invariant.lifted.1 c.loop-candidate.invariant.lifted.2 c.loop-candidate.invariant.way) in
     let least = seen_least g.O.SeqObject.after g.O.State.PartialEq.eq g.O.Reply.PartialEq.eq c.args.problem.now c.unlift-in-Some-look_at.new.self _ _ _ kept set c.next_minimal-candidate-in-Some-look_at.ensures in
     let refuted = rw (child.0) at (rw c.in-Some-look_at.is at c.look_at-in-loop-candidate.ensures.refuted) in
     record {
@@ -211,7 +211,7 @@ loop-candidate-preserved-in-Some-look_at g c =
       held = λ w. held_hit _ (g.M.Memo.holds c.loop-candidate.memo) (g.M.Memo.holds c.look_at-in-loop-candidate.new.memo) _ _ _ _ _ _ c.in-Some-candidate.is c.look_at-in-loop-candidate.ensures.only (g.met.M.Memo.lasting _ _ c.look_at-in-loop-candidate.ensures.changes) child.1 (rw (child.0) at (rw c.in-Some-look_at.is at c.look_at-in-loop-candidate.ensures.held)) least (c.loop-candidate.invariant.held w);
       old = (let a = c.loop-candidate.invariant.old in let b = c.count_lift.ensures.more in omega (arith, a, b));
       within = c.count_lift.ensures.within;
-      sized = λ h. sized_to _ _ _ _ _ _ _ _ (way_on _ _ _ (rw c.in-Some-candidate.is at c.loop-candidate.invariant.way.minimal) least) (sized_hit (posed g.O.SeqObject.after g.O.State.PartialEq.eq g.O.Reply.PartialEq.eq c.args.problem.now) c.args.limit _ _ _ _ _ _ _ _ c.loop-candidate.invariant.way.reachable.flags child.1 (c.count_lift.ensures.counted c.if-not-count_lift.false) (λ k. rw c.in-Some-candidate.is at (c.loop-candidate.invariant.sized k)) h);
+      sized = λ h. sized_to _ _ _ _ _ _ _ _ (way_on _ _ _ (rw c.in-Some-candidate.is at c.loop-candidate.invariant.way.minimal) least) (sized_hit (problem_of g.O.SeqObject.after g.O.State.PartialEq.eq g.O.Reply.PartialEq.eq c.args.problem.now) c.args.limit _ _ _ _ _ _ _ _ c.loop-candidate.invariant.way.reachable.flags child.1 (c.count_lift.ensures.counted c.if-not-count_lift.false) (λ k. rw c.in-Some-candidate.is at (c.loop-candidate.invariant.sized k)) h);
       stop = g.met.S.Stop.chained _ _ _ c.loop-candidate.invariant.stop c.ask.ensures.follows;
     }
 
@@ -224,14 +224,14 @@ returns-in_err-push-clause-stop g c = g.met.S.Stop.chained _ _ _ c.loop-candidat
 pub loop-candidate-smaller : goal.loop-candidate-smaller
 loop-candidate-smaller g c =
     let child = rw c.in-Some-2.is at c.in_ok-child.ensures.some in
-    less_down (posed g.O.SeqObject.after g.O.State.PartialEq.eq g.O.Reply.PartialEq.eq c.args.problem.now) _ _ _ _ _ _ c.loop-candidate.candidate _ c.first_minimal-candidate-in-loop-candidate.result c.in-Some-candidate.is (rw c.new-in-loop-candidate.ensures at c.in_ok-push.ensures.items) c.loop-candidate.invariant.way child.1 child.0
+    less_down (problem_of g.O.SeqObject.after g.O.State.PartialEq.eq g.O.Reply.PartialEq.eq c.args.problem.now) _ _ _ _ _ _ c.loop-candidate.candidate _ c.first_minimal-candidate-in-loop-candidate.result c.in-Some-candidate.is (rw c.new-in-loop-candidate.ensures at c.in_ok-push.ensures.items) c.loop-candidate.invariant.way child.1 child.0
 
 pub loop-candidate-preserved : goal.loop-candidate-preserved
 loop-candidate-preserved g c =
     let child = rw c.in-Some-2.is at c.in_ok-child.ensures.some in
     let more = lifted_calls c.lift.new.self _ _ c.lift.ensures in
     let kept = kept_problem g.O.SeqObject.after g.O.State.PartialEq.eq g.O.Reply.PartialEq.eq c.args.problem.now c.lift.new.self c.loop-candidate.entries _ c.lift.ensures c.loop-candidate.invariant.entries in
-    let set = subst (λ (l : List ℕ). with_calls (no_calls (posed g.O.SeqObject.after g.O.State.PartialEq.eq g.O.Reply.PartialEq.eq c.args.problem.now)) l ≡ c.in-Some-2.child.lifted) (sym more) (set_more g.O.SeqObject.after g.O.State.PartialEq.eq g.O.Reply.PartialEq.eq c.args.problem.now c.loop-candidate.entries.lifted _ _ _ (way_set _ _ _ _ _ _ c.loop-candidate.invariant.lifted.0 c.loop-candidate.invariant.lifted.1 c.loop-candidate.invariant.lifted.2 c.loop-candidate.invariant.way) child.0) in
+    let set = subst (λ (l : List ℕ). with_calls (no_calls (problem_of g.O.SeqObject.after g.O.State.PartialEq.eq g.O.Reply.PartialEq.eq c.args.problem.now)) l ≡ c.in-Some-2.child.lifted) (sym more) (set_more g.O.SeqObject.after g.O.State.PartialEq.eq g.O.Reply.PartialEq.eq c.args.problem.now c.loop-candidate.entries.lifted _ _ _ (way_set _ _ _ _ _ _ c.loop-candidate.invariant.lifted.0 c.loop-candidate.invariant.lifted.1 c.loop-candidate.invariant.lifted.2 c.loop-candidate.invariant.way) child.0) in
     let least = seen_least g.O.SeqObject.after g.O.State.PartialEq.eq g.O.Reply.PartialEq.eq c.args.problem.now c.lift.new.self _ _ _ kept set c.first_minimal-candidate-in-loop-candidate.ensures in
     let pushed = (rw c.new-in-loop-candidate.ensures at c.in_ok-push.ensures.items) in
     record {
@@ -242,7 +242,7 @@ loop-candidate-preserved g c =
       held = λ w. rw pushed (held_push _ (g.M.Memo.holds c.loop-candidate.memo) (g.M.Memo.holds c.look_at-in-loop-candidate.new.memo) _ _ _ _ _ _ _ c.in-Some-candidate.is c.look_at-in-loop-candidate.ensures.only (g.met.M.Memo.lasting _ _ c.look_at-in-loop-candidate.ensures.changes) least (c.loop-candidate.invariant.held w));
       old = (let a = c.loop-candidate.invariant.old in let b = c.count_lift.ensures.more in omega (arith, a, b));
       within = c.count_lift.ensures.within;
-      sized = λ h. sized_to _ _ _ _ 0 _ _ _ (omega arith) (rw pushed (sized_push (posed g.O.SeqObject.after g.O.State.PartialEq.eq g.O.Reply.PartialEq.eq c.args.problem.now) c.args.limit _ (record { config = c.loop-candidate.current; call = c.in-Some-candidate.call; longest = c.loop-candidate.longest }) _ _ _ _ _ (c.count_lift.ensures.counted c.if-not-count_lift.false) (λ k. rw c.in-Some-candidate.is at (c.loop-candidate.invariant.sized k)) h));
+      sized = λ h. sized_to _ _ _ _ 0 _ _ _ (omega arith) (rw pushed (sized_push (problem_of g.O.SeqObject.after g.O.State.PartialEq.eq g.O.Reply.PartialEq.eq c.args.problem.now) c.args.limit _ (record { config = c.loop-candidate.current; call = c.in-Some-candidate.call; longest = c.loop-candidate.longest }) _ _ _ _ _ (c.count_lift.ensures.counted c.if-not-count_lift.false) (λ k. rw c.in-Some-candidate.is at (c.loop-candidate.invariant.sized k)) h));
       stop = g.met.S.Stop.chained _ _ _ c.loop-candidate.invariant.stop c.ask.ensures.follows;
     }
 

@@ -1,6 +1,6 @@
 use Rattle.std.proofs.Common.{ap, ◌∙◌, arith}
 use Rattle.serde_json.specs.View.{view}
-use Rattle.lin_history.specs.Recorded.{kind_named}
+use Rattle.lin_history.specs.Recorder.RecordedHistory.{kind_named}
 use Rattle.lin_text.specs.Causes.{cause_of}
 use Rattle.lin_text.specs.Line.{seen, IsLineEventIn}
 use Rattle.lin_text.proofs.Causes.{IsRead, refused_value, refused_event, leads_by}
