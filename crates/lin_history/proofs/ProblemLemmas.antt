@@ -2,5 +2,4 @@
 pub mod NumberLemmas
 pub mod EventNumberLemmas
 pub mod TimelineLemmas
-pub mod SameLemmas
 pub mod Rows

@@ -5,7 +5,7 @@ use Rattle.std.specs.List.{slice_get}
 use Rattle.std.specs.Option.{option_map_or}
 use Rattle.std.proofs.Math.ListN.{set}
 use Rattle.std.proofs.lemmas.Bool.Decides.{eqb_tells}
-use Rattle.std.proofs.lemmas.Option.{slice_get_within, slice_get-get_or}
+use Rattle.std.proofs.lemmas.Option.{slice_get_within, slice_get-get_or, same_Some}
 use Rattle.lin_object.specs.declared.kind.Kind.TheVariants.{Register}
 use Rattle.lin_object.specs.declared.state.ObjState.{ObjState}
 use Rattle.lin_object.specs.Object.{state_at_start}
@@ -20,7 +20,8 @@ use Rattle.lin_history.specs.Locality.RecordedWhole.{start_at}
 use Rattle.lin_history.specs.Locality.Whole.{Whole, Has, HasReturned, AreDistinct, KeepsOrder, Steps, with_state, Replays, IsLinearizationOfWhole}
 use Rattle.lin_history.specs.Verifier.Flags.{AreKnown, AreDistinctCalls, AreFlagsOf}
 use Rattle.lin_history.specs.Locality.JoinedOrder.{called_at}
-use Rattle.lin_history.specs.Locality.TimeLemmas.{ReturnsBefore, IsTimely, before_none, timely_gives, gives_timely}
+use Rattle.lin_history.specs.Locality.TimeLemmas.{called_is, ReturnsBefore, IsTimely, before_none, timely_gives, gives_timely}
+use Rattle.lin_history.proofs.ListLemmas.{drop_at}
 
 -- ---- lists
 
@@ -37,13 +38,8 @@ module _ {A : Type 0} where
   set_other (z ∷ zs) (suc i) zero y apart = refl
   set_other (z ∷ zs) (suc i) (suc j) y apart = set_other zs i j y (λ e. apart (ap suc e))
 
-  rest_at_suc : (xs : List A) (i : ℕ) (x : A) → slice_get xs i ≡ Some x → drop i xs ≡ x ∷ drop (suc i) xs
-  rest_at_suc [] i x e = absurd (cc)
-  rest_at_suc (z ∷ zs) zero x e = let same : z ≡ x = cc in ap (λ (y : A). y ∷ zs) same
-  rest_at_suc (z ∷ zs) (suc i) x e = rest_at_suc zs i x e
-
   pub rest_at : (xs : List A) (i : ℕ) (x : A) → slice_get xs i ≡ Some x → drop i xs ≡ x ∷ drop (i + 1) xs
-  rest_at xs i x e = rw add-one (rest_at_suc xs i x e)
+  rest_at xs i x e = rw add-one (drop_at xs i x e)
 
   pub rest_none : (xs : List A) (i : ℕ) → length xs ≤ i → drop i xs ≡ []
   rest_none [] zero over = refl
@@ -181,9 +177,6 @@ module _ {State Op Reply : Type 0} (h : Whole State Op Reply) where
     pub to : IsTimely h 0 whole → IsTimely h n rest
     pub back : IsTimely h n rest → IsTimely h 0 whole
 
-  called_is : (a : ℕ) (c : Call Op Reply) → slice_get h.calls a ≡ Some c → called_at h a ≡ c.called
-  called_is a c e = rw e refl
-
   before_is : (a n : ℕ) (c : Call Op Reply) → slice_get h.calls a ≡ Some c → ReturnsBefore h a n → IsSomeAnd c.returned (λ r. r.0 < n)
   before_is a n c e p = rw e at p
 
@@ -194,7 +187,7 @@ module _ {State Op Reply : Type 0} (h : Whole State Op Reply) where
       → IsTiming n whole (drop i l) → IsTiming m whole (drop (i + 1) l)
   timing_next n m whole l i x c there call is late t =
       let u : IsTiming n whole (x ∷ drop (i + 1) l) = subst (IsTiming n whole) (rest_at l i x there) t in
-      let e : m ≡ max n (called_at h x.call) = is ∙ ap (max n) (sym (called_is x.call c call)) in
+      let e : m ≡ max n (called_at h x.call) = is ∙ ap (max n) (sym (called_is h x.call c call)) in
       record {
         to = λ f. subst (λ (k : ℕ). IsTimely h k (drop (i + 1) l)) (sym e) (u.to f).1;
         back = λ f. u.back ((λ p. late (before_is x.call m c call (subst (ReturnsBefore h x.call) (sym e) p))), subst (λ (k : ℕ). IsTimely h k (drop (i + 1) l)) e f);
@@ -204,7 +197,7 @@ module _ {State Op Reply : Type 0} (h : Whole State Op Reply) where
       → IsTiming n l (drop i l) → KeepsOrder h l → ⊥
   timing_stops n m l i x c there call is late t keeps =
       let u : IsTiming n l (x ∷ drop (i + 1) l) = subst (IsTiming n l) (rest_at l i x there) t in
-      let e : m ≡ max n (called_at h x.call) = is ∙ ap (max n) (sym (called_is x.call c call)) in
+      let e : m ≡ max n (called_at h x.call) = is ∙ ap (max n) (sym (called_is h x.call c call)) in
       (u.to (gives_timely h 0 l (λ a there. before_none h a) keeps)).0 (subst (ReturnsBefore h x.call) e (is_before x.call m c call late))
 
   pub timing_done : (n : ℕ) (l : List (Placed Reply)) (i : ℕ) → length l ≤ i → IsTiming n l (drop i l) → KeepsOrder h l
@@ -250,11 +243,8 @@ module _ {State Op Reply : Type 0} (h : Whole State Op Reply) where
     pub step : h.after s c.process c.op ≡ Some (m, reply)
     pub recorded : fits h.same_reply reply c.returned ≡ true
 
-  one_some : (x y : State × Reply) → Some x ≡ Some y → x ≡ y
-  one_some x y e = cc
-
   state_same : (a b : State) (r : Reply) (o : Option (State × Reply)) → o ≡ Some (a, r) → o ≡ Some (b, r) → a ≡ b
-  state_same a b r o e f = ap (λ (p : State × Reply). p.0) (one_some (a, r) (b, r) (sym e ∙ f))
+  state_same a b r o e f = ap (λ (p : State × Reply). p.0) (same_Some (a, r) (b, r) (sym e ∙ f))
 
   -- a step of the list's first call is the step of its call from its object's state
   first_step : (d : State) (states : List State) (s : State) (x : Placed Reply) (c e : Call Op Reply) (m : State) → slice_get h.calls x.call ≡ Some c → slice_get states c.object ≡ Some s → Steps h (state_in d states e.object) e x m → (e ≡ c) × IsStep s c x.reply m

@@ -1,3 +1,4 @@
+pub mod OptionLemmas
 pub mod Refusals
 pub mod Problems
 pub mod Recorder

@@ -6,8 +6,10 @@ pub mod Problem
 pub mod LegalLists
 pub mod Precedence
 pub mod Timeline
+pub mod EventLemmas
 pub mod NumberedEvents
 pub mod Continuations
 pub mod Linearizations
 pub mod Configurations
 pub mod SameProblem
+pub mod SameProblemLemmas

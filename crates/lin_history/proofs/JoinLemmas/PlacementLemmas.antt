@@ -1,7 +1,7 @@
 -- One call more of an order is placed.
 use Rattle.std.proofs.Common.{◌≡◌, ℕ, zero, suc, ◌+◌, ◌<◌, ◌≤◌, ◌==◌, Bool, true, false, cond, List, [], ◌∷◌, ◌++◌, drop, length, get_or, drop-cons, Option, Some, None, refl, ap, subst, ◌∙◌, append_assoc, append-nil, add-one, eqb-true, eq-eqb, arith}
 use Rattle.std.specs.List.{slice_get}
-use Rattle.std.proofs.lemmas.Option.{slice_get_within, get_or_from_slice_get}
+use Rattle.std.proofs.lemmas.Option.{slice_get_within, get_or_from_slice_get, same_Some}
 use Rattle.lin_history.specs.declared.locality.placed.Placed.{Placed}
 use Rattle.lin_history.specs.declared.problems.problem.ProblemCall.{ProblemCall}
 use Rattle.lin_history.specs.Recorder.Events.{Call}
@@ -11,6 +11,7 @@ use Rattle.lin_history.specs.Locality.Whole.{Whole, Steps}
 use Rattle.lin_history.specs.Locality.JoinedOrder.{indices_from, index_of, Places}
 use Rattle.lin_history.specs.Locality.PlaceLemmas.{at_number, index_at}
 use Rattle.lin_history.specs.Locality.PartProblem.{part_problem}
+use Rattle.lin_history.proofs.ListLemmas.{drop_at}
 
 drop_nil : (i : ℕ) → drop {A = ℕ} i [] ≡ []
 drop_nil zero = refl
@@ -112,11 +113,8 @@ module _ {State Op Reply : Type 0} (same_state : State → State → Bool) (h : 
       let e = p.ends.1 in
       record { after = e.0; call = found s e.0 k e.1; ends = (p.ends.0, e.2) }
 
-  one_some : (x y : State × Reply) → Some x ≡ Some y → x ≡ y
-  one_some x y e = cc
-
   pair_same : (a b : State) (r q : Reply) → ◌≡◌ {A = Option (State × Reply)} (Some (a, r)) (Some (b, q)) → (a ≡ b) × (r ≡ q)
-  pair_same a b r q e = let same = one_some (a, r) (b, q) e in (ap (λ (p : State × Reply). p.0) same, ap (λ (p : State × Reply). p.1) same)
+  pair_same a b r q e = let same = same_Some (a, r) (b, q) e in (ap (λ (p : State × Reply). p.0) same, ap (λ (p : State × Reply). p.1) same)
 
   pub placing_step : (start : State) (order : List ℕ) (front : List (Placed Reply)) (s : State) (k : ℕ) (rest : List ℕ) (index : ℕ) (c : Call Op Reply) (after : State) (reply : Reply)
       → IsPlacing start order front s (k ∷ rest) → index_of h object k ≡ Some index → slice_get h.calls index ≡ Some c → h.after s c.process c.op ≡ Some (after, reply)
@@ -202,21 +200,16 @@ module _ (object : ℕ) where
   no_test_of a false e f = e
 
 module _ {Op Reply : Type 0} (object : ℕ) where
-  dropped : (calls : List (Call Op Reply)) (n : ℕ) (c : Call Op Reply) → slice_get calls n ≡ Some c → drop n calls ≡ c ∷ drop (suc n) calls
-  dropped [] n c e = absurd (cc)
-  dropped (x ∷ xs) zero c e = (let same : x ≡ c = cc in ap (λ (y : Call Op Reply). y ∷ xs) same)
-  dropped (x ∷ xs) (suc n) c e = dropped xs n c e
-
   -- one call more, which is on the object
   pub index_pushed : (calls : List (Call Op Reply)) (n : ℕ) (c : Call Op Reply) (front whole : List ℕ) → slice_get calls n ≡ Some c → c.object ≡ object
       → front ++ indices_from object n (drop n calls) ≡ whole → (front ++ n ∷ []) ++ indices_from object (n + 1) (drop (n + 1) calls) ≡ whole
   index_pushed calls n c front whole there on e =
       rw add-one (on_test object (c.object == object) n front (indices_from object (suc n) (drop (suc n) calls)) whole (test_of object c.object on)
-      (rw (dropped calls n c there, add-one) at e))
+      (rw (drop_at calls n c there, add-one) at e))
 
   -- one call more, which is not
   pub index_kept : (calls : List (Call Op Reply)) (n : ℕ) (c : Call Op Reply) (front whole : List ℕ) → slice_get calls n ≡ Some c → (c.object ≡ object → ⊥)
       → front ++ indices_from object n (drop n calls) ≡ whole → front ++ indices_from object (n + 1) (drop (n + 1) calls) ≡ whole
   index_kept calls n c front whole there off e =
       rw add-one (off_test object (c.object == object) n front (indices_from object (suc n) (drop (suc n) calls)) whole (no_test_of object c.object (c.object == object) refl off)
-      (rw (dropped calls n c there, add-one) at e))
+      (rw (drop_at calls n c there, add-one) at e))

@@ -22,6 +22,8 @@ use Rattle.lin_history.specs.Locality.PartProblem.{part_problem}
 use Rattle.lin_history.specs.Locality.OrderLemmas.{part_by_order}
 use Rattle.lin_history.specs.Locality.LocalityLemmas.{on_known, on_unique}
 use Rattle.lin_history.proofs.VerifierLemmas.{rest_at, rest_none}
+use Rattle.lin_history.specs.OptionLemmas.{none_has_none}
+use Rattle.lin_history.specs.Locality.TimeLemmas.{called_is}
 
 -- ---- filters
 
@@ -264,10 +266,6 @@ module _ {State Op : Type 0} (h : Whole State Op Reply) where
   at_front (x ∷ xs) order zero o e = inl e
   at_front (x ∷ xs) order (suc object) o e = elim (at_front xs order object o e) [ inl f ↦ inl f | inr f ↦ inr (ap suc f.0, f.1) ]
 
-  no_some : {A : Type 0} (o : Option A) → o ≡ None → IsSome o → ⊥
-  no_some None e some = absurd (cc)
-  no_some (Some x) e some = absurd (cc)
-
   some_known : (object a : ℕ) (o : Option (Call Op Reply)) → slice_get h.calls a ≡ o → is_call_on h object a ≡ true → IsSome (slice_get h.calls a)
   some_known object a None e on = absurd (let f : false ≡ true = rw e at on in cc)
   some_known object a (Some c) e on = rw e refl
@@ -297,7 +295,7 @@ module _ {State Op : Type 0} (h : Whole State Op Reply) where
           let none : filter (is_point_on h object) (with_points h 0 l) ≡ [] = none_on object (with_points h 0 l) (λ a there here.
           (let p : Has h a l = subst (Has h a) (without_with 0 l) there in
           let same : length front ≡ object = sym (same_object (length front) a (on a p)) ∙ same_object object a here in
-          no_some (slice_get front (length front)) (past_none front) (rw (same, e) refl))) in
+          none_has_none (slice_get front (length front)) (past_none front) (rw (same, e) refl))) in
           let is : filter (is_point_on h object) (ps ++ with_points h 0 l) ≡ filter (is_point_on h object) ps = filter-append (is_point_on h object) ps (with_points h 0 l) ∙ ap (λ (m : List Pointed). filter (is_point_on h object) ps ++ m) none ∙ append-nil (filter (is_point_on h object) ps) in
           let was = old.each object o e in
           (was.0, was.1, is ∙ was.2)
@@ -305,7 +303,7 @@ module _ {State Op : Type 0} (h : Whole State Op Reply) where
       late : (object : ℕ) (o : List ℕ) → object ≡ length front → order ≡ o → ArePointsOf h object o (filter (is_point_on h object) (ps ++ with_points h 0 l))
       late object o e f =
           let none : filter (is_point_on h (length front)) ps ≡ [] = none_on (length front) ps (λ a there here.
-          (let k = old.known a there in no_some (slice_get front (length front)) (past_none front) (subst (λ (n : ℕ). IsSome (slice_get front n)) (same_object (length front) a here) k.1))) in
+          (let k = old.known a there in none_has_none (slice_get front (length front)) (past_none front) (subst (λ (n : ℕ). IsSome (slice_get front n)) (same_object (length front) a here) k.1))) in
           let is : filter (is_point_on h (length front)) (ps ++ with_points h 0 l) ≡ with_points h 0 l =
           filter-append (is_point_on h (length front)) ps (with_points h 0 l) ∙ ap (λ (m : List Pointed). m ++ filter (is_point_on h (length front)) (with_points h 0 l)) none ∙ all_on (length front) 0 l on in
           let there : ArePointsOf h (length front) order (filter (is_point_on h (length front)) (ps ++ with_points h 0 l)) = (l, places, is) in
@@ -331,13 +329,10 @@ module _ {State Op : Type 0} (h : Whole State Op Reply) where
 
   -- ---- the loop over one object's order
 
-  called_is : (a : ℕ) (c : Call Op Reply) → slice_get h.calls a ≡ Some c → called_at h a ≡ c.called
-  called_is a c e = rw e refl
-
   pub points_next : (n m : ℕ) (l : List (Placed Reply)) (i : ℕ) (x : Placed Reply) (c : Call Op Reply) (old new whole : List Pointed) → slice_get l i ≡ Some x → slice_get h.calls x.call ≡ Some c → m ≡ max n c.called
       → new ≡ old ++ (record { point = m; placed = x }) ∷ [] → old ++ with_points h n (drop i l) ≡ whole → new ++ with_points h m (drop (i + 1) l) ≡ whole
   points_next n m l i x c old new whole there call is pushed e =
-      let f : m ≡ max n (called_at h x.call) = is ∙ ap (max n) (sym (called_is x.call c call)) in
+      let f : m ≡ max n (called_at h x.call) = is ∙ ap (max n) (sym (called_is h x.call c call)) in
       let split : old ++ with_points h n (x ∷ drop (i + 1) l) ≡ whole = subst (λ (r : List (Placed Reply)). old ++ with_points h n r ≡ whole) (rest_at l i x there) e in
       rw (pushed, f) (append_assoc old ((record { point = max n (called_at h x.call); placed = x }) ∷ []) (with_points h (max n (called_at h x.call)) (drop (i + 1) l)) ∙ split)
 

@@ -5,6 +5,7 @@ use Rattle.lin_history.specs.declared.problems.problem.ProblemCall.{ProblemCall}
 use Rattle.lin_history.specs.Problems.ProblemParts.{number_of, greatest_number, AreTimed}
 use Rattle.lin_history.specs.Recorder.Events.{Event, calls, returns_, Call, first_return, calls_from}
 use Rattle.lin_history.specs.Recorder.Parts.{problem_call}
+use Rattle.lin_history.proofs.ProblemLemmas.NumberLemmas.{called_within}
 
 module _ {A : Type 0} where
   pushed_at : (xs : List A) (y : A) (i : ℕ) (x : A) → slice_get (xs ++ y ∷ []) i ≡ Some x → (slice_get xs i ≡ Some x) ⊎ ((i ≡ length xs) × (x ≡ y))
@@ -34,15 +35,11 @@ module _ {Op Reply : Type 0} where
   greatest_there (c ∷ cs) zero x e = let same : c ≡ x = cc in rw (← same) (omega arith)
   greatest_there (c ∷ cs) (suc i) x e = let rest = greatest_there cs i x e in omega (arith, rest)
 
-  number_called : (x : ProblemCall Op Reply) (r : Option (ℕ × Reply)) → x.called ≤ number_of x r
-  number_called x None = omega arith
-  number_called x (Some r) = omega arith
-
   number_returned : (x : ProblemCall Op Reply) (r : ℕ × Reply) → x.returned ≡ Some r → r.0 ≤ number_of x x.returned
   number_returned x r e = rw e (omega arith)
 
   called_below : (cs : List (ProblemCall Op Reply)) (i : ℕ) (x : ProblemCall Op Reply) → slice_get cs i ≡ Some x → x.called ≤ greatest_number cs
-  called_below cs i x e = let a = greatest_there cs i x e in let b = number_called x x.returned in omega (arith, a, b)
+  called_below cs i x e = let a = greatest_there cs i x e in let b = called_within x x.returned in omega (arith, a, b)
 
   returned_below : (cs : List (ProblemCall Op Reply)) (i : ℕ) (x : ProblemCall Op Reply) (r : ℕ × Reply) → slice_get cs i ≡ Some x → x.returned ≡ Some r → r.0 ≤ greatest_number cs
   returned_below cs i x r e f = let a = greatest_there cs i x e in let b = number_returned x r f in omega (arith, a, b)

@@ -5,7 +5,8 @@ use Rattle.lin_history.specs.declared.problems.problem.ProblemCall.{ProblemCall}
 use Rattle.lin_history.specs.Problems.ProblemParts.{number_of, greatest_number}
 
 module _ {Op Reply : Type 0} where
-  called_within : (c : ProblemCall Op Reply) (r : Option (ℕ × Reply)) → c.called ≤ number_of c r
+  -- a call's own number is within its greatest
+  pub called_within : (c : ProblemCall Op Reply) (r : Option (ℕ × Reply)) → c.called ≤ number_of c r
   called_within c None = omega arith
   called_within c (Some r) = omega arith
 

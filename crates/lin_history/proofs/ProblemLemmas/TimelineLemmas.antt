@@ -3,6 +3,7 @@ use Rattle.std.proofs.Common.{◌≡◌, ◌≢◌, ℕ, zero, suc, ◌+◌, ◌
 use Rattle.std.specs.List.{slice_get, swap, Contains}
 use Rattle.std.specs.Prelude.{IsSomeAnd, option_map}
 use Rattle.std.specs.List.Sorted.{IsPermutation, IsNonDecreasingBy}
+use Rattle.std.proofs.lemmas.Bool.{cases_lt}
 use Rattle.std.proofs.lemmas.Option.{slice_get-map, slice_get_within, slice_get-get_or, get_or_from_slice_get, same_Some}
 use Rattle.std.proofs.lemmas.List.Edits.{Swapped, swapped_from_swap, length-swap}
 use Rattle.std.proofs.lemmas.List.Sorted.{IsPermutation-keeps, IsPermutation-sym, Contains-permutation}
@@ -14,7 +15,9 @@ use Rattle.lin_history.specs.Problems.ProblemParts.{AreTimed}
 use Rattle.lin_history.specs.Problems.Problem.{Problem}
 use Rattle.lin_history.specs.Problems.Precedence.{Before, IsCompleted}
 use Rattle.lin_history.specs.Problems.Timeline.{IsTimeline}
-use Rattle.lin_history.specs.Problems.NumberedEvents.{number_at, event_at, return_of, events_of, events_from}
+use Rattle.lin_history.specs.Problems.NumberedEvents.{number_at, event_at, return_of, events_of_call, events_from}
+use Rattle.lin_history.specs.OptionLemmas.{some_and, and_some, some_is}
+use Rattle.lin_history.specs.Problems.EventLemmas.{call_of, call_or_return, same_call, same_return}
 
 -- ---- no event twice, also after an exchange of two places
 
@@ -114,20 +117,6 @@ once_apart l k i j d h m e = apart_places l i j (get_or l i d) (get_or l j d) k 
 
 -- ---- the events, call by call
 
--- the call of an event
-abbrev call_of : ProblemEvent → ℕ
-call_of (Call c) = c
-call_of (Return c) = c
-
-call_or_return : (c d : ℕ) → Call c ≡ Return d → ⊥
-call_or_return c d e = cc
-
-same_call : (c d : ℕ) → Call c ≡ Call d → c ≡ d
-same_call c d e = ap call_of e
-
-same_return : (c d : ℕ) → Return c ≡ Return d → c ≡ d
-same_return c d e = ap call_of e
-
 module _ {Reply : Type 0} where
   -- the return event in the list is that of the reply
   return_there : (n : ℕ) (o : Option (ℕ × Reply)) (t : Timed) → Has t (return_of n o) → (r : ℕ × Reply) × (o ≡ Some r) × (t.number ≡ r.0) × (t.event ≡ Return n)
@@ -161,7 +150,7 @@ module _ {Op Reply : Type 0} where
 
   -- an event of the first call, or of the others
   split : (n : ℕ) (x : ProblemCall Op Reply) (cs : List (ProblemCall Op Reply)) (t : Timed) → Has t (events_from n (x ∷ cs)) → (t ≡ record { number = x.called; event = Call n }) ⊎ (Has t (return_of n x.returned) ⊎ Has t (events_from (n + 1) cs))
-  split n x cs t h = elim (has_append (events_of n x) (events_from (n + 1) cs) t h) [
+  split n x cs t h = elim (has_append (events_of_call n x) (events_from (n + 1) cs) t h) [
     | inl q ↦ elim q [ inl e ↦ inl e | inr r ↦ inr (inl r) ]
     | inr q ↦ inr (inr q)
   ]
@@ -203,7 +192,7 @@ module _ {Op Reply : Type 0} where
   has_call : (n m : ℕ) (cs : List (ProblemCall Op Reply)) (c : ℕ) (x : ProblemCall Op Reply) → m ≡ n + c → slice_get cs c ≡ Some x → Has (record { number = x.called; event = Call m }) (events_from n cs)
   has_call n m [] c x k e = absurd (cc)
   has_call n m (y ∷ cs) zero x k e = let same : y ≡ x = cc in let at : m ≡ n = omega (arith, k) in rw (← same, at) (inl refl)
-  has_call n m (y ∷ cs) (suc c) x k e = has_right (events_of n y) (events_from (n + 1) cs) (record { number = x.called; event = Call m }) (has_call (n + 1) m cs c x (omega (arith, k)) e)
+  has_call n m (y ∷ cs) (suc c) x k e = has_right (events_of_call n y) (events_from (n + 1) cs) (record { number = x.called; event = Call m }) (has_call (n + 1) m cs c x (omega (arith, k)) e)
 
   has_return : (n m : ℕ) (cs : List (ProblemCall Op Reply)) (c : ℕ) (x : ProblemCall Op Reply) (r : ℕ × Reply) → m ≡ n + c → slice_get cs c ≡ Some x → x.returned ≡ Some r → Has (record { number = r.0; event = Return m }) (events_from n cs)
   has_return n m [] c x r k e f = absurd (cc)
@@ -211,24 +200,14 @@ module _ {Op Reply : Type 0} where
       let same : y ≡ x = cc in
       let at : m ≡ n = omega (arith, k) in
       let P : ℕ → Type 0 = λ k. Has (record { number = r.0; event = Return k }) (events_from n (y ∷ cs)) in
-      subst P (sym at) (has_left (events_of n y) (events_from (n + 1) cs) (record { number = r.0; event = Return n }) (inr (return_has n y.returned r (ap (λ (z : ProblemCall Op Reply). z.returned) same ∙ f))))
-  has_return n m (y ∷ cs) (suc c) x r k e f = has_right (events_of n y) (events_from (n + 1) cs) (record { number = r.0; event = Return m }) (has_return (n + 1) m cs c x r (omega (arith, k)) e f)
+      subst P (sym at) (has_left (events_of_call n y) (events_from (n + 1) cs) (record { number = r.0; event = Return n }) (inr (return_has n y.returned r (ap (λ (z : ProblemCall Op Reply). z.returned) same ∙ f))))
+  has_return n m (y ∷ cs) (suc c) x r k e f = has_right (events_of_call n y) (events_from (n + 1) cs) (record { number = r.0; event = Return m }) (has_return (n + 1) m cs c x r (omega (arith, k)) e f)
 
 -- ---- sorted
-
-some_and : {A : Type 0} (o : Option A) (P : A → Type 0) → IsSomeAnd o P → (x : A) × (o ≡ Some x) × P x
-some_and None P h = absurd h
-some_and (Some x) P h = (x, refl, h)
-
-and_some : {A : Type 0} (o : Option A) (P : A → Type 0) (x : A) → o ≡ Some x → P x → IsSomeAnd o P
-and_some o P x e h = rw e h
 
 is_some : {A : Type 0} (o : Option A) → IsSome o → (x : A) × (o ≡ Some x)
 is_some None h = absurd (cc)
 is_some (Some x) h = (x, refl)
-
-some_is : {A : Type 0} (o : Option A) (x : A) → o ≡ Some x → IsSome o
-some_is o x e = rw e refl
 
 there : {A : Type 0} (xs : List A) (i : ℕ) → i < length xs → (x : A) × (slice_get xs i ≡ Some x)
 there [] i h = absurd (omega (arith, h))
@@ -243,9 +222,6 @@ event_there (t ∷ s) (suc i) e h = event_there s i e h
 there_event : (s : List Timed) (i : ℕ) (t : Timed) → slice_get s i ≡ Some t → slice_get (map event_at s) i ≡ Some t.event
 there_event s i t e = slice_get-map event_at s i ∙ ap (λ (o : Option Timed). option_map event_at o) e
 
-before_or_not : (i j : ℕ) → (i < j) ⊎ (j ≤ i)
-before_or_not i j = grind arith
-
 sorted_low : (s : List Timed) (i j : ℕ) (t u : Timed) → IsNonDecreasingBy number_at s → i ≤ j → slice_get s i ≡ Some t → slice_get s j ≡ Some u → t.number ≤ u.number
 sorted_low s i j t u up h e f =
     let low = up i j t h (slice_get_within s j u f) in
@@ -254,7 +230,7 @@ sorted_low s i j t u up h e f =
     omega (arith, low, m, n)
 
 sorted_before : (s : List Timed) (i j : ℕ) (t u : Timed) → IsNonDecreasingBy number_at s → slice_get s i ≡ Some t → slice_get s j ≡ Some u → t.number < u.number → i < j
-sorted_before s i j t u up e f h = elim (before_or_not i j) [
+sorted_before s i j t u up e f h = elim (cases_lt i j) [
   | inl q ↦ q
   | inr q ↦ (let low = sorted_low s j i u t up q f e in absurd (omega (arith, low, h)))
 ]

@@ -14,7 +14,7 @@ use Rattle.lin_history.specs.Recorder.Views.{call_view, count_on, AreNumbered}
 use Rattle.lin_history.specs.Recorder.BuilderState.{recorded, is_open, KnowsPending, AreCounts, IsBuilderState}
 use Rattle.lin_history.proofs.ListLemmas.{slice_get-push, slice_get-set, slice_get-mapped, map-set_one, find-one, find-none, length_filter-push, length_filter-less, length_filter-set, length_filter-set_all, length_filter-none}
 use Rattle.lin_history.proofs.RecorderLemmas.NextEventLemmas.{adds-object, adds-call, adds-return}
-use Rattle.lin_history.proofs.RecorderLemmas.OutcomeLemmas.{none_of}
+use Rattle.lin_history.specs.OptionLemmas.{none_of}
 
 -- ---- pending calls
 

@@ -7,6 +7,7 @@ use Rattle.indexmap.proofs.MapLemmas.{some_index}
 use Rattle.lin_history.specs.declared.recorder.history.Declaration.{Declaration}
 use Rattle.lin_history.specs.Recorder.RecordedHistory.{DeclaredObject}
 use Rattle.lin_history.specs.Recorder.Views.{object_view}
+use Rattle.lin_history.specs.OptionLemmas.{none_of}
 
 abbrev pub Entry : Type 0
 Entry = String Global × Declaration
@@ -33,10 +34,6 @@ pub absent_key : (es : List Entry) (name : List ℕ) (key : String Global) → s
 absent_key es name key is none =
     let P : List ℕ → Type 0 = λ x. lookup (λ k. bytes_eq x (string_bytes k)) es ≡ None in
     subst P (sym is) (none_of (lookup (λ k. bytes_eq name (string_bytes k)) es) (sym (some_index (λ k. bytes_eq name (string_bytes k)) es) ∙ ap is_some (sym (position-seen name es) ∙ none)))
-  where
-    none_of : {A : Type 0} (r : Option A) → is_some r ≡ false → r ≡ None
-    none_of None h = refl
-    none_of (Some x) h = absurd (cc)
 
 -- the objects with one entry more
 pub pushed_seen : (es : List Entry) (declaration : Declaration) (name : List ℕ) (key : String Global) → string_bytes key ≡ name

@@ -8,7 +8,3 @@ not_err (Err x) P p e = absurd (cc)
 pub is_err-on_err : {A B : Type 0} (r : Result A B) (P : Type 0) → OnErr r P → is_err r ≡ true → P
 is_err-on_err (Ok x) P p e = absurd (cc)
 is_err-on_err (Err x) P p e = p
-
-pub none_of : {A : Type 0} (r : Option A) → is_some r ≡ false → r ≡ None
-none_of None h = refl
-none_of (Some x) h = absurd (cc)

@@ -14,17 +14,13 @@ use Rattle.lin_history.specs.Problems.ProblemParts.{ProblemParts}
 use Rattle.lin_history.specs.Recorder.Parts.{start_of, problem_call, part_calls}
 use Rattle.lin_history.specs.Locality.JoinedOrder.{indices_from}
 use Rattle.lin_history.specs.Locality.PlaceLemmas.{calls_of_part, at_number}
+use Rattle.lin_history.proofs.ListLemmas.{drop_at}
 
 module _ {A : Type 0} where
-  dropped : (l : List A) (n : ℕ) (x : A) → slice_get l n ≡ Some x → drop n l ≡ x ∷ drop (suc n) l
-  dropped [] n x e = absurd (cc)
-  dropped (y ∷ l) zero x e = (let same : y ≡ x = cc in ap (λ (z : A). z ∷ l) same)
-  dropped (y ∷ l) (suc n) x e = dropped l n x e
-
   -- one element more of a list
   pub one_more : (l front new : List A) (n : ℕ) (x : A) → slice_get l n ≡ Some x → new ≡ front ++ x ∷ [] → front ++ drop n l ≡ l → new ++ drop (n + 1) l ≡ l
   one_more l front new n x there pushed so_far =
-      rw (pushed, add-one) (append_assoc front (x ∷ []) (drop (suc n) l) ∙ subst (λ (rest : List A). front ++ rest ≡ l) (dropped l n x there) so_far)
+      rw (pushed, add-one) (append_assoc front (x ∷ []) (drop (suc n) l) ∙ subst (λ (rest : List A). front ++ rest ≡ l) (drop_at l n x there) so_far)
 
   -- all of its elements
   pub no_more : (l front : List A) (n : ℕ) → length l ≤ n → front ++ drop n l ≡ l → front ≡ l

@@ -11,6 +11,7 @@ use Rattle.lin_history.specs.Locality.PartProblem.{part_problem}
 use Rattle.lin_history.specs.Locality.PartLemmas.{part_has, has_part, part_of_whole}
 use Rattle.lin_history.specs.Locality.OrderLemmas.{part_by_order, order_of, order_by_part}
 use Rattle.lin_history.specs.Locality.TimeLemmas.{ReturnsBefore, before_more, before_max, before_none, precedes_before, before_precedes}
+use Rattle.lin_history.specs.OptionLemmas.{none_has_none}
 
 module _ {State Op Reply : Type 0} (h : Whole State Op Reply) where
   -- ---- the part of a list
@@ -185,22 +186,18 @@ module _ {State Op Reply : Type 0} (same_state : State → State → Bool) (h : 
   nothing [] none = refl
   nothing (x ∷ xs) none = absurd (none x.call (inl refl))
 
-  some_none : {A : Type 0} (o : Option A) → o ≡ None → IsSome o → ⊥
-  some_none None e some = absurd (cc)
-  some_none (Some x) e some = absurd (cc)
-
   -- no call of the list is on an object without an order
   none_there : (orders : List (List ℕ)) (object a : ℕ) → slice_get orders object ≡ None → IsSome (slice_get orders (object_of h a)) → is_call_on h object a ≡ true → ⊥
   none_there orders object a none some on =
       let same : object_of h a ≡ object = on_unique h object a (slice_get h.calls a) refl on in
-      some_none (slice_get orders object) none (subst (λ (n : ℕ). IsSome (slice_get orders n)) same some)
+      none_has_none (slice_get orders object) none (subst (λ (n : ℕ). IsSome (slice_get orders n)) same some)
 
   -- no call of the history is
   none_on : (orders : List (List ℕ)) (object a : ℕ) (o : Option (Call Op Reply)) → slice_get h.calls a ≡ o → ((c : Call Op Reply) → slice_get h.calls a ≡ Some c → IsSome (slice_get orders c.object)) → slice_get orders object ≡ None → is_call_on h object a ≡ true → ⊥
   none_on orders object a None e declared none on = absurd (let g : false ≡ true = rw e at on in cc)
   none_on orders object a (Some c) e declared none on =
       let same : c.object ≡ object = eqb-true c.object object (rw e at on) in
-      some_none (slice_get orders object) none (subst (λ (n : ℕ). IsSome (slice_get orders n)) same (declared c e))
+      none_has_none (slice_get orders object) none (subst (λ (n : ℕ). IsSome (slice_get orders n)) same (declared c e))
 
   -- An order of the whole that joins linearizations of the objects is a linearization of the whole.
   pub joined_is_whole : (orders : List (List ℕ)) (l : List (Placed Reply)) → IsJoined h orders l

@@ -14,6 +14,7 @@ use Rattle.lin_history.specs.Locality.Whole.{Whole, Precedes, HasReturned, Has, 
 use Rattle.lin_history.specs.Locality.JoinedOrder.{index_of, Places}
 use Rattle.lin_history.specs.Locality.PlaceLemmas.{IsAt, at_number, number_at, index_at, one_number}
 use Rattle.lin_history.specs.Locality.PartProblem.{part_problem}
+use Rattle.lin_history.specs.OptionLemmas.{some_more}
 
 -- ---- lists
 
@@ -236,12 +237,8 @@ module _ {State Op Reply : Type 0} (same_state : State → State → Bool) (h : 
       some_of None Q q = absurd q
       some_of (Some x) Q q = refl
 
-      weaker : {A : Type 0} (o : Option A) (Q R : A → Type 0) → ((x : A) → Q x → R x) → IsSomeAnd o Q → IsSomeAnd o R
-      weaker None Q R f q = absurd q
-      weaker (Some x) Q R f q = f x q
-
       completed_of : (a b : ℕ) → Before P a b → IsCompleted P a
-      completed_of a b before = weaker (slice_get (P).calls a) _ _ (λ x q. some_of x.returned _ q) before
+      completed_of a b before = some_more (slice_get (P).calls a) _ _ (λ x q. some_of x.returned _ q) before
 
       there_of : {A : Type 0} (o : Option A) (Q : A → Type 0) → IsSomeAnd o Q → (x : A) × (o ≡ Some x)
       there_of None Q q = absurd q

@@ -1,5 +1,5 @@
 -- Real time by the greatest call event so far.
-use Rattle.std.proofs.Common.{ℕ, ◌<◌, ◌≤◌, max, List, [], ◌∷◌, Option, Some, None, ◌⊎◌, inl, inr, refl, sym, subst, arith}
+use Rattle.std.proofs.Common.{◌≡◌, ℕ, ◌<◌, ◌≤◌, max, List, [], ◌∷◌, Option, Some, None, ◌⊎◌, inl, inr, refl, sym, subst, arith}
 use Rattle.std.specs.Prelude.{IsSomeAnd}
 use Rattle.std.specs.List.{slice_get}
 use Rattle.std.specs.Option.{option_map_or}
@@ -8,10 +8,7 @@ use Rattle.lin_history.specs.declared.locality.placed.Placed.{Placed}
 use Rattle.lin_history.specs.Recorder.Events.{Call}
 use Rattle.lin_history.specs.Locality.Whole.{Whole, Precedes, Has, KeepsOrder}
 use Rattle.lin_history.specs.Locality.JoinedOrder.{called_at}
-
-some_more : {A : Type 0} (o : Option A) (P Q : A → Type 0) → ((x : A) → P x → Q x) → IsSomeAnd o P → IsSomeAnd o Q
-some_more None P Q f p = absurd p
-some_more (Some x) P Q f p = f x p
+use Rattle.lin_history.specs.OptionLemmas.{some_more}
 
 some_none : {A : Type 0} (o : Option A) (P : A → Type 0) → ((x : A) → P x → ⊥) → IsSomeAnd o P → ⊥
 some_none None P f p = p
@@ -25,6 +22,10 @@ below_max : (r m n : ℕ) → r < max m n → (r < m) ⊎ (r < n)
 below_max r m n below = elim (leb_tells m n) [ inl up ↦ inr (let e = up.1 in omega (arith, e, below)) | inr down ↦ inl (let e = down.1 in omega (arith, e, below)) ]
 
 module _ {State Op Reply : Type 0} (h : Whole State Op Reply) where
+  -- the event of a call that is there
+  pub called_is : (a : ℕ) (c : Call Op Reply) → slice_get h.calls a ≡ Some c → called_at h a ≡ c.called
+  called_is a c e = rw e refl
+
   -- Call a returned before the event of this number.
   abbrev pub ReturnsBefore : ℕ → ℕ → Type 0
   ReturnsBefore a n = IsSomeAnd (slice_get h.calls a) (λ c. IsSomeAnd c.returned (λ r. r.0 < n))

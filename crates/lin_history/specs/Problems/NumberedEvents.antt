@@ -19,10 +19,10 @@ return_of call None = []
 return_of call (Some r) = (record { number = r.0; event = Return call }) ∷ []
 
 -- The events of this call.
-abbrev pub events_of : {Op Reply : Type 0} → ℕ → ProblemCall Op Reply → List Timed
-events_of call x = (record { number = x.called; event = Call call }) ∷ return_of call x.returned
+abbrev pub events_of_call : {Op Reply : Type 0} → ℕ → ProblemCall Op Reply → List Timed
+events_of_call call x = (record { number = x.called; event = Call call }) ∷ return_of call x.returned
 
 -- The events of the calls, of which the first has this number.
 abbrev pub events_from : {Op Reply : Type 0} → ℕ → List (ProblemCall Op Reply) → List Timed
 events_from call [] = []
-events_from call (x ∷ xs) = events_of call x ++ events_from (call + 1) xs
+events_from call (x ∷ xs) = events_of_call call x ++ events_from (call + 1) xs

@@ -34,15 +34,15 @@ is_pending None = false
 is_pending (Some c) = is_none c.returned
 
 -- Why a problem refuses a call whose event has this number, in order.
-abbrev pub call_refusals : {Object State Op Reply : Type 0} → ProblemParts Object State Op Reply → ℕ → List (Bool × ProblemFault)
-call_refusals p number =
+abbrev pub new_call_refusals : {Object State Op Reply : Type 0} → ProblemParts Object State Op Reply → ℕ → List (Bool × ProblemFault)
+new_call_refusals p number =
     (nat_le number (greatest_number p.calls), Late)
     ∷ (nat_le MAX_CALLS_ON_OBJECT (length p.calls), TooManyCalls)
     ∷ []
 
 -- Why a problem refuses a return of the call whose event has this number, in order.
-abbrev pub return_refusals : {Object State Op Reply : Type 0} → ProblemParts Object State Op Reply → ℕ → ℕ → List (Bool × ProblemFault)
-return_refusals p call number =
+abbrev pub new_return_refusals : {Object State Op Reply : Type 0} → ProblemParts Object State Op Reply → ℕ → ℕ → List (Bool × ProblemFault)
+new_return_refusals p call number =
     (nat_le number (greatest_number p.calls), Late)
     ∷ (not (is_pending (slice_get p.calls call)), NoCall)
     ∷ []
@@ -57,5 +57,5 @@ returned_in calls call number reply None = calls
 returned_in calls call number reply (Some c) = slice_set calls call (record c { returned = Some (number, reply) })
 
 -- The problem in which the call has returned.
-abbrev pub with_return : {Object State Op Reply : Type 0} → ProblemParts Object State Op Reply → ℕ → Reply → ℕ → ProblemParts Object State Op Reply
-with_return p call reply number = record p { calls = returned_in p.calls call number reply (slice_get p.calls call) }
+abbrev pub with_new_return : {Object State Op Reply : Type 0} → ProblemParts Object State Op Reply → ℕ → Reply → ℕ → ProblemParts Object State Op Reply
+with_new_return p call reply number = record p { calls = returned_in p.calls call number reply (slice_get p.calls call) }

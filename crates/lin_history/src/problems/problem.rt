@@ -108,7 +108,7 @@ fn last_number<P, R>(calls: &[ProblemCall<P, R>]) -> u32
 
 impl<O: SeqObject> Problem<O> {
     ghost use Rattle.lin_history.specs.Problems.SameProblem.{SameProblem};
-    ghost use Rattle.lin_history.specs.Problems.ProblemParts.{ProblemParts, AreTimed, call_refusals, return_refusals, with_new_call, with_return};
+    ghost use Rattle.lin_history.specs.Problems.ProblemParts.{ProblemParts, AreTimed, new_call_refusals, new_return_refusals, with_new_call, with_new_return};
 
     /// The problem of these calls. Condition: they are in the order of their call events, return after they
     /// were called, and no return event has the number of a call event.
@@ -145,10 +145,10 @@ impl<O: SeqObject> Problem<O> {
     /// is 0 or not greater than every number before, `TooManyCalls` where 4,096 calls are there,
     /// `OutOfMemory`. After a refusal nothing has changed.
     pub fn add_call(&mut self, process: u32, op: O::Op, number: u32) -> Result<(), ProblemFault>
-        ensures sound { OnOk result (first_that_holds (call_refusals self.old number) ≡ None) }
+        ensures sound { OnOk result (first_that_holds (new_call_refusals self.old number) ≡ None) }
         ensures ok { OnOk result (self.new ≡ with_new_call self.old process op number) }
-        ensures err { IfErr result (λ fault. fault ≢ ProblemFault.OutOfMemory → first_that_holds (call_refusals self.old number) ≡ Some fault) }
-        ensures memory { IfErr result (λ fault. fault ≡ ProblemFault.OutOfMemory → first_that_holds (call_refusals self.old number) ≡ None) }
+        ensures err { IfErr result (λ fault. fault ≢ ProblemFault.OutOfMemory → first_that_holds (new_call_refusals self.old number) ≡ Some fault) }
+        ensures memory { IfErr result (λ fault. fault ≡ ProblemFault.OutOfMemory → first_that_holds (new_call_refusals self.old number) ≡ None) }
         ensures same { OnErr result (self.new ≡ self.old) }
     {
         if number <= self.last {
@@ -179,9 +179,9 @@ impl<O: SeqObject> Problem<O> {
         reply: O::Reply,
         number: u32,
     ) -> Result<(), ProblemFault>
-        ensures sound { OnOk result (first_that_holds (return_refusals self.old call number) ≡ None) }
-        ensures ok { OnOk result (self.new ≡ with_return self.old call reply number) }
-        ensures err { IfErr result (λ fault. first_that_holds (return_refusals self.old call number) ≡ Some fault) }
+        ensures sound { OnOk result (first_that_holds (new_return_refusals self.old call number) ≡ None) }
+        ensures ok { OnOk result (self.new ≡ with_new_return self.old call reply number) }
+        ensures err { IfErr result (λ fault. first_that_holds (new_return_refusals self.old call number) ≡ Some fault) }
         ensures same { OnErr result (self.new ≡ self.old) }
     {
         if self.last >= number {

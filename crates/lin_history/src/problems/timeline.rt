@@ -2,7 +2,7 @@ ghost use Rattle.std.specs.Prelude.{◌≡◌, ◌++◌, map, IfOk, OnOk};
 ghost use Rattle.std.specs.List.Sorted.{IsPermutation, IsNonDecreasingBy};
 ghost use Rattle.lin_history.specs.Problems.Problem.{problem_of};
 ghost use Rattle.lin_history.specs.Problems.Timeline.{IsTimeline};
-ghost use Rattle.lin_history.specs.Problems.NumberedEvents.{number_at, event_at, events_of, events_from};
+ghost use Rattle.lin_history.specs.Problems.NumberedEvents.{number_at, event_at, events_of_call, events_from};
 
 use crate::problems::problem::{Problem, ProblemCall};
 use lin_object::SeqObject;
@@ -30,7 +30,7 @@ fn add_events<P, R>(
     call: usize,
     made: &ProblemCall<P, R>,
 ) -> Result<(), AllocError>
-    ensures { OnOk result (timed.new.items ≡ timed.old.items ++ events_of call made.now) }
+    ensures { OnOk result (timed.new.items ≡ timed.old.items ++ events_of_call call made.now) }
 {
     timed.push(Timed {
         number: made.called,

@@ -1,6 +1,6 @@
 use Rattle.std.proofs.Common.{arith, ◌<◌, length, below_more, refl}
 use Rattle.std.proofs.lemmas.Option.{slice_get_read}
-use Rattle.lin_history.proofs.ProblemLemmas.SameLemmas.{same_by_index, same_at, same_length}
+use Rattle.lin_history.specs.Problems.SameProblemLemmas.{same_by_index, same_at, same_length}
 use Rattle.lin_history.proofs.problems.problem.same_calls.Goals as goal
 
 pub returns-then-a-b : goal.returns-then-a-b

@@ -1,6 +1,6 @@
 use Rattle.std.proofs.Common.{ℕ, ◌<◌}
 use Rattle.std.specs.List.{slice_get}
-use Rattle.lin_history.proofs.ProblemLemmas.SameLemmas.{SameRead}
+use Rattle.lin_history.specs.Problems.SameProblemLemmas.{SameRead}
 use Rattle.lin_history.proofs.problems.problem.same_calls.Given as goal
 
 abbrev pub invariant-loop-i : goal.invariant-loop-i

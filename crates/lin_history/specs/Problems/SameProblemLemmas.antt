@@ -1,9 +1,10 @@
+-- Lists of calls that are equal call by call, beside what stands at each index.
 use Rattle.std.proofs.Common.{◌≡◌, ℕ, zero, suc, ◌<◌, Bool, Option, Some, None, List, [], ◌∷◌, length, refl, ap, arith}
 use Rattle.std.specs.List.{slice_get}
 use Rattle.lin_history.specs.declared.problems.problem.ProblemCall.{ProblemCall}
 use Rattle.lin_history.specs.Problems.SameProblem.{SameCall, SameCalls}
 
--- two reads of a list: both past the end, or equal calls
+-- Two reads of a list: both past the end, or equal calls.
 abbrev pub SameRead : {Op Reply : Type 0} → (Op → Op → Bool) → (Reply → Reply → Bool) → Option (ProblemCall Op Reply) → Option (ProblemCall Op Reply) → Type 0
 SameRead same_op same_reply None None = Unit {0}
 SameRead same_op same_reply (Some a) (Some b) = SameCall same_op same_reply a b
