@@ -1,3 +1,5 @@
+//! The verifier: whether a list of calls is a linearization of the whole history. It shares no code with a search.
+
 ghost use Rattle.std.specs.Prelude.{◌≡◌, ℕ, ◌<◌, ◌↔◌, true, false, Some, IsSomeAnd, length, map, MatchOption, IfOk, slice_get};
 ghost use Rattle.lin_object.specs.contracts.reply.ReplyPartialEq.TheImpl.{eq-value as reply_eq};
 ghost use Rattle.lin_object.specs.declared.state.ObjState.{ObjState as State};

@@ -1,3 +1,5 @@
+//! One order for each object, joined in one order of the whole by the points of the calls.
+
 ghost use Rattle.std.specs.Prelude.{◌≡◌, ℕ, ◌<◌, ◌++◌, List, Some, [], ◌∷◌, length, map, filter, slice_get, OnOk, IfOk};
 ghost use Rattle.lin_history.specs.Problems.Linearizations.{IsLinearization};
 ghost use Rattle.lin_history.specs.Locality.Whole.{IsLinearizationOfWhole};

@@ -1,3 +1,5 @@
+//! Calls of a history with their replies, in an order.
+
 ghost use Rattle.std.specs.Prelude.{◌≡◌};
 
 use lin_object::Reply;
@@ -18,6 +20,7 @@ pub struct WholeOrder {
     placed: Vec<Placed>,
 }
 
+// Contracts see the list of the calls with their replies.
 impl Model for WholeOrder {
     ghost use Rattle.std.specs.Prelude.{List};
     ghost use Rattle.lin_object.specs.declared.reply.Reply.{Reply};

@@ -1,3 +1,5 @@
+//! From an order of one object to the calls of the history, each with the reply of its step.
+
 ghost use Rattle.std.specs.Prelude.{◌≡◌, ◌<◌, length, IfOk};
 ghost use Rattle.lin_object.specs.declared.state.ObjState.{ObjState};
 ghost use Rattle.lin_history.specs.Problems.LegalLists.{Legal};

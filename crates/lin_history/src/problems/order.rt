@@ -1,3 +1,5 @@
+//! Orders of one problem's calls.
+
 ghost use Rattle.std.specs.Prelude.{◌≡◌};
 
 use std::marker::Model;
@@ -8,6 +10,7 @@ pub struct Order {
     calls: Vec<usize>,
 }
 
+// Contracts see the list of the calls' numbers.
 impl Model for Order {
     ghost use Rattle.std.specs.Prelude.{List, ℕ};
 

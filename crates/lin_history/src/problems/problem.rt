@@ -1,3 +1,5 @@
+//! The part of a history on one object, built by hand or taken from a history.
+
 ghost use Rattle.std.specs.Prelude.{◌≡◌, ◌≢◌, ℕ, ◌<◌, ◌↔◌, [], None, Some, slice_get, length, IsTrue, OnOk, OnErr, IfErr};
 ghost use Rattle.lin_history.specs.Refusals.{first_that_holds};
 ghost use Rattle.lin_history.specs.Problems.SameProblem.{SameReturn, SameCall, SameCalls};
@@ -35,6 +37,7 @@ pub enum ProblemFault {
     OutOfMemory,
 }
 
+// Whether both are pending, or both returned at one number with equal replies.
 fn same_return<R: Eq>(a: &Option<(u32, R)>, b: &Option<(u32, R)>) -> bool
     ensures { IsTrue result ↔ SameReturn R.eq a.now b.now }
 {
@@ -46,6 +49,7 @@ fn same_return<R: Eq>(a: &Option<(u32, R)>, b: &Option<(u32, R)>) -> bool
     }
 }
 
+// Whether the calls are equal in every part.
 fn same_call<P: Eq, R: Eq>(a: &ProblemCall<P, R>, b: &ProblemCall<P, R>) -> bool
     ensures { IsTrue result ↔ SameCall P.eq R.eq a.now b.now }
 {
@@ -55,6 +59,7 @@ fn same_call<P: Eq, R: Eq>(a: &ProblemCall<P, R>, b: &ProblemCall<P, R>) -> bool
         && same_return(&a.returned, &b.returned)
 }
 
+// Whether the calls are equal, one by one.
 fn same_calls<P: Eq, R: Eq>(a: &[ProblemCall<P, R>], b: &[ProblemCall<P, R>]) -> bool
     ensures { IsTrue result ↔ SameCalls P.eq R.eq a.now b.now }
 {
@@ -81,6 +86,7 @@ pub struct Problem<O: SeqObject> {
     last: u32,
 }
 
+// Contracts see the object, the state at the start and the calls; the greatest number is kept beside them.
 impl<O: SeqObject> Model for Problem<O> {
     ghost use Rattle.std.specs.Prelude.{◌≡◌};
     ghost use Rattle.lin_history.specs.Problems.ProblemParts.{ProblemParts, AreTimed, greatest_number};
@@ -92,6 +98,7 @@ impl<O: SeqObject> Model for Problem<O> {
     ghost invariant = { λ p. (p.last ≡ greatest_number p.calls.items) × AreTimed p.calls.items };
 }
 
+// The greatest event number of the calls; 0 where there is none.
 fn last_number<P, R>(calls: &[ProblemCall<P, R>]) -> u32
     ensures { result ≡ greatest_number calls.now }
 {

@@ -1,3 +1,5 @@
+//! The events of a problem in the order of their numbers.
+
 ghost use Rattle.std.specs.Prelude.{◌≡◌, ◌++◌, map, IfOk, OnOk};
 ghost use Rattle.std.specs.List.Sorted.{IsPermutation, IsNonDecreasingBy};
 ghost use Rattle.lin_history.specs.Problems.Problem.{problem_of};

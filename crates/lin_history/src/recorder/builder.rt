@@ -1,3 +1,5 @@
+//! The builder: it accepts exactly the events with which a history stays well-formed.
+
 ghost use Rattle.std.specs.Prelude.{◌≡◌, ◌≢◌, ℕ, ◌<◌, ◌+◌, ◌^◌, ◌++◌, ◌∷◌, [], ◌||◌, nat_le, Some, None, nat_eq, length, map, option_map, option_and_then, find, position, bytes_eq, slice_get, slice_set, is_some, true, false, OnOk, OnErr, IfOk, IfErr, IfSome, IfNone, IsTrue, IsFalse, IsSomeAnd};
 ghost use Rattle.indexmap.specs.IndexMap.{get};
 ghost use Rattle.lin_history.specs.Refusals.{first_that_holds};
@@ -31,6 +33,8 @@ pub struct Builder {
     last: IndexMap<u32, usize>,
 }
 
+// Contracts see the history so far; the rest says which call of a process is pending, and how many calls
+// each object has.
 impl Model for Builder {
     ghost use Rattle.std.specs.Prelude.{map, nat_eq};
     ghost use Rattle.indexmap.specs.IndexMap.{get};
@@ -45,12 +49,14 @@ impl Model for Builder {
     ghost invariant = { λ b. IsBuilderState (map object_view b.objects.entries) b.calls.items b.events (get nat_eq b.last) b.counts.items };
 }
 
+// The index of the object of this name.
 fn index_in(objects: &IndexMap<String, Declaration>, name: &str) -> Option<usize>
     ensures { result ≡ index_named (recorded (map object_view objects.now.entries) [] 0) name.now }
 {
     objects.get_index_of(name)
 }
 
+// The index of the object of this name, or why an event may not name it.
 fn find_object(objects: &IndexMap<String, Declaration>, name: &str) -> Result<usize, BuildFault>
     ensures named { IfOk result (λ object. index_named (recorded (map object_view objects.now.entries) [] 0) name.now ≡ Some object) }
     ensures valid { OnOk result (is_name name.now ≡ true) }
@@ -63,6 +69,7 @@ fn find_object(objects: &IndexMap<String, Declaration>, name: &str) -> Result<us
     }
 }
 
+// The kind of the object of this name.
 fn kind_in(objects: &IndexMap<String, Declaration>, name: &str) -> Option<Kind>
     ensures { result ≡ kind_named (recorded (map object_view objects.now.entries) [] 0) name.now }
 {
@@ -75,6 +82,7 @@ fn kind_in(objects: &IndexMap<String, Declaration>, name: &str) -> Option<Kind>
     }
 }
 
+// Whether the call of this index is there, is the process's, and is pending.
 fn is_pending_at(calls: &[CallInfo], call: usize, process: u32) -> bool
     ensures pending { IsTrue result → IsSomeAnd (slice_get calls.now call) (λ c. is_pending_of process (call_view c) ≡ true) }
     ensures not_pending { IsFalse result → IfSome (slice_get calls.now call) (λ c. is_pending_of process (call_view c) ≡ false) }
@@ -85,6 +93,7 @@ fn is_pending_at(calls: &[CallInfo], call: usize, process: u32) -> bool
     }
 }
 
+// The index of the pending call of the process.
 fn pending_in(calls: &[CallInfo], last: &IndexMap<u32, usize>, process: u32) -> Option<usize>
     requires { KnowsPending (get nat_eq last.now) calls.now }
     ensures none { IfNone result (find (is_pending_of process) (map call_view calls.now) ≡ None) }
@@ -99,6 +108,7 @@ fn pending_in(calls: &[CallInfo], last: &IndexMap<u32, usize>, process: u32) -> 
     }
 }
 
+// Whether there is no room for one call more on the object.
 fn is_full(calls: &[CallInfo], counts: &[usize], object: usize) -> bool
     requires within { object < length counts.now }
     requires counted { AreCounts counts.now calls.now }
@@ -109,6 +119,7 @@ fn is_full(calls: &[CallInfo], counts: &[usize], object: usize) -> bool
     calls.len() >= MAX_CALLS || counts[object] >= MAX_CALLS_ON_OBJECT
 }
 
+// Puts one object more in. After an error nothing has changed.
 fn put(
     alloc: Global,
     objects: &mut IndexMap<String, Declaration>,
@@ -131,6 +142,8 @@ fn put(
     Ok(())
 }
 
+// Adds one call. After an error nothing has changed but what is kept as the last call of the process, which
+// is then no call that is there.
 fn add(
     calls: &mut Vec<CallInfo>,
     last: &mut IndexMap<u32, usize>,
@@ -157,6 +170,7 @@ fn add(
     Ok(())
 }
 
+// Completes the pending call of this index: the next event is its return.
 fn complete(calls: &mut Vec<CallInfo>, events: &mut u32, call: usize, reply: Reply)
     requires within { call < length calls.old.items }
     requires few { events.old + 1 < 2 ^ 32 }

@@ -1,3 +1,5 @@
+//! Why the builder refuses an event.
+
 use thiserror::Error;
 
 /// Why a builder refuses an event.

@@ -1,3 +1,5 @@
+//! The finished history, and its parts on its objects.
+
 ghost use Rattle.std.specs.Prelude.{◌≡◌, ℕ, ◌<◌, Some, length, map, take, option_map, slice_get, IfOk};
 ghost use Rattle.lin_history.specs.Recorder.Views.{call_view, object_view};
 ghost use Rattle.lin_history.specs.Recorder.Parts.{start_of, part_calls};
@@ -70,6 +72,7 @@ pub struct History {
     events: u32,
 }
 
+// Contracts see the declared objects, the calls, and how many events there are.
 impl Model for History {
     ghost use Rattle.std.specs.Prelude.{map};
     ghost use Rattle.lin_history.specs.Recorder.RecordedHistory.{RecordedHistory, IsHistory};
@@ -82,6 +85,7 @@ impl Model for History {
     ghost invariant = { λ h. IsHistory (record { objects = map object_view h.objects.entries; calls = map call_view h.calls.items; events = h.events }) × AreNumbered h.calls.items };
 }
 
+// The object of this index.
 fn object_at(objects: &IndexMap<String, Declaration>, object: usize) -> ObjectInfo<'_>
     requires { object < length objects.now.entries }
     ensures { slice_get (map object_view objects.now.entries) object ≡ Some (record { name = result.name.now; kind = result.kind; start = result.start }) }

@@ -1,3 +1,5 @@
+//! The indices of the calls of one object, and of all objects in one walk.
+
 ghost use Rattle.std.specs.Prelude.{◌≡◌, ℕ, ◌<◌, ◌++◌, Some, [], ◌∷◌, length, slice_get, OnOk, IfOk};
 ghost use Rattle.lin_history.specs.Locality.JoinedOrder.{indices_from};
 

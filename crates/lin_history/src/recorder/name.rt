@@ -1,3 +1,5 @@
+//! What may name an object.
+
 ghost use Rattle.std.specs.Prelude.{◌≡◌};
 ghost use Rattle.std.specs.List.{list_all};
 ghost use Rattle.lin_history.specs.Recorder.Names.{is_name, is_name_byte};
