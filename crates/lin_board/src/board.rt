@@ -131,7 +131,8 @@ impl Board {
         ensures told { IfSome result (λ task. All (λ before. task ≤ before) seat.old.told) }
         ensures none { IfNone result ((seat.old.found ≡ []) × (seat.old.told ≡ [])) }
         ensures seat { IsSeatOf self.now seat.new }
-        ensures changed { seat.new ≡ record seat.old { told = seat.old.told ++ option_to_list result } }
+        ensures changed { seat.new ≡ record seat.old
+            { told = seat.old.told ++ option_to_list result } }
     {
         let task = self.table.shared.load::<LeastStep>(&mut seat.token, LEAST);
         if task == NOTHING_FOUND {

@@ -32,7 +32,10 @@ fn flags_of(
     history: &History,
     placed: &[Placed],
 ) -> Result<Option<Vec<bool>>, AllocError>
-    ensures { IfOk result (λ found. MatchOption found (AreDistinctCalls (whole_of history.now) placed.now → ⊥) (λ flags. AreDistinctCalls (whole_of history.now) placed.now × AreFlagsOf (whole_of history.now) placed.now flags.items)) }
+    ensures { IfOk result (λ found. MatchOption found
+        (AreDistinctCalls (whole_of history.now) placed.now → ⊥)
+        (λ flags. AreDistinctCalls (whole_of history.now) placed.now
+        × AreFlagsOf (whole_of history.now) placed.now flags.items)) }
 {
     let mut flags = vec![in alloc; false; history.call_count()]?;
     for one in placed {
@@ -47,7 +50,8 @@ fn flags_of(
 // Every call that has returned has its flag set.
 fn has_completed(history: &History, flags: &[bool]) -> bool
     requires { length flags.now ≡ length history.now.calls }
-    ensures { result ≡ true ↔ ((call : ℕ) → HasReturned (whole_of history.now) call → slice_get flags.now call ≡ Some true) }
+    ensures { result ≡ true ↔ ((call : ℕ) → HasReturned (whole_of history.now) call
+        → slice_get flags.now call ≡ Some true) }
 {
     for index in 0..history.call_count() {
         if history.call(index).returned.is_some() && !flags[index] {
@@ -112,7 +116,9 @@ fn state_after(
     call: &CallInfo,
     reply: Reply,
 ) -> Result<Option<ObjState>, AllocError>
-    ensures { IfOk result (λ found. (next : State) → found ≡ Some next ↔ (after state.now call.now.process call.now.op ≡ Some (next, reply)) × (fits reply_eq.it reply call.now.returned ≡ true)) }
+    ensures { IfOk result (λ found. (next : State) → found ≡ Some next
+        ↔ (after state.now call.now.process call.now.op ≡ Some (next, reply))
+        × (fits reply_eq.it reply call.now.returned ≡ true)) }
 {
     let Some((next, answer)) = AnyObject.step(alloc, state, call.process, &call.op)? else {
         return Ok(None);
@@ -127,7 +133,8 @@ fn state_after(
 // The list is legal, replayed over a state for each object.
 fn replays(alloc: Global, history: &History, placed: &[Placed]) -> Result<bool, AllocError>
     requires { AreKnown (whole_of history.now) placed.now }
-    ensures { IfOk result (λ legal. legal ≡ true ↔ Replays (whole_of history.now) (start_at history.now) placed.now) }
+    ensures { IfOk result (λ legal. legal ≡ true
+        ↔ Replays (whole_of history.now) (start_at history.now) placed.now) }
 {
     let mut states = start_states(alloc, history)?;
     for one in placed {
@@ -147,7 +154,8 @@ fn replays(alloc: Global, history: &History, placed: &[Placed]) -> Result<bool, 
 ///
 /// It takes a step for each call, and a flag for each call of the history. `AllocError` where memory was refused.
 pub fn verify(alloc: Global, history: &History, order: &WholeOrder) -> Result<bool, AllocError>
-    ensures { IfOk result (λ verified. verified ≡ true ↔ IsLinearizationOfWhole (whole_of history.now) order.now) }
+    ensures { IfOk result (λ verified. verified ≡ true
+        ↔ IsLinearizationOfWhole (whole_of history.now) order.now) }
 {
     let placed = order.placed();
     let Some(flags) = flags_of(alloc, history, placed)? else {

@@ -29,7 +29,8 @@ fn add_points(
     pointed: &mut Vec<Pointed>,
 ) -> Result<(), AllocError>
     requires { AreKnown (whole_of history.now) placed.now }
-    ensures { OnOk result (pointed.new.items ≡ pointed.old.items ++ with_points (whole_of history.now) 0 placed.now) }
+    ensures { OnOk result (pointed.new.items ≡ pointed.old.items
+        ++ with_points (whole_of history.now) 0 placed.now) }
 {
     let mut point = 0;
     for one in placed {
@@ -51,7 +52,8 @@ fn add_orders(
 ) -> Result<(), AllocError>
     requires none { pointed.old.items ≡ [] }
     requires count { length orders.now ≡ length history.now.objects }
-    requires each { (object : ℕ) (order : List ℕ) → slice_get orders.now object ≡ Some order → IsLinearization (part_of history.now object) order }
+    requires each { (object : ℕ) (order : List ℕ) → slice_get orders.now object ≡ Some order
+        → IsLinearization (part_of history.now object) order }
     ensures { OnOk result (AreOrders (whole_of history.now) orders.now pointed.new.items) }
 {
     let lists = indices_of_all(alloc, history)?;
@@ -66,7 +68,8 @@ fn add_orders(
 // Orders the calls by their points; those of one point stay in the order that they had.
 fn sort_by_point(pointed: &mut Vec<Pointed>) -> Result<(), AllocError>
     ensures rise { OnOk result (Rise 0 pointed.new.items) }
-    ensures stable { (n : ℕ) → filter (has_point n) pointed.new.items ≡ filter (has_point n) pointed.old.items }
+    ensures stable { (n : ℕ) → filter (has_point n) pointed.new.items
+        ≡ filter (has_point n) pointed.old.items }
 {
     pointed.sort_by_key(|one| one.point)?;
     Ok(())
@@ -93,7 +96,8 @@ fn without_points(alloc: Global, pointed: &[Pointed]) -> Result<Vec<Placed>, All
 /// refused.
 pub fn join(alloc: Global, history: &History, orders: &[Order]) -> Result<WholeOrder, AllocError>
     requires count { length orders.now ≡ length history.now.objects }
-    requires each { (object : ℕ) (order : List ℕ) → slice_get orders.now object ≡ Some order → IsLinearization (part_of history.now object) order }
+    requires each { (object : ℕ) (order : List ℕ) → slice_get orders.now object ≡ Some order
+        → IsLinearization (part_of history.now object) order }
     ensures joined { IfOk result (λ joined. IsJoined (whole_of history.now) orders.now joined) }
     ensures whole { IfOk result (λ joined. IsLinearizationOfWhole (whole_of history.now) joined) }
 {

@@ -25,9 +25,11 @@ pub(crate) fn place_at(
     order: &Order,
 ) -> Result<Vec<Placed>, AllocError>
     requires object { object < length history.now.objects }
-    requires legal { (t : ObjState) × Legal (part_of history.now object) (start_at history.now object) order.now t }
+    requires legal { (t : ObjState) × Legal (part_of history.now object)
+        (start_at history.now object) order.now t }
     requires indices { indices.now ≡ indices_from object 0 history.now.calls }
-    ensures { IfOk result (λ placed. Places (whole_of history.now) object (start_at history.now object) order.now placed.items) }
+    ensures { IfOk result (λ placed. Places (whole_of history.now) object
+        (start_at history.now object) order.now placed.items) }
 {
     let info = history.object(object);
     let mut state = start_state(alloc, info.kind, info.start);
@@ -56,8 +58,10 @@ pub fn place(
     order: &Order,
 ) -> Result<Vec<Placed>, AllocError>
     requires object { object < length history.now.objects }
-    requires legal { (t : ObjState) × Legal (part_of history.now object) (start_at history.now object) order.now t }
-    ensures { IfOk result (λ placed. Places (whole_of history.now) object (start_at history.now object) order.now placed.items) }
+    requires legal { (t : ObjState) × Legal (part_of history.now object)
+        (start_at history.now object) order.now t }
+    ensures { IfOk result (λ placed. Places (whole_of history.now) object
+        (start_at history.now object) order.now placed.items) }
 {
     let indices = indices_on(alloc, history, object)?;
     place_at(alloc, history, object, indices.as_slice(), order)

@@ -154,8 +154,10 @@ impl<O: SeqObject> Problem<O> {
     pub fn add_call(&mut self, process: u32, op: O::Op, number: u32) -> Result<(), ProblemFault>
         ensures sound { OnOk result (first_that_holds (new_call_refusals self.old number) ≡ None) }
         ensures ok { OnOk result (self.new ≡ with_new_call self.old process op number) }
-        ensures err { IfErr result (λ fault. fault ≢ ProblemFault.OutOfMemory → first_that_holds (new_call_refusals self.old number) ≡ Some fault) }
-        ensures memory { IfErr result (λ fault. fault ≡ ProblemFault.OutOfMemory → first_that_holds (new_call_refusals self.old number) ≡ None) }
+        ensures err { IfErr result (λ fault. fault ≢ ProblemFault.OutOfMemory
+            → first_that_holds (new_call_refusals self.old number) ≡ Some fault) }
+        ensures memory { IfErr result (λ fault. fault ≡ ProblemFault.OutOfMemory
+            → first_that_holds (new_call_refusals self.old number) ≡ None) }
         ensures same { OnErr result (self.new ≡ self.old) }
     {
         if number <= self.last {
@@ -186,9 +188,11 @@ impl<O: SeqObject> Problem<O> {
         reply: O::Reply,
         number: u32,
     ) -> Result<(), ProblemFault>
-        ensures sound { OnOk result (first_that_holds (new_return_refusals self.old call number) ≡ None) }
+        ensures sound { OnOk result (first_that_holds (new_return_refusals self.old call number)
+            ≡ None) }
         ensures ok { OnOk result (self.new ≡ with_new_return self.old call reply number) }
-        ensures err { IfErr result (λ fault. first_that_holds (new_return_refusals self.old call number) ≡ Some fault) }
+        ensures err { IfErr result (λ fault. first_that_holds
+            (new_return_refusals self.old call number) ≡ Some fault) }
         ensures same { OnErr result (self.new ≡ self.old) }
     {
         if self.last >= number {
@@ -245,7 +249,8 @@ impl<O: SeqObject> Problem<O> {
 
     /// Whether the problems are equal in every part, each by its type's own `Eq`.
     pub fn same(&self, other: &Problem<O>) -> bool
-        ensures { IsTrue result ↔ SameProblem O.eq O.State.eq O.Op.eq O.Reply.eq self.now other.now }
+        ensures { IsTrue result ↔ SameProblem O.eq O.State.eq O.Op.eq O.Reply.eq self.now
+            other.now }
     {
         self.object == other.object
             && self.start == other.start

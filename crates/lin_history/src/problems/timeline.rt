@@ -81,7 +81,8 @@ impl<O: SeqObject> Problem<O> {
     /// The call and return events in the order of their numbers. It sorts them: for n events it takes
     /// O(n log n). `AllocError` where memory was refused.
     pub fn timeline(&self, alloc: Global) -> Result<Vec<ProblemEvent>, AllocError>
-        ensures { IfOk result (λ events. IsTimeline (problem_of O.after O.State.eq O.Reply.eq self.now) events.items) }
+        ensures { IfOk result (λ events. IsTimeline
+            (problem_of O.after O.State.eq O.Reply.eq self.now) events.items) }
     {
         let mut timed = events_by_call(alloc, self.calls())?;
         sort_by_number(&mut timed)?;

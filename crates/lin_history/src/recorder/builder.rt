@@ -46,7 +46,8 @@ impl Model for Builder {
 
     ghost view = { λ b. recorded (map object_view b.objects.entries) b.calls.items b.events };
 
-    ghost invariant = { λ b. IsBuilderState (map object_view b.objects.entries) b.calls.items b.events (get nat_eq b.last) b.counts.items };
+    ghost invariant = { λ b. IsBuilderState (map object_view b.objects.entries) b.calls.items
+        b.events (get nat_eq b.last) b.counts.items };
 }
 
 // The index of the object of this name.
@@ -58,9 +59,12 @@ fn index_in(objects: &IndexMap<String, Declaration>, name: &str) -> Option<usize
 
 // The index of the object of this name, or why an event may not name it.
 fn find_object(objects: &IndexMap<String, Declaration>, name: &str) -> Result<usize, BuildFault>
-    ensures named { IfOk result (λ object. index_named (recorded (map object_view objects.now.entries) [] 0) name.now ≡ Some object) }
+    ensures named { IfOk result (λ object. index_named
+        (recorded (map object_view objects.now.entries) [] 0) name.now ≡ Some object) }
     ensures valid { OnOk result (is_name name.now ≡ true) }
-    ensures err { IfErr result (λ fault. first_that_holds (name_refusals (recorded (map object_view objects.now.entries) [] 0) name.now) ≡ Some fault) }
+    ensures err { IfErr result (λ fault. first_that_holds
+        (name_refusals (recorded (map object_view objects.now.entries) [] 0) name.now)
+        ≡ Some fault) }
 {
     if is_name(name) {
         index_in(objects, name).ok_or(BuildFault::UnknownObject)
@@ -84,8 +88,10 @@ fn kind_in(objects: &IndexMap<String, Declaration>, name: &str) -> Option<Kind>
 
 // Whether the call of this index is there, is the process's, and is pending.
 fn is_pending_at(calls: &[CallInfo], call: usize, process: u32) -> bool
-    ensures pending { IsTrue result → IsSomeAnd (slice_get calls.now call) (λ c. is_pending_of process (call_view c) ≡ true) }
-    ensures not_pending { IsFalse result → IfSome (slice_get calls.now call) (λ c. is_pending_of process (call_view c) ≡ false) }
+    ensures pending { IsTrue result → IsSomeAnd (slice_get calls.now call)
+        (λ c. is_pending_of process (call_view c) ≡ true) }
+    ensures not_pending { IsFalse result → IfSome (slice_get calls.now call)
+        (λ c. is_pending_of process (call_view c) ≡ false) }
 {
     match calls.get(call) {
         Some(call) => call.process == process && call.returned.is_none(),
@@ -97,10 +103,13 @@ fn is_pending_at(calls: &[CallInfo], call: usize, process: u32) -> bool
 fn pending_in(calls: &[CallInfo], last: &IndexMap<u32, usize>, process: u32) -> Option<usize>
     requires { KnowsPending (get nat_eq last.now) calls.now }
     ensures none { IfNone result (find (is_pending_of process) (map call_view calls.now) ≡ None) }
-    ensures some { IfSome result (λ call. IsSomeAnd (slice_get calls.now call) (λ c. is_pending_of process (call_view c) ≡ true)) }
+    ensures some { IfSome result (λ call. IsSomeAnd (slice_get calls.now call)
+        (λ c. is_pending_of process (call_view c) ≡ true)) }
     ensures within { IfSome result (λ call. call < length calls.now) }
-    ensures busy { is_some result ≡ is_some (find (is_pending_of process) (map call_view calls.now)) }
-    ensures found { IfSome result (λ call. find (is_pending_of process) (map call_view calls.now) ≡ option_map call_view (slice_get calls.now call)) }
+    ensures busy { is_some result ≡ is_some (find (is_pending_of process)
+        (map call_view calls.now)) }
+    ensures found { IfSome result (λ call. find (is_pending_of process) (map call_view calls.now)
+        ≡ option_map call_view (slice_get calls.now call)) }
 {
     match last.get(&process) {
         Some(call) if is_pending_at(calls, *call, process) => Some(*call),
@@ -112,9 +121,11 @@ fn pending_in(calls: &[CallInfo], last: &IndexMap<u32, usize>, process: u32) -> 
 fn is_full(calls: &[CallInfo], counts: &[usize], object: usize) -> bool
     requires within { object < length counts.now }
     requires counted { AreCounts counts.now calls.now }
-    ensures full { result ≡ (nat_le MAX_CALLS (length (map call_view calls.now)) || nat_le MAX_CALLS_ON_OBJECT (count_on object (map call_view calls.now))) }
+    ensures full { result ≡ (nat_le MAX_CALLS (length (map call_view calls.now)) || nat_le
+        MAX_CALLS_ON_OBJECT (count_on object (map call_view calls.now))) }
     ensures room { IsFalse result → length calls.now < MAX_CALLS }
-    ensures room_on { IsFalse result → IfSome (slice_get counts.now object) (λ count. count < MAX_CALLS_ON_OBJECT) }
+    ensures room_on { IsFalse result → IfSome (slice_get counts.now object)
+        (λ count. count < MAX_CALLS_ON_OBJECT) }
 {
     calls.len() >= MAX_CALLS || counts[object] >= MAX_CALLS_ON_OBJECT
 }
@@ -128,7 +139,9 @@ fn put(
     declaration: Declaration,
 ) -> Result<(), AllocError>
     requires { index_named (recorded (map object_view objects.old.entries) [] 0) name.now ≡ None }
-    ensures objects { OnOk result (map object_view objects.new.entries ≡ map object_view objects.old.entries ++ (record { name = name.now; kind = declaration.kind; start = declaration.start }) ∷ []) }
+    ensures objects { OnOk result (map object_view objects.new.entries
+        ≡ map object_view objects.old.entries
+        ++ (record { name = name.now; kind = declaration.kind; start = declaration.start }) ∷ []) }
     ensures counts { OnOk result (counts.new.items ≡ counts.old.items ++ 0 ∷ []) }
     ensures same_objects { OnErr result (objects.new.entries ≡ objects.old.entries) }
     ensures same_counts { OnErr result (counts.new.items ≡ counts.old.items) }
@@ -154,10 +167,12 @@ fn add(
     requires within { call.object < length counts.old.items }
     requires room { call.number < MAX_CALLS_ON_OBJECT }
     ensures calls { OnOk result (calls.new.items ≡ calls.old.items ++ call ∷ []) }
-    ensures counts { OnOk result (counts.new.items ≡ slice_set counts.old.items call.object (call.number + 1)) }
+    ensures counts { OnOk result (counts.new.items
+        ≡ slice_set counts.old.items call.object (call.number + 1)) }
     ensures events { OnOk result (events.new ≡ call.called) }
     ensures own { OnOk result (get nat_eq last.new call.process ≡ Some (length calls.old.items)) }
-    ensures others { (process : ℕ) → process ≢ call.process → get nat_eq last.new process ≡ get nat_eq last.old process }
+    ensures others { (process : ℕ) → process ≢ call.process
+        → get nat_eq last.new process ≡ get nat_eq last.old process }
     ensures same { OnErr result (calls.new.items ≡ calls.old.items) }
     ensures same_counts { OnErr result (counts.new.items ≡ counts.old.items) }
     ensures same_events { OnErr result (events.new ≡ events.old) }
@@ -174,7 +189,9 @@ fn add(
 fn complete(calls: &mut Vec<CallInfo>, events: &mut u32, call: usize, reply: Reply)
     requires within { call < length calls.old.items }
     requires few { events.old + 1 < 2 ^ 32 }
-    ensures calls { IfSome (slice_get calls.old.items call) (λ c. calls.new.items ≡ slice_set calls.old.items call (record c { returned = Some (events.old + 1, reply) })) }
+    ensures calls { IfSome (slice_get calls.old.items call)
+        (λ c. calls.new.items ≡ slice_set calls.old.items call
+        (record c { returned = Some (events.old + 1, reply) })) }
     ensures events { events.new ≡ events.old + 1 }
 {
     let number = *events + 1;
@@ -210,11 +227,14 @@ impl Builder {
         kind: Kind,
         start: i64,
     ) -> Result<(), BuildFault>
-        ensures sound { OnOk result (first_that_holds (declaration_refusals self.old name.now) ≡ None) }
+        ensures sound { OnOk result (first_that_holds (declaration_refusals self.old name.now)
+            ≡ None) }
         ensures ok { OnOk result (self.new ≡ with_object self.old name.now kind start) }
         ensures history { OnOk result (AddsNone self.old self.new) }
-        ensures err { IfErr result (λ fault. fault ≢ BuildFault.OutOfMemory → first_that_holds (declaration_refusals self.old name.now) ≡ Some fault) }
-        ensures memory { IfErr result (λ fault. fault ≡ BuildFault.OutOfMemory → first_that_holds (declaration_refusals self.old name.now) ≡ None) }
+        ensures err { IfErr result (λ fault. fault ≢ BuildFault.OutOfMemory
+            → first_that_holds (declaration_refusals self.old name.now) ≡ Some fault) }
+        ensures memory { IfErr result (λ fault. fault ≡ BuildFault.OutOfMemory
+            → first_that_holds (declaration_refusals self.old name.now) ≡ None) }
         ensures same { OnErr result (self.new ≡ self.old) }
     {
         if !is_name(name) {
@@ -246,12 +266,18 @@ impl Builder {
     /// a pending call, `TooManyCalls` where 65,536 calls are there or 4,096 on this object,
     /// `OutOfMemory`. After a refusal nothing has changed.
     pub fn call(&mut self, process: u32, name: &str, op: Op) -> Result<(), BuildFault>
-        ensures sound { OnOk result (first_that_holds (call_refusals self.old process name.now) ≡ None) }
-        ensures ok { OnOk result (IsSomeAnd (index_named self.old name.now) (λ object. self.new ≡ with_call self.old process object op)) }
-        ensures history { OnOk result (IsSomeAnd (index_named self.old name.now) (λ object. Adds self.old (calls process object op) self.new)) }
-        ensures err { IfErr result (λ fault. fault ≢ BuildFault.OutOfMemory → first_that_holds (call_refusals self.old process name.now) ≡ Some fault) }
-        ensures memory { IfErr result (λ fault. fault ≡ BuildFault.OutOfMemory → first_that_holds (call_refusals self.old process name.now) ≡ None) }
-        ensures busy { IfErr result (λ fault. fault ≡ BuildFault.Busy process → (object : ℕ) → CannotFollow self.old (calls process object op)) }
+        ensures sound { OnOk result (first_that_holds (call_refusals self.old process name.now)
+            ≡ None) }
+        ensures ok { OnOk result (IsSomeAnd (index_named self.old name.now)
+            (λ object. self.new ≡ with_call self.old process object op)) }
+        ensures history { OnOk result (IsSomeAnd (index_named self.old name.now)
+            (λ object. Adds self.old (calls process object op) self.new)) }
+        ensures err { IfErr result (λ fault. fault ≢ BuildFault.OutOfMemory
+            → first_that_holds (call_refusals self.old process name.now) ≡ Some fault) }
+        ensures memory { IfErr result (λ fault. fault ≡ BuildFault.OutOfMemory
+            → first_that_holds (call_refusals self.old process name.now) ≡ None) }
+        ensures busy { IfErr result (λ fault. fault ≡ BuildFault.Busy process → (object : ℕ)
+            → CannotFollow self.old (calls process object op)) }
         ensures same { OnErr result (self.new ≡ self.old) }
     {
         let object = find_object(&self.objects, name)?;
@@ -289,12 +315,18 @@ impl Builder {
     /// pending call, `OtherObject` where its pending call is on another object. After a refusal nothing
     /// has changed. It takes no memory.
     pub fn ret(&mut self, process: u32, name: &str, reply: Reply) -> Result<(), BuildFault>
-        ensures sound { OnOk result (first_that_holds (return_refusals self.old process name.now) ≡ None) }
+        ensures sound { OnOk result (first_that_holds (return_refusals self.old process name.now)
+            ≡ None) }
         ensures ok { OnOk result (self.new ≡ with_return self.old process reply) }
-        ensures history { OnOk result (IsSomeAnd (index_named self.old name.now) (λ object. Adds self.old (returns_ process object reply) self.new)) }
-        ensures err { IfErr result (λ fault. first_that_holds (return_refusals self.old process name.now) ≡ Some fault) }
-        ensures no_call { IfErr result (λ fault. fault ≡ BuildFault.NoCall process → (object : ℕ) → CannotFollow self.old (returns_ process object reply)) }
-        ensures other_object { IfErr result (λ fault. fault ≡ BuildFault.OtherObject process → IsSomeAnd (index_named self.old name.now) (λ object. CannotFollow self.old (returns_ process object reply))) }
+        ensures history { OnOk result (IsSomeAnd (index_named self.old name.now)
+            (λ object. Adds self.old (returns_ process object reply) self.new)) }
+        ensures err { IfErr result (λ fault. first_that_holds
+            (return_refusals self.old process name.now) ≡ Some fault) }
+        ensures no_call { IfErr result (λ fault. fault ≡ BuildFault.NoCall process → (object : ℕ)
+            → CannotFollow self.old (returns_ process object reply)) }
+        ensures other_object { IfErr result (λ fault. fault ≡ BuildFault.OtherObject process
+            → IsSomeAnd (index_named self.old name.now)
+            (λ object. CannotFollow self.old (returns_ process object reply))) }
         ensures same { OnErr result (self.new ≡ self.old) }
     {
         let object = find_object(&self.objects, name)?;

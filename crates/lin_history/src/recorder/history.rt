@@ -80,15 +80,24 @@ impl Model for History {
 
     ghost Value = { RecordedHistory };
 
-    ghost view = { λ h. record { objects = map object_view h.objects.entries; calls = map call_view h.calls.items; events = h.events } };
+    ghost view = { λ h. record {
+      objects = map object_view h.objects.entries;
+      calls = map call_view h.calls.items;
+      events = h.events;
+    } };
 
-    ghost invariant = { λ h. IsHistory (record { objects = map object_view h.objects.entries; calls = map call_view h.calls.items; events = h.events }) × AreNumbered h.calls.items };
+    ghost invariant = { λ h. IsHistory (record {
+      objects = map object_view h.objects.entries;
+      calls = map call_view h.calls.items;
+      events = h.events;
+    }) × AreNumbered h.calls.items };
 }
 
 // The object of this index.
 fn object_at(objects: &IndexMap<String, Declaration>, object: usize) -> ObjectInfo<'_>
     requires { object < length objects.now.entries }
-    ensures { slice_get (map object_view objects.now.entries) object ≡ Some (record { name = result.name.now; kind = result.kind; start = result.start }) }
+    ensures { slice_get (map object_view objects.now.entries) object
+        ≡ Some (record { name = result.name.now; kind = result.kind; start = result.start }) }
 {
     let (name, declared) = objects.get_index(object).unwrap();
     ObjectInfo {
@@ -108,7 +117,8 @@ fn problem_at(
 ) -> Result<Problem<AnyObject>, AllocError>
     requires object { object < length history.now.objects }
     requires indices { indices.now ≡ indices_from object 0 history.now.calls }
-    ensures start { IfOk result (λ problem. option_map start_of (slice_get history.now.objects object) ≡ Some problem.start) }
+    ensures start { IfOk result (λ problem. option_map start_of
+        (slice_get history.now.objects object) ≡ Some problem.start) }
     ensures calls { IfOk result (λ problem. problem.calls ≡ part_calls history.now object) }
 {
     let mut calls = Vec::with_capacity(alloc, indices.len())?;
@@ -137,9 +147,17 @@ impl History {
         calls: Vec<CallInfo>,
         events: u32,
     ) -> Self
-        requires history { IsHistory (record { objects = map object_view objects.entries; calls = map call_view calls.items; events = events }) }
+        requires history { IsHistory (record {
+          objects = map object_view objects.entries;
+          calls = map call_view calls.items;
+          events = events;
+        }) }
         requires numbers { AreNumbered calls.items }
-        ensures { result ≡ record { objects = map object_view objects.entries; calls = map call_view calls.items; events = events } }
+        ensures { result ≡ record {
+          objects = map object_view objects.entries;
+          calls = map call_view calls.items;
+          events = events;
+        } }
     {
         History {
             objects,
@@ -159,7 +177,8 @@ impl History {
     /// The object of this index, in the order of declaration. Condition: it is below `object_count()`.
     pub fn object(&self, object: usize) -> ObjectInfo<'_>
         requires { object < length self.now.objects }
-        ensures { slice_get self.now.objects object ≡ Some (record { name = result.name.now; kind = result.kind; start = result.start }) }
+        ensures { slice_get self.now.objects object
+            ≡ Some (record { name = result.name.now; kind = result.kind; start = result.start }) }
     {
         object_at(&self.objects, object)
     }
@@ -186,7 +205,8 @@ impl History {
     /// whole. Condition: the index is below `object_count()`.
     pub fn problem(&self, alloc: Global, object: usize) -> Result<Problem<AnyObject>, AllocError>
         requires { object < length self.now.objects }
-        ensures start { IfOk result (λ problem. option_map start_of (slice_get self.now.objects object) ≡ Some problem.start) }
+        ensures start { IfOk result (λ problem. option_map start_of
+            (slice_get self.now.objects object) ≡ Some problem.start) }
         ensures calls { IfOk result (λ problem. problem.calls ≡ part_calls self.now object) }
     {
         let indices = indices_on(alloc, self, object)?;
@@ -196,8 +216,12 @@ impl History {
     /// The parts of the history on all objects, in the order of declaration; it walks the calls once.
     pub fn problems(&self, alloc: Global) -> Result<Vec<Problem<AnyObject>>, AllocError>
         ensures count { IfOk result (λ problems. length problems.items ≡ length self.now.objects) }
-        ensures starts { IfOk result (λ problems. (object : ℕ) (problem : _) → slice_get problems.items object ≡ Some problem → option_map start_of (slice_get self.now.objects object) ≡ Some problem.start) }
-        ensures calls { IfOk result (λ problems. (object : ℕ) (problem : _) → slice_get problems.items object ≡ Some problem → problem.calls ≡ part_calls self.now object) }
+        ensures starts { IfOk result (λ problems. (object : ℕ) (problem : _)
+            → slice_get problems.items object ≡ Some problem
+            → option_map start_of (slice_get self.now.objects object) ≡ Some problem.start) }
+        ensures calls { IfOk result (λ problems. (object : ℕ) (problem : _)
+            → slice_get problems.items object ≡ Some problem
+            → problem.calls ≡ part_calls self.now object) }
     {
         let lists = indices_of_all(alloc, self)?;
         let mut problems = Vec::with_capacity(alloc, lists.len())?;

@@ -26,7 +26,8 @@ pub(crate) fn indices_on(
 // That many lists with nothing in them, one for each object.
 fn empty_lists(alloc: Global, count: usize) -> Result<Vec<Vec<usize>>, AllocError>
     ensures count { IfOk result (λ lists. length lists.items ≡ count) }
-    ensures empty { IfOk result (λ lists. (object : ℕ) (v : _) → slice_get lists.items object ≡ Some v → v.items ≡ []) }
+    ensures empty { IfOk result (λ lists. (object : ℕ) (v : _)
+        → slice_get lists.items object ≡ Some v → v.items ≡ []) }
 {
     let mut lists = Vec::with_capacity(alloc, count)?;
     for _ in 0..count {
@@ -39,8 +40,10 @@ fn empty_lists(alloc: Global, count: usize) -> Result<Vec<Vec<usize>>, AllocErro
 fn add_index(lists: &mut [Vec<usize>], object: usize, index: usize) -> Result<(), AllocError>
     requires { object < length lists.old }
     ensures count { length lists.new ≡ length lists.old }
-    ensures own { OnOk result ((v : _) (w : _) → slice_get lists.old object ≡ Some v → slice_get lists.new object ≡ Some w → w.items ≡ v.items ++ index ∷ []) }
-    ensures others { OnOk result ((other : ℕ) → (other ≡ object → ⊥) → slice_get lists.new other ≡ slice_get lists.old other) }
+    ensures own { OnOk result ((v : _) (w : _) → slice_get lists.old object ≡ Some v
+        → slice_get lists.new object ≡ Some w → w.items ≡ v.items ++ index ∷ []) }
+    ensures others { OnOk result ((other : ℕ) → (other ≡ object → ⊥)
+        → slice_get lists.new other ≡ slice_get lists.old other) }
 {
     lists[object].push(index)?;
     Ok(())
@@ -52,7 +55,9 @@ pub(crate) fn indices_of_all(
     history: &History,
 ) -> Result<Vec<Vec<usize>>, AllocError>
     ensures count { IfOk result (λ lists. length lists.items ≡ length history.now.objects) }
-    ensures each { IfOk result (λ lists. (object : ℕ) (v : _) → slice_get lists.items object ≡ Some v → v.items ≡ indices_from object 0 history.now.calls) }
+    ensures each { IfOk result (λ lists. (object : ℕ) (v : _)
+        → slice_get lists.items object ≡ Some v
+        → v.items ≡ indices_from object 0 history.now.calls) }
 {
     let mut lists = empty_lists(alloc, history.object_count())?;
     for index in 0..history.call_count() {
