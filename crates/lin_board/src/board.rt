@@ -1,3 +1,5 @@
+//! The board: two words, and the steps of its seats on them.
+
 ghost use Rattle.std.specs.Prelude.{◌≡◌, ◌↔◌, ◌<◌, ◌≤◌, ◌^◌, ◌++◌, ◌∷◌, [], length, All, Contains, IfOk, IfErr, IfSome, IfNone, IsErr, OnSome, false, is_none, vec_len};
 ghost use Rattle.std.specs.Option.{option_to_list};
 ghost use Rattle.lin_board.specs.Board.{IsSeatOf, new_seat};
