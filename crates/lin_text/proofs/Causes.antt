@@ -8,7 +8,8 @@ use Rattle.lin_history.specs.Refusals.{first_that_holds}
 use Rattle.lin_history.specs.Recorder.RecordedHistory.{RecordedHistory, kind_named}
 use Rattle.lin_text.specs.Causes.{cause_of}
 use Rattle.lin_text.specs.Line.{LineEvent, json, conditions_in, IsLineEventIn}
-use Rattle.lin_text.specs.Text.{is_blank, max_line, event_at, as_cause, refusals, refusals_at, taken, causes_of, HasCause, Leads}
+use Rattle.lin_text.specs.declared.text.TheConstants.{MAX_LINE_BYTES}
+use Rattle.lin_text.specs.Text.{is_blank, event_at, as_cause, refusals, refusals_at, taken, causes_of, HasCause, Leads}
 
 head_some : (t : Bool) (y x : Cause) (r s : Option Cause) → (r ≡ Some x → s ≡ Some x) → cond t (Some y) r ≡ Some x → cond t (Some y) s ≡ Some x
 head_some true y x r s h e = e
@@ -28,13 +29,13 @@ none_passes (c ∷ cs) b e = head_none c.0 c.1 (first_that_holds cs) (first_that
 
 -- a line that is neither too long nor blank, with a value
 pub record IsRead (h : RecordedHistory) (line : List ℕ) (d : Data) : Type 0 where
-  pub short : length line ≤ max_line
+  pub short : length line ≤ MAX_LINE_BYTES
   pub there : is_blank line ≡ false
   pub value : json line ≡ Some d
 
 of_value : (h : RecordedHistory) (line : List ℕ) (d : Data) → IsRead h line d → first_that_holds (causes_of h line) ≡ first_that_holds (conditions_in (kind_named h) d ++ refusals_at h (event_at h line))
 of_value h line d r =
-    let test : nat_lt max_line (length line) ≡ false = grind (arith, nat_tests, r.short) in
+    let test : nat_lt MAX_LINE_BYTES (length line) ≡ false = grind (arith, nat_tests, r.short) in
     rw (test, r.there, r.value) refl
 
 event_is : (h : RecordedHistory) (line : List ℕ) (d : Data) (event : LineEvent) → IsRead h line d → IsLineEventIn (kind_named h) d event → event_at h line ≡ Some event

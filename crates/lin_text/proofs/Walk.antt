@@ -1,7 +1,8 @@
 -- Over the lines of a text, one after another.
 use Rattle.std.proofs.Common.{◌≡◌, ℕ, ◌+◌, ◌<◌, ◌≤◌, List, [], ◌∷◌, ◌++◌, length, refl, sym, ap, ◌∙◌, append_assoc, length-append, arith}
-use Rattle.lin_history.specs.Recorder.RecordedHistory.{RecordedHistory, nothing_recorded}
-use Rattle.lin_text.specs.Text.{lines, Leads, Lead, max_input, MeansHistory, IsReached}
+use Rattle.lin_history.specs.Recorder.RecordedHistory.{RecordedHistory, no_event}
+use Rattle.lin_text.specs.declared.text.TheConstants.{MAX_INPUT_BYTES}
+use Rattle.lin_text.specs.Text.{lines, Leads, Lead, MeansHistory, IsReached}
 use Rattle.lin_text.proofs.Lines.{lines_nil, append_nil}
 
 pub lead_push : (h g k : RecordedHistory) (before : List (List ℕ)) (line : List ℕ) → Lead h before g → Leads g line k → Lead h (before ++ line ∷ []) k
@@ -10,14 +11,14 @@ lead_push h g k (x ∷ xs) line leads step = (leads.0, leads.1, lead_push leads.
 
 -- the lines before the rest have no cause, and their events lead to h
 pub record IsMidway (text rest : List ℕ) (number : ℕ) (h : RecordedHistory) : Type 0 where
-  pub short : length text ≤ max_input
+  pub short : length text ≤ MAX_INPUT_BYTES
   pub before : List (List ℕ)
   pub place : lines text ≡ before ++ lines rest
   pub count : length before ≡ number
-  pub history : Lead nothing_recorded before h
+  pub history : Lead no_event before h
   pub bound : number + length rest ≤ length text
 
-pub begins : (text : List ℕ) (h : RecordedHistory) → length text ≤ max_input → h ≡ nothing_recorded → IsMidway text text 0 h
+pub begins : (text : List ℕ) (h : RecordedHistory) → length text ≤ MAX_INPUT_BYTES → h ≡ no_event → IsMidway text text 0 h
 begins text h short e = record { short = short; before = []; place = refl; count = refl; history = sym e; bound = omega arith }
 
 pub goes_on : (text rest : List ℕ) (number : ℕ) (h g : RecordedHistory) (line more : List ℕ) → IsMidway text rest number h → lines rest ≡ line ∷ lines more
@@ -27,7 +28,7 @@ goes_on text rest number h g line more m cut shorter step = record {
   before = m.before ++ line ∷ [];
   place = m.place ∙ (ap (λ ls. m.before ++ ls) cut ∙ rw append_assoc refl);
   count = rw length-append (omega (arith, m.count));
-  history = lead_push nothing_recorded h g m.before line m.history step;
+  history = lead_push no_event h g m.before line m.history step;
   bound = omega (arith, m.bound);
 }
 

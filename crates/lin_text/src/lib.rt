@@ -5,9 +5,7 @@ mod cause;
 mod fields;
 mod line;
 mod reading;
-#[cfg(test)]
-mod tests;
 mod text;
 
 pub use cause::{Cause, TextFault, write_cause};
-pub use text::read_history;
+pub use text::{MAX_INPUT_BYTES, MAX_LINE_BYTES, read_history};
