@@ -19,6 +19,3 @@ pub use object::{SeqObject, SharedObject, lawful};
 pub use op::{Op, OpFault, is_op, read_op, write_op};
 pub use reply::{Reply, write_reply};
 pub use state::{ObjState, start_state};
-
-#[cfg(test)]
-mod tests;
