@@ -2,7 +2,7 @@
 ghost use Rattle.std.specs.Prelude.{◌≡◌, ◌++◌, OnOk, OnErr, is_some};
 ghost use Rattle.lin_object.specs.Names.{beside};
 ghost use Rattle.lin_object.specs.Kinds.{operations, op_with, op_read};
-ghost use Rattle.lin_object.specs.PrintedForms.{op_text};
+ghost use Rattle.lin_object.specs.PrintedForms.{op_name, op_text};
 
 use crate::kind::Kind;
 use crate::kinds::{counter, mutex, queue, register, set, stack};
@@ -53,6 +53,30 @@ pub enum OpFault {
     BadArgs,
 }
 
+impl Op {
+    // The name by which calls and reports have the operation.
+    fn name(&self) -> &'static str
+        ensures { result.now ≡ op_name self.now }
+    {
+        match self {
+            Op::Write(_) => "write",
+            Op::Read => "read",
+            Op::Cas(..) => "cas",
+            Op::Add(_) | Op::Insert(_) => "add",
+            Op::Get => "get",
+            Op::Enqueue(_) => "enq",
+            Op::Dequeue => "deq",
+            Op::Push(_) => "push",
+            Op::Pop => "pop",
+            Op::Remove(_) => "remove",
+            Op::Contains(_) => "contains",
+            Op::Lock => "lock",
+            Op::Unlock => "unlock",
+            Op::TryLock => "try_lock",
+        }
+    }
+}
+
 impl fmt::Display for Op {
     ghost use Rattle.std.specs.Prelude.{Some};
     ghost use Rattle.lin_object.specs.PrintedForms.{op_text};
@@ -60,22 +84,19 @@ impl fmt::Display for Op {
     ghost output = { λ op. Some (op_text op) };
 
     fn fmt<W: fmt::Write>(&self, f: &mut fmt::Formatter<W>) -> fmt::Result {
+        let name = self.name();
         match self {
-            Op::Write(value) => write!(f, "write({value})"),
-            Op::Read => write!(f, "read()"),
-            Op::Cas(from, to) => write!(f, "cas({from},{to})"),
-            Op::Add(difference) => write!(f, "add({difference})"),
-            Op::Get => write!(f, "get()"),
-            Op::Enqueue(item) => write!(f, "enq({item})"),
-            Op::Dequeue => write!(f, "deq()"),
-            Op::Push(item) => write!(f, "push({item})"),
-            Op::Pop => write!(f, "pop()"),
-            Op::Insert(item) => write!(f, "add({item})"),
-            Op::Remove(item) => write!(f, "remove({item})"),
-            Op::Contains(item) => write!(f, "contains({item})"),
-            Op::Lock => write!(f, "lock()"),
-            Op::Unlock => write!(f, "unlock()"),
-            Op::TryLock => write!(f, "try_lock()"),
+            Op::Read | Op::Get | Op::Dequeue | Op::Pop | Op::Lock | Op::Unlock | Op::TryLock => {
+                write!(f, "{name}()")
+            }
+            Op::Cas(from, to) => write!(f, "{name}({from},{to})"),
+            Op::Write(value)
+            | Op::Add(value)
+            | Op::Enqueue(value)
+            | Op::Push(value)
+            | Op::Insert(value)
+            | Op::Remove(value)
+            | Op::Contains(value) => write!(f, "{name}({value})"),
         }
     }
 }

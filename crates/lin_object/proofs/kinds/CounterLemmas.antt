@@ -3,7 +3,7 @@ use Rattle.std.proofs.Common.{◌≡◌, Bool, true, false, Some, None, List, []
 use Rattle.std.specs.Prelude.{ℤ, ◌+ℤ◌}
 use Rattle.std.proofs.Math.IntN.{+ℤ_assoc, +ℤ_idr}
 use Rattle.lin_object.specs.declared.op.Op.{Op}
-use Rattle.lin_object.specs.declared.op.Op.TheVariants.{Write, Read, Cas, Add, Get, Enqueue, Dequeue, Push, Pop, Insert, Remove, Contains, Lock, Unlock, TryLock}
+use Rattle.lin_object.specs.declared.op.Op.TheVariants.{Add, Get}
 use Rattle.lin_object.specs.declared.reply.Reply.{Reply}
 use Rattle.lin_object.specs.declared.reply.Reply.TheVariants.{Okay, Int}
 use Rattle.lin_object.specs.declared.state.ObjState.{ObjState}
@@ -11,7 +11,7 @@ use Rattle.lin_object.specs.declared.state.ObjState.TheVariants.{Counter}
 use Rattle.lin_object.specs.Runs.{Step, RunsFrom}
 use Rattle.lin_object.specs.Kinds.{after}
 use Rattle.lin_object.specs.Kinds.Counter.{counter_step, is_in_range, added_by, sum_added, CounterLaw}
-use Rattle.lin_object.proofs.AnswerLemmas.{Gives, state_given, reply_given}
+use Rattle.lin_object.proofs.AnswerLemmas.{Gives, no_step, state_given, reply_given}
 
 add_leaves : (fits : Bool) (n d : ℤ) (m : ObjState) (r : Reply) → Gives (if fits then Some (Counter (n +ℤ d), Okay) else None) m r → m ≡ Counter (n +ℤ d)
 add_leaves true n d m r e = sym (state_given e)
@@ -20,19 +20,7 @@ add_leaves false n d m r e = absurd (cc)
 counter_leaves : (n : ℤ) (op : Op) (m : ObjState) (r : Reply) → Gives (counter_step n op) m r → m ≡ Counter (n +ℤ added_by op)
 counter_leaves n (Add d) m r e = add_leaves (is_in_range (n +ℤ d)) n d m r e
 counter_leaves n Get m r e = rw (+ℤ_idr n) (sym (state_given e))
-counter_leaves n (Write w) m r e = absurd (cc)
-counter_leaves n Read m r e = absurd (cc)
-counter_leaves n (Cas a b) m r e = absurd (cc)
-counter_leaves n (Enqueue w) m r e = absurd (cc)
-counter_leaves n Dequeue m r e = absurd (cc)
-counter_leaves n (Push w) m r e = absurd (cc)
-counter_leaves n Pop m r e = absurd (cc)
-counter_leaves n (Insert w) m r e = absurd (cc)
-counter_leaves n (Remove w) m r e = absurd (cc)
-counter_leaves n (Contains w) m r e = absurd (cc)
-counter_leaves n Lock m r e = absurd (cc)
-counter_leaves n Unlock m r e = absurd (cc)
-counter_leaves n TryLock m r e = absurd (cc)
+counter_leaves n op m r e = absurd (no_step e)
 
 counter_runs : (n : ℤ) (run : List Step) (t : ObjState) → RunsFrom after (Counter n) run t → t ≡ Counter (n +ℤ sum_added run)
 counter_runs n [] t e = rw (+ℤ_idr n) (sym e)

@@ -1,7 +1,7 @@
 -- The table of mutexes keeps the law of their runs.
 use Rattle.std.proofs.Common.{◌≡◌, ℕ, ◌==◌, Bool, true, false, Some, None, [], ◌∷◌, refl, sym, subst, eqb-true, if◌then◌else◌}
 use Rattle.lin_object.specs.declared.op.Op.{Op}
-use Rattle.lin_object.specs.declared.op.Op.TheVariants.{Write, Read, Cas, Add, Get, Enqueue, Dequeue, Push, Pop, Insert, Remove, Contains, Lock, Unlock, TryLock}
+use Rattle.lin_object.specs.declared.op.Op.TheVariants.{Unlock, TryLock}
 use Rattle.lin_object.specs.declared.reply.Reply.{Reply}
 use Rattle.lin_object.specs.declared.reply.Reply.TheVariants.{Okay}
 use Rattle.lin_object.specs.declared.state.ObjState.{ObjState}
@@ -9,7 +9,7 @@ use Rattle.lin_object.specs.declared.state.ObjState.TheVariants.{Mutex}
 use Rattle.lin_object.specs.Runs.{RunsFrom}
 use Rattle.lin_object.specs.Kinds.{after}
 use Rattle.lin_object.specs.Kinds.Mutex.{mutex_step, is_acquiring, MutexLaw}
-use Rattle.lin_object.proofs.AnswerLemmas.{Gives, state_given, reply_given}
+use Rattle.lin_object.proofs.AnswerLemmas.{Gives, no_step, state_given, reply_given}
 
 -- what one step leaves of a mutex that the process holds
 abbrev MutexStep : ℕ → Op → ObjState → Reply → Type 0
@@ -20,21 +20,9 @@ unlock_leaves true p q m r same e other = absurd (other (sym (eqb-true p q same)
 unlock_leaves false p q m r same e other = absurd (cc)
 
 mutex_leaves : (p q : ℕ) (op : Op) (m : ObjState) (r : Reply) → Gives (mutex_step (Some p) q op) m r → (op ≡ Unlock → q ≡ p → ⊥) → MutexStep p op m r
-mutex_leaves p q Lock m r e other = absurd (cc)
 mutex_leaves p q Unlock m r e other = unlock_leaves (p == q) p q m r refl e (other refl)
 mutex_leaves p q TryLock m r e other = (sym (state_given e), rw (← reply_given e) refl)
-mutex_leaves p q (Write w) m r e other = absurd (cc)
-mutex_leaves p q Read m r e other = absurd (cc)
-mutex_leaves p q (Cas a b) m r e other = absurd (cc)
-mutex_leaves p q (Add d) m r e other = absurd (cc)
-mutex_leaves p q Get m r e other = absurd (cc)
-mutex_leaves p q (Enqueue w) m r e other = absurd (cc)
-mutex_leaves p q Dequeue m r e other = absurd (cc)
-mutex_leaves p q (Push w) m r e other = absurd (cc)
-mutex_leaves p q Pop m r e other = absurd (cc)
-mutex_leaves p q (Insert w) m r e other = absurd (cc)
-mutex_leaves p q (Remove w) m r e other = absurd (cc)
-mutex_leaves p q (Contains w) m r e other = absurd (cc)
+mutex_leaves p q op m r e other = absurd (no_step e)
 
 pub mutex_law : MutexLaw after
 mutex_law p [] t e none = (sym e, tt)

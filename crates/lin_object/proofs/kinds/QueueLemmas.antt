@@ -2,14 +2,14 @@
 use Rattle.std.proofs.Common.{◌≡◌, List, [], ◌∷◌, ◌++◌, refl, sym, ap, subst, ◌∙◌, append_assoc, append-nil}
 use Rattle.std.specs.Prelude.{ℤ}
 use Rattle.lin_object.specs.declared.op.Op.{Op}
-use Rattle.lin_object.specs.declared.op.Op.TheVariants.{Write, Read, Cas, Add, Get, Enqueue, Dequeue, Push, Pop, Insert, Remove, Contains, Lock, Unlock, TryLock}
+use Rattle.lin_object.specs.declared.op.Op.TheVariants.{Enqueue, Dequeue}
 use Rattle.lin_object.specs.declared.reply.Reply.{Reply}
 use Rattle.lin_object.specs.declared.state.ObjState.{ObjState}
 use Rattle.lin_object.specs.declared.state.ObjState.TheVariants.{Queue}
 use Rattle.lin_object.specs.Runs.{RunsFrom}
 use Rattle.lin_object.specs.Kinds.{after}
 use Rattle.lin_object.specs.Kinds.Queue.{queue_step, put_in_by, taken_out_by, put_in, taken_out, QueueLaw}
-use Rattle.lin_object.proofs.AnswerLemmas.{Gives, state_given, reply_given}
+use Rattle.lin_object.proofs.AnswerLemmas.{Gives, no_step, state_given, reply_given}
 
 -- what one step leaves in the queue
 abbrev QueueStep : List ℤ → Op → ObjState → Reply → Type 0
@@ -19,19 +19,7 @@ queue_leaves : (items : List ℤ) (op : Op) (m : ObjState) (r : Reply) → Gives
 queue_leaves items (Enqueue w) m r e = (items ++ w ∷ [], sym (state_given e), refl)
 queue_leaves [] Dequeue m r e = ([], sym (state_given e), rw (← reply_given e) refl)
 queue_leaves (v ∷ items) Dequeue m r e = (items, sym (state_given e), rw (← reply_given e) (append-nil (v ∷ items)))
-queue_leaves items (Write w) m r e = absurd (cc)
-queue_leaves items Read m r e = absurd (cc)
-queue_leaves items (Cas a b) m r e = absurd (cc)
-queue_leaves items (Add d) m r e = absurd (cc)
-queue_leaves items Get m r e = absurd (cc)
-queue_leaves items (Push w) m r e = absurd (cc)
-queue_leaves items Pop m r e = absurd (cc)
-queue_leaves items (Insert w) m r e = absurd (cc)
-queue_leaves items (Remove w) m r e = absurd (cc)
-queue_leaves items (Contains w) m r e = absurd (cc)
-queue_leaves items Lock m r e = absurd (cc)
-queue_leaves items Unlock m r e = absurd (cc)
-queue_leaves items TryLock m r e = absurd (cc)
+queue_leaves items op m r e = absurd (no_step e)
 
 queue_chain : (items put puts taken takens rest more : List ℤ) → items ++ put ≡ taken ++ more → more ++ puts ≡ takens ++ rest → items ++ (put ++ puts) ≡ (taken ++ takens) ++ rest
 queue_chain items put puts taken takens rest more one later =

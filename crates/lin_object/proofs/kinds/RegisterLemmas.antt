@@ -3,7 +3,7 @@ use Rattle.std.proofs.Common.{◌≡◌, Bool, true, false, Some, List, [], ◌�
 use Rattle.std.specs.Prelude.{ℤ}
 use Rattle.std.specs.Ordering.{int_eq}
 use Rattle.lin_object.specs.declared.op.Op.{Op}
-use Rattle.lin_object.specs.declared.op.Op.TheVariants.{Write, Read, Cas, Add, Get, Enqueue, Dequeue, Push, Pop, Insert, Remove, Contains, Lock, Unlock, TryLock}
+use Rattle.lin_object.specs.declared.op.Op.TheVariants.{Write, Read, Cas}
 use Rattle.lin_object.specs.declared.reply.Reply.{Reply}
 use Rattle.lin_object.specs.declared.reply.Reply.TheVariants.{Int, Flag}
 use Rattle.lin_object.specs.declared.state.ObjState.{ObjState}
@@ -11,7 +11,7 @@ use Rattle.lin_object.specs.declared.state.ObjState.TheVariants.{Register}
 use Rattle.lin_object.specs.Runs.{Step, RunsFrom}
 use Rattle.lin_object.specs.Kinds.{after}
 use Rattle.lin_object.specs.Kinds.Register.{register_step, value_left, last_written, RegisterLaw}
-use Rattle.lin_object.proofs.AnswerLemmas.{Gives, state_given, reply_given}
+use Rattle.lin_object.proofs.AnswerLemmas.{Gives, no_step, state_given, reply_given}
 
 cas_leaves : (hit : Bool) (v a b : ℤ) (m : ObjState) (r : Reply) → Gives (Some (if hit then (Register b, Flag true) else (Register v, Flag false))) m r → m ≡ Register (value_left v (Cas a b) r)
 cas_leaves true v a b m r e = rw (← state_given e, ← reply_given e) refl
@@ -21,18 +21,7 @@ register_leaves : (v : ℤ) (op : Op) (m : ObjState) (r : Reply) → Gives (regi
 register_leaves v (Write w) m r e = sym (state_given e)
 register_leaves v Read m r e = sym (state_given e)
 register_leaves v (Cas a b) m r e = cas_leaves (int_eq v a) v a b m r e
-register_leaves v (Add d) m r e = absurd (cc)
-register_leaves v Get m r e = absurd (cc)
-register_leaves v (Enqueue w) m r e = absurd (cc)
-register_leaves v Dequeue m r e = absurd (cc)
-register_leaves v (Push w) m r e = absurd (cc)
-register_leaves v Pop m r e = absurd (cc)
-register_leaves v (Insert w) m r e = absurd (cc)
-register_leaves v (Remove w) m r e = absurd (cc)
-register_leaves v (Contains w) m r e = absurd (cc)
-register_leaves v Lock m r e = absurd (cc)
-register_leaves v Unlock m r e = absurd (cc)
-register_leaves v TryLock m r e = absurd (cc)
+register_leaves v op m r e = absurd (no_step e)
 
 register_runs : (v : ℤ) (run : List Step) (t : ObjState) → RunsFrom after (Register v) run t → t ≡ Register (last_written v run)
 register_runs v [] t e = sym e

@@ -8,7 +8,7 @@ use Rattle.std.proofs.lemmas.List.Folds.{list_any-append}
 use Rattle.std.proofs.lemmas.List.{take-append-drop}
 use Rattle.std.proofs.lemmas.Map.Views.{any-filter_same}
 use Rattle.lin_object.specs.declared.op.Op.{Op}
-use Rattle.lin_object.specs.declared.op.Op.TheVariants.{Write, Read, Cas, Add, Get, Enqueue, Dequeue, Push, Pop, Insert, Remove, Contains, Lock, Unlock, TryLock}
+use Rattle.lin_object.specs.declared.op.Op.TheVariants.{Insert, Remove, Contains}
 use Rattle.lin_object.specs.declared.reply.Reply.{Reply}
 use Rattle.lin_object.specs.declared.reply.Reply.TheVariants.{Flag}
 use Rattle.lin_object.specs.declared.state.ObjState.{ObjState}
@@ -17,7 +17,7 @@ use Rattle.lin_object.specs.Items.{is_in, with_in_order, without_item}
 use Rattle.lin_object.specs.Runs.{Step, RunsFrom}
 use Rattle.lin_object.specs.Kinds.{after}
 use Rattle.lin_object.specs.Kinds.Set.{set_step, is_in_after_step, is_in_after, SetLaw}
-use Rattle.lin_object.proofs.AnswerLemmas.{Gives, state_given, reply_given}
+use Rattle.lin_object.proofs.AnswerLemmas.{Gives, no_step, state_given, reply_given}
 
 int_swap : (a b : ℤ) → int_eq a b ≡ int_eq b a
 int_swap a b = go (int_eq a b) (int_eq b a) refl refl
@@ -87,18 +87,7 @@ set_leaves : (items : List ℤ) (op : Op) (m : ObjState) (r : Reply) → Gives (
 set_leaves items (Insert w) m r e = insert_leaves (is_in w items) w items m r refl e
 set_leaves items (Remove w) m r e = remove_leaves (is_in w items) w items m r refl e
 set_leaves items (Contains w) m r e = (items, sym (state_given e), λ item. refl)
-set_leaves items (Write w) m r e = absurd (cc)
-set_leaves items Read m r e = absurd (cc)
-set_leaves items (Cas a b) m r e = absurd (cc)
-set_leaves items (Add d) m r e = absurd (cc)
-set_leaves items Get m r e = absurd (cc)
-set_leaves items (Enqueue w) m r e = absurd (cc)
-set_leaves items Dequeue m r e = absurd (cc)
-set_leaves items (Push w) m r e = absurd (cc)
-set_leaves items Pop m r e = absurd (cc)
-set_leaves items Lock m r e = absurd (cc)
-set_leaves items Unlock m r e = absurd (cc)
-set_leaves items TryLock m r e = absurd (cc)
+set_leaves items op m r e = absurd (no_step e)
 
 set_runs : (items : List ℤ) (run : List Step) (t : ObjState) → RunsFrom after (Set items) run t → (rest : List ℤ) × (t ≡ Set rest) × ((item : ℤ) → is_in item rest ≡ is_in_after item (is_in item items) run)
 set_runs items [] t e = (items, sym e, λ item. refl)

@@ -5,23 +5,20 @@ use Rattle.lin_object.specs.declared.op.Op.TheVariants.{Push, Pop}
 use Rattle.lin_object.specs.declared.reply.Reply.{Reply}
 use Rattle.lin_object.specs.declared.reply.Reply.TheVariants.{Int}
 use Rattle.lin_object.specs.declared.state.ObjState.{ObjState}
-use Rattle.lin_object.specs.declared.state.ObjState.TheVariants.{Register, Counter, Queue, Stack, Set, Mutex}
+use Rattle.lin_object.specs.declared.state.ObjState.TheVariants.{Stack, Mutex}
 use Rattle.lin_object.specs.Runs.{RunsFrom}
 use Rattle.lin_object.specs.Kinds.{after}
 use Rattle.lin_object.specs.Kinds.Stack.{StackLaw}
-use Rattle.lin_object.proofs.AnswerLemmas.{Gives, state_given, reply_given}
+use Rattle.lin_object.proofs.AnswerLemmas.{Gives, no_step, state_given, reply_given}
 
 push_pop : (s m n : ObjState) (p q : ℕ) (v : ℤ) (pushed popped : Reply) → Gives (after s p (Push v)) m pushed → Gives (after m q Pop) n popped → (popped ≡ Int v) × (n ≡ s)
 push_pop (Stack items) m n p q v pushed popped e f =
     let on_top : Stack (v ∷ items) ≡ m = state_given e in
     let answered : Gives (Some (Stack items, Int v)) n popped = subst (λ (x : ObjState). Gives (after x q Pop) n popped) (sym on_top) f in
     (sym (reply_given answered), sym (state_given answered))
-push_pop (Register x) m n p q v pushed popped e f = absurd (cc)
-push_pop (Counter x) m n p q v pushed popped e f = absurd (cc)
-push_pop (Queue x) m n p q v pushed popped e f = absurd (cc)
-push_pop (Set x) m n p q v pushed popped e f = absurd (cc)
-push_pop (Mutex None) m n p q v pushed popped e f = absurd (cc)
-push_pop (Mutex (Some x)) m n p q v pushed popped e f = absurd (cc)
+push_pop (Mutex None) m n p q v pushed popped e f = absurd (no_step e)
+push_pop (Mutex (Some x)) m n p q v pushed popped e f = absurd (no_step e)
+push_pop s m n p q v pushed popped e f = absurd (no_step e)
 
 pub stack_law : StackLaw after
 stack_law s t [] late p q v pushed popped (m, e, (n, f, rest)) =
