@@ -6,7 +6,7 @@ use Rattle.lin_object.specs.declared.op.Op.TheVariants.{Enqueue, Dequeue}
 use Rattle.lin_object.specs.declared.reply.Reply.{Reply}
 use Rattle.lin_object.specs.declared.state.ObjState.{ObjState}
 use Rattle.lin_object.specs.declared.state.ObjState.TheVariants.{Queue}
-use Rattle.lin_object.specs.Runs.{RunsFrom}
+use Rattle.lin_object.specs.Runs.{Step, RunsFrom}
 use Rattle.lin_object.specs.Kinds.{after}
 use Rattle.lin_object.specs.Kinds.Queue.{queue_step, put_in_by, taken_out_by, put_in, taken_out, QueueLaw}
 use Rattle.lin_object.proofs.AnswerLemmas.{Gives, no_step, state_given, reply_given}
@@ -25,9 +25,17 @@ queue_chain : (items put puts taken takens rest more : List ℤ) → items ++ pu
 queue_chain items put puts taken takens rest more one later =
     sym (append_assoc items put puts) ∙ ap (λ (l : List ℤ). l ++ puts) one ∙ append_assoc taken more puts ∙ ap (λ (l : List ℤ). taken ++ l) later ∙ sym (append_assoc taken takens rest)
 
-pub queue_law : QueueLaw after
-queue_law items [] t e = (items, sym e, append-nil items)
-queue_law items (step ∷ steps) t (m, e, rest) =
+queue_runs : (items : List ℤ) (run : List Step) (t : ObjState) → RunsFrom after (Queue items) run t → (rest : List ℤ) × (t ≡ Queue rest) × (items ++ put_in run ≡ taken_out run ++ rest)
+queue_runs items [] t e = (items, sym e, append-nil items)
+queue_runs items (step ∷ steps) t (m, e, rest) =
     let one : QueueStep items step.op m step.reply = queue_leaves items step.op m step.reply e in
-    let later = queue_law one.0 steps t (subst (λ (s : ObjState). RunsFrom after s steps t) one.1 rest) in
+    let later = queue_runs one.0 steps t (subst (λ (s : ObjState). RunsFrom after s steps t) one.1 rest) in
     (later.0, later.1, queue_chain items (put_in_by step.op) (put_in steps) (taken_out_by step.op step.reply) (taken_out steps) later.0 one.0 one.2 later.2)
+
+pub queue_keeps : QueueLaw after
+queue_keeps = record {
+  order = queue_runs;
+  puts = λ items v process. refl;
+  takes = λ v items process. refl;
+  empty = λ process. refl;
+}

@@ -5,10 +5,11 @@ use Rattle.std.specs.Ordering.{int_eq}
 use Rattle.lin_object.specs.declared.op.Op.{Op}
 use Rattle.lin_object.specs.declared.op.Op.TheVariants.{Write, Read, Cas}
 use Rattle.lin_object.specs.declared.reply.Reply.{Reply}
-use Rattle.lin_object.specs.declared.reply.Reply.TheVariants.{Int, Flag}
+use Rattle.lin_object.specs.declared.reply.Reply.TheVariants.{Flag}
 use Rattle.lin_object.specs.declared.state.ObjState.{ObjState}
 use Rattle.lin_object.specs.declared.state.ObjState.TheVariants.{Register}
 use Rattle.lin_object.specs.Runs.{Step, RunsFrom}
+use Rattle.lin_object.specs.StepAnswers.{step_reply}
 use Rattle.lin_object.specs.Kinds.{after}
 use Rattle.lin_object.specs.Kinds.Register.{register_step, value_left, last_written, RegisterLaw}
 use Rattle.lin_object.proofs.AnswerLemmas.{Gives, no_step, state_given, reply_given}
@@ -29,8 +30,14 @@ register_runs v (step ∷ steps) t (m, e, rest) =
     let left : m ≡ Register (value_left v step.op step.reply) = register_leaves v step.op m step.reply e in
     register_runs (value_left v step.op step.reply) steps t (subst (λ (s : ObjState). RunsFrom after s steps t) left rest)
 
-pub register_law : RegisterLaw after
-register_law v run t u process reply leads read =
-    let at_end = register_runs v run t leads in
-    let answered : Gives (Some (Register (last_written v run), Int (last_written v run))) u reply = subst (λ (s : ObjState). Gives (after s process Read) u reply) at_end read in
-    (at_end, sym (reply_given answered))
+cas_answers : (hit : Bool) (v b : ℤ) → step_reply {S = ObjState} {R = Reply} (Some (if hit then (Register b, Flag true) else (Register v, Flag false))) ≡ Some (Flag hit)
+cas_answers true v b = refl
+cas_answers false v b = refl
+
+pub register_keeps : RegisterLaw after
+register_keeps = record {
+  holds = register_runs;
+  reads = λ v process. refl;
+  writes = λ v w process. refl;
+  compares = λ v a b process. cas_answers (int_eq v a) v b;
+}

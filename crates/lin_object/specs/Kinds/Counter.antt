@@ -8,6 +8,7 @@ use Rattle.lin_object.specs.declared.state.ObjState.{ObjState}
 use Rattle.lin_object.specs.declared.state.ObjState.TheVariants.{Counter}
 use Rattle.lin_object.specs.Names.{OpMaker, of_none, of_one}
 use Rattle.lin_object.specs.Runs.{Behavior, Step, RunsFrom}
+use Rattle.lin_object.specs.StepAnswers.{step_reply}
 
 -- add(d), get().
 abbrev pub counter_operations : List (List ℕ × OpMaker)
@@ -35,9 +36,11 @@ abbrev pub sum_added : List Step → ℤ
 sum_added [] = pos 0
 sum_added (step ∷ steps) = added_by step.op +ℤ sum_added steps
 
--- A counter holds what it held before and the sum of all that was added, and a get answers it.
-abbrev pub CounterLaw : Behavior → Type 0
-CounterLaw after =
-    (n : ℤ) (run : List Step) (t u : ObjState) (process : ℕ) (reply : Reply) →
-    RunsFrom after (Counter n) run t → after t process Get ≡ Some (u, reply) →
-    (t ≡ Counter (n +ℤ sum_added run)) × (reply ≡ Int (n +ℤ sum_added run))
+-- What every run of a counter keeps, and what each step of it replies.
+pub record CounterLaw (after : Behavior) : Type 0 where
+  -- it holds the number from before and the sum of all that was added
+  pub holds : (n : ℤ) (run : List Step) (t : ObjState) → RunsFrom after (Counter n) run t → t ≡ Counter (n +ℤ sum_added run)
+  -- a get answers what it holds
+  pub gets : (n : ℤ) (process : ℕ) → step_reply (after (Counter n) process Get) ≡ Some (Int n)
+  -- an add can be made exactly where the sum is a number of 64 bits
+  pub adds : (n d : ℤ) (process : ℕ) → step_reply (after (Counter n) process (Add d)) ≡ (if is_in_range (n +ℤ d) then Some Okay else None)

@@ -1,5 +1,5 @@
 -- Mutexes: their operations, what each does, and the law of their runs (this project's own).
-use Rattle.std.specs.Prelude.{◌≡◌, ℕ, ◌==◌, Bool, true, false, List, [], ◌∷◌, codes, Option, Some, None, if◌then◌else◌}
+use Rattle.std.specs.Prelude.{◌≡◌, ℕ, ◌==◌, Bool, true, false, is_none, List, [], ◌∷◌, codes, Option, Some, None, if◌then◌else◌}
 use Rattle.lin_object.specs.declared.op.Op.{Op}
 use Rattle.lin_object.specs.declared.op.Op.TheVariants.{Lock, Unlock, TryLock}
 use Rattle.lin_object.specs.declared.reply.Reply.{Reply}
@@ -8,6 +8,7 @@ use Rattle.lin_object.specs.declared.state.ObjState.{ObjState}
 use Rattle.lin_object.specs.declared.state.ObjState.TheVariants.{Mutex}
 use Rattle.lin_object.specs.Names.{OpMaker, of_none}
 use Rattle.lin_object.specs.Runs.{Behavior, Step, RunsFrom}
+use Rattle.lin_object.specs.StepAnswers.{step_reply}
 
 -- lock(), unlock(), try_lock().
 abbrev pub mutex_operations : List (List ℕ × OpMaker)
@@ -42,9 +43,24 @@ abbrev pub HasNoAcquiring : List Step → Type 0
 HasNoAcquiring [] = Unit {0}
 HasNoAcquiring (step ∷ steps) = (is_acquiring step.op step.reply ≡ false) × HasNoAcquiring steps
 
--- A mutex is held by at most one process: while one holds it and does not unlock it, none is given it.
-abbrev pub MutexLaw : Behavior → Type 0
-MutexLaw after =
-    (p : ℕ) (run : List Step) (t : ObjState) →
-    RunsFrom after (Mutex (Some p)) run t → HasNoUnlockBy p run →
-    (t ≡ Mutex (Some p)) × HasNoAcquiring run
+-- Whether the process holds a mutex that has this holder.
+abbrev pub is_holder : ℕ → Option ℕ → Bool
+is_holder p None = false
+is_holder p (Some q) = q == p
+
+-- What every run of a mutex keeps, and what each step of it replies.
+pub record MutexLaw (after : Behavior) : Type 0 where
+  -- at most one process holds it: while one holds it and does not unlock it, none is given it
+  pub alone :
+      (p : ℕ) (run : List Step) (t : ObjState) → RunsFrom after (Mutex (Some p)) run t → HasNoUnlockBy p run →
+      (t ≡ Mutex (Some p)) × HasNoAcquiring run
+  -- a lock can be made exactly where it is free
+  pub locks : (holder : Option ℕ) (p : ℕ) → step_reply (after (Mutex holder) p Lock) ≡ (if is_none holder then Some Okay else None)
+  -- a try_lock can always be made, and answers whether it was free
+  pub tries : (holder : Option ℕ) (p : ℕ) → step_reply (after (Mutex holder) p TryLock) ≡ Some (Flag (is_none holder))
+  -- an unlock can be made exactly where the same process holds it
+  pub unlocks : (holder : Option ℕ) (p : ℕ) → step_reply (after (Mutex holder) p Unlock) ≡ (if is_holder p holder then Some Okay else None)
+  -- a step that gives it to a process leaves the process its holder
+  pub takes : (holder : Option ℕ) (t : ObjState) (p : ℕ) (op : Op) (reply : Reply) → after (Mutex holder) p op ≡ Some (t, reply) → is_acquiring op reply ≡ true → t ≡ Mutex (Some p)
+  -- and an unlock leaves it free
+  pub frees : (holder : Option ℕ) (t : ObjState) (p : ℕ) (reply : Reply) → after (Mutex holder) p Unlock ≡ Some (t, reply) → t ≡ Mutex None

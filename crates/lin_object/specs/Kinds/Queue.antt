@@ -8,6 +8,7 @@ use Rattle.lin_object.specs.declared.state.ObjState.{ObjState}
 use Rattle.lin_object.specs.declared.state.ObjState.TheVariants.{Queue}
 use Rattle.lin_object.specs.Names.{OpMaker, of_none, of_one}
 use Rattle.lin_object.specs.Runs.{Behavior, Step, RunsFrom}
+use Rattle.lin_object.specs.StepAnswers.{step_reply}
 
 -- enq(v), deq().
 abbrev pub queue_operations : List (List ℕ × OpMaker)
@@ -42,9 +43,15 @@ abbrev pub taken_out : List Step → List ℤ
 taken_out [] = []
 taken_out (step ∷ steps) = taken_out_by step.op step.reply ++ taken_out steps
 
--- What a queue gives out is what went in, in the same order; the rest is still there.
-abbrev pub QueueLaw : Behavior → Type 0
-QueueLaw after =
-    (items : List ℤ) (run : List Step) (t : ObjState) →
-    RunsFrom after (Queue items) run t →
-    (rest : List ℤ) × (t ≡ Queue rest) × (items ++ put_in run ≡ taken_out run ++ rest)
+-- What every run of a queue keeps, and what each step of it replies.
+pub record QueueLaw (after : Behavior) : Type 0 where
+  -- what went in is what came out followed by what is left, in one order
+  pub order :
+      (items : List ℤ) (run : List Step) (t : ObjState) → RunsFrom after (Queue items) run t →
+      (rest : List ℤ) × (t ≡ Queue rest) × (items ++ put_in run ≡ taken_out run ++ rest)
+  -- an item can always be put in
+  pub puts : (items : List ℤ) (v : ℤ) (process : ℕ) → step_reply (after (Queue items) process (Enqueue v)) ≡ Some Okay
+  -- a deq answers an item where any is left
+  pub takes : (v : ℤ) (items : List ℤ) (process : ℕ) → step_reply (after (Queue (v ∷ items)) process Dequeue) ≡ Some (Int v)
+  -- and empty where none is
+  pub empty : (process : ℕ) → step_reply (after (Queue []) process Dequeue) ≡ Some Empty

@@ -9,6 +9,7 @@ use Rattle.lin_object.specs.declared.state.ObjState.{ObjState}
 use Rattle.lin_object.specs.declared.state.ObjState.TheVariants.{Register}
 use Rattle.lin_object.specs.Names.{OpMaker, of_none, of_one, of_two}
 use Rattle.lin_object.specs.Runs.{Behavior, Step, RunsFrom}
+use Rattle.lin_object.specs.StepAnswers.{step_reply}
 
 -- write(v), read(), cas(a,b).
 abbrev pub register_operations : List (List ℕ × OpMaker)
@@ -34,9 +35,13 @@ abbrev pub last_written : ℤ → List Step → ℤ
 last_written v [] = v
 last_written v (step ∷ steps) = last_written (value_left v step.op step.reply) steps
 
--- A register holds what was written last, and a read answers it.
-abbrev pub RegisterLaw : Behavior → Type 0
-RegisterLaw after =
-    (v : ℤ) (run : List Step) (t u : ObjState) (process : ℕ) (reply : Reply) →
-    RunsFrom after (Register v) run t → after t process Read ≡ Some (u, reply) →
-    (t ≡ Register (last_written v run)) × (reply ≡ Int (last_written v run))
+-- What every run of a register keeps, and what each step of it replies.
+pub record RegisterLaw (after : Behavior) : Type 0 where
+  -- it holds what was written last
+  pub holds : (v : ℤ) (run : List Step) (t : ObjState) → RunsFrom after (Register v) run t → t ≡ Register (last_written v run)
+  -- a read answers what it holds
+  pub reads : (v : ℤ) (process : ℕ) → step_reply (after (Register v) process Read) ≡ Some (Int v)
+  -- a write can always be made
+  pub writes : (v w : ℤ) (process : ℕ) → step_reply (after (Register v) process (Write w)) ≡ Some Okay
+  -- a cas can always be made, and answers whether the register held the first of its values
+  pub compares : (v a b : ℤ) (process : ℕ) → step_reply (after (Register v) process (Cas a b)) ≡ Some (Flag (int_eq v a))

@@ -1,6 +1,7 @@
 -- Sets: their operations, what each does, and the law of their runs (this project's own).
-use Rattle.std.specs.Prelude.{◌≡◌, ℕ, ℤ, Bool, true, false, List, [], ◌∷◌, codes, Option, Some, None, if◌then◌else◌}
-use Rattle.std.specs.Ordering.{int_eq}
+use Rattle.std.specs.Prelude.{◌≡◌, ◌↔◌, not, ℕ, ℤ, Bool, true, false, List, [], ◌∷◌, codes, Option, Some, None, if◌then◌else◌}
+use Rattle.std.specs.Ordering.{int_eq, int_cmp}
+use Rattle.std.specs.List.Sorted.{IsStrictlySortedBy}
 use Rattle.lin_object.specs.declared.op.Op.{Op}
 use Rattle.lin_object.specs.declared.op.Op.TheVariants.{Insert, Remove, Contains}
 use Rattle.lin_object.specs.declared.reply.Reply.{Reply}
@@ -10,6 +11,7 @@ use Rattle.lin_object.specs.declared.state.ObjState.TheVariants.{Set}
 use Rattle.lin_object.specs.Items.{is_in, with_in_order, without_item}
 use Rattle.lin_object.specs.Names.{OpMaker, of_one}
 use Rattle.lin_object.specs.Runs.{Behavior, Step, RunsFrom}
+use Rattle.lin_object.specs.StepAnswers.{step_reply}
 
 -- add(v), remove(v), contains(v).
 abbrev pub set_operations : List (List ℕ × OpMaker)
@@ -35,9 +37,25 @@ abbrev pub is_in_after : ℤ → Bool → List Step → Bool
 is_in_after item b [] = b
 is_in_after item b (step ∷ steps) = is_in_after item (is_in_after_step item b step.op) steps
 
--- A contains answers what the last insert or remove of the item says.
-abbrev pub SetLaw : Behavior → Type 0
-SetLaw after =
-    (items : List ℤ) (run : List Step) (t u : ObjState) (process : ℕ) (item : ℤ) (reply : Reply) →
-    RunsFrom after (Set items) run t → after t process (Contains item) ≡ Some (u, reply) →
-    reply ≡ Flag (is_in_after item (is_in item items) run)
+-- The items stand in increasing order, each once.
+abbrev pub IsIncreasing : List ℤ → Type 0
+IsIncreasing items = IsStrictlySortedBy int_cmp items
+
+-- What every run of a set keeps, what each step of it replies, and where two sets are the same.
+pub record SetLaw (after : Behavior) (same_state : ObjState → ObjState → Bool) : Type 0 where
+  -- an item is in it exactly where the last insert or remove of the item says so
+  pub members :
+      (items : List ℤ) (run : List Step) (t : ObjState) → RunsFrom after (Set items) run t →
+      (rest : List ℤ) × (t ≡ Set rest) × ((item : ℤ) → is_in item rest ≡ is_in_after item (is_in item items) run)
+  -- a set in increasing order stays in it
+  pub order : (items rest : List ℤ) (run : List Step) → IsIncreasing items → RunsFrom after (Set items) run (Set rest) → IsIncreasing rest
+  -- so two sets are equal exactly where they have the same members
+  pub same :
+      (xs ys : List ℤ) → IsIncreasing xs → IsIncreasing ys →
+      (same_state (Set xs) (Set ys) ≡ true) ↔ ((item : ℤ) → is_in item xs ≡ is_in item ys)
+  -- an insert can always be made, and answers whether the item was not in the set
+  pub inserts : (items : List ℤ) (item : ℤ) (process : ℕ) → step_reply (after (Set items) process (Insert item)) ≡ Some (Flag (not (is_in item items)))
+  -- a remove can always be made, and answers whether the item was in the set
+  pub removes : (items : List ℤ) (item : ℤ) (process : ℕ) → step_reply (after (Set items) process (Remove item)) ≡ Some (Flag (is_in item items))
+  -- so can a contains
+  pub contains : (items : List ℤ) (item : ℤ) (process : ℕ) → step_reply (after (Set items) process (Contains item)) ≡ Some (Flag (is_in item items))

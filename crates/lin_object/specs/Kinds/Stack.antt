@@ -22,9 +22,18 @@ stack_step items op = None
 
 -- ---- the law, in words that know nothing of the table
 
--- A pop undoes the push before it, anywhere in a run: it answers what was pushed, and without the two the run is the same.
-abbrev pub StackLaw : Behavior → Type 0
-StackLaw after =
-    (s t : ObjState) (early late : List Step) (p q : ℕ) (v : ℤ) (pushed popped : Reply) →
-    RunsFrom after s (early ++ record { process = p; op = Push v; reply = pushed } ∷ record { process = q; op = Pop; reply = popped } ∷ late) t →
-    (popped ≡ Int v) × RunsFrom after s (early ++ late) t
+-- What every run of a stack keeps, and what each step of it replies.
+pub record StackLaw (after : Behavior) : Type 0 where
+  -- an item can always be put on a stack, which stays one
+  pub puts : (items : List ℤ) (v : ℤ) (process : ℕ) → (rest : List ℤ) × (after (Stack items) process (Push v) ≡ Some (Stack rest, Okay))
+  -- after a push a pop can be made: it answers what was pushed, and leaves what was there before the push
+  pub takes :
+      (s m : ObjState) (p q : ℕ) (v : ℤ) (pushed : Reply) →
+      after s p (Push v) ≡ Some (m, pushed) → after m q Pop ≡ Some (s, Int v)
+  -- a pop of a stack that holds nothing answers empty, and leaves it so
+  pub empty : (process : ℕ) → after (Stack []) process Pop ≡ Some (Stack [], Empty)
+  -- so a pop undoes the push before it, anywhere in a run: without the two the run is the same
+  pub undoes :
+      (s t : ObjState) (early late : List Step) (p q : ℕ) (v : ℤ) (pushed popped : Reply) →
+      RunsFrom after s (early ++ record { process = p; op = Push v; reply = pushed } ∷ record { process = q; op = Pop; reply = popped } ∷ late) t →
+      (popped ≡ Int v) × RunsFrom after s (early ++ late) t

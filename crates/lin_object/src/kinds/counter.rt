@@ -1,7 +1,8 @@
 //! Counters: a number that is added to.
 ghost use Rattle.std.specs.Prelude.{◌≡◌, is_some};
 ghost use Rattle.lin_object.specs.Names.{beside, made_of};
-ghost use Rattle.lin_object.specs.Kinds.Counter.{counter_operations, counter_step};
+ghost use Rattle.lin_object.specs.Kinds.Counter.{counter_operations, counter_step, CounterLaw};
+ghost use Rattle.lin_object.specs.Kinds.{after};
 
 use crate::kinds::Answer;
 use crate::op::Op;
@@ -39,3 +40,8 @@ pub(crate) fn step(number: i64, op: &Op) -> Answer
         _ => None,
     }
 }
+
+/// The law of counters, as one fact that a proof may cite. It does nothing.
+pub fn counter_law()
+    ensures { CounterLaw after }
+{}

@@ -1,7 +1,8 @@
 //! Mutexes: a lock that one process at a time holds.
 ghost use Rattle.std.specs.Prelude.{◌≡◌, is_some};
 ghost use Rattle.lin_object.specs.Names.{beside, made_of};
-ghost use Rattle.lin_object.specs.Kinds.Mutex.{mutex_operations, mutex_step};
+ghost use Rattle.lin_object.specs.Kinds.Mutex.{mutex_operations, mutex_step, MutexLaw};
+ghost use Rattle.lin_object.specs.Kinds.{after};
 
 use crate::kinds::Answer;
 use crate::op::Op;
@@ -45,3 +46,8 @@ pub(crate) fn step(holder: Option<u32>, process: u32, op: &Op) -> Answer
         _ => None,
     }
 }
+
+/// The law of mutexes, as one fact that a proof may cite. It does nothing.
+pub fn mutex_law()
+    ensures { MutexLaw after }
+{}

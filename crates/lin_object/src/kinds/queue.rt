@@ -2,7 +2,8 @@
 ghost use Rattle.std.specs.Prelude.{◌≡◌, is_some, IfOk};
 ghost use Rattle.lin_object.specs.Names.{beside, made_of};
 ghost use Rattle.lin_object.specs.StepAnswers.{step_reply};
-ghost use Rattle.lin_object.specs.Kinds.Queue.{queue_operations, queue_step};
+ghost use Rattle.lin_object.specs.Kinds.Queue.{queue_operations, queue_step, QueueLaw};
+ghost use Rattle.lin_object.specs.Kinds.{after};
 
 use crate::items::Items;
 use crate::kinds::Answer;
@@ -56,3 +57,8 @@ pub(crate) fn reply(items: &Items, op: &Op) -> Option<Reply>
         _ => None,
     }
 }
+
+/// The law of queues, as one fact that a proof may cite. It does nothing.
+pub fn queue_law()
+    ensures { QueueLaw after }
+{}

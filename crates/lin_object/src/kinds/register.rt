@@ -1,7 +1,8 @@
 //! Registers: one value, to be written, read, or compared and set.
 ghost use Rattle.std.specs.Prelude.{◌≡◌, is_some};
 ghost use Rattle.lin_object.specs.Names.{beside, made_of};
-ghost use Rattle.lin_object.specs.Kinds.Register.{register_operations, register_step};
+ghost use Rattle.lin_object.specs.Kinds.Register.{register_operations, register_step, RegisterLaw};
+ghost use Rattle.lin_object.specs.Kinds.{after};
 
 use crate::kinds::Answer;
 use crate::op::Op;
@@ -44,3 +45,8 @@ pub(crate) fn step(value: i64, op: &Op) -> Answer
         _ => None,
     }
 }
+
+/// The law of registers, as one fact that a proof may cite. It does nothing.
+pub fn register_law()
+    ensures { RegisterLaw after }
+{}

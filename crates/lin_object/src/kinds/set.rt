@@ -2,7 +2,8 @@
 ghost use Rattle.std.specs.Prelude.{◌≡◌, is_some, IfOk};
 ghost use Rattle.lin_object.specs.Names.{beside, made_of};
 ghost use Rattle.lin_object.specs.StepAnswers.{step_reply};
-ghost use Rattle.lin_object.specs.Kinds.Set.{set_operations, set_step};
+ghost use Rattle.lin_object.specs.Kinds.Set.{set_operations, set_step, SetLaw};
+ghost use Rattle.lin_object.specs.Kinds.{after};
 ghost use Rattle.lin_object.specs.declared.op.Op.TheVariants.{Insert, Remove};
 
 use crate::items::Items;
@@ -80,3 +81,8 @@ pub(crate) fn reply(items: &Items, op: &Op) -> Option<Reply>
         _ => None,
     }
 }
+
+/// The law of sets, as one fact that a proof may cite. It does nothing.
+pub fn set_law()
+    ensures { SetLaw after ⟦<ObjState as PartialEq>⟧.eq }
+{}
