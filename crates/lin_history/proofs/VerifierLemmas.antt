@@ -8,7 +8,7 @@ use Rattle.std.proofs.lemmas.Bool.Decides.{eqb_tells}
 use Rattle.std.proofs.lemmas.Option.{slice_get_within, slice_get-get_or, same_Some}
 use Rattle.lin_object.specs.declared.kind.Kind.TheVariants.{Register}
 use Rattle.lin_object.specs.declared.state.ObjState.{ObjState}
-use Rattle.lin_object.specs.Object.{state_at_start}
+use Rattle.lin_object.specs.Kinds.{state_at_start}
 use Rattle.lin_object.specs.declared.reply.Reply.{Reply as Answer}
 use Rattle.lin_object.specs.declared.reply.Reply.TheVariants.{Okay}
 use Rattle.lin_history.specs.declared.locality.placed.Placed.{Placed}

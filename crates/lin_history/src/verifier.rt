@@ -3,7 +3,7 @@
 ghost use Rattle.std.specs.Prelude.{◌≡◌, ℕ, ◌<◌, ◌↔◌, true, false, Some, IsSomeAnd, length, map, MatchOption, IfOk, slice_get};
 ghost use Rattle.lin_object.specs.contracts.reply.ReplyPartialEq.TheImpl.{eq-value as reply_eq};
 ghost use Rattle.lin_object.specs.declared.state.ObjState.{ObjState as State};
-ghost use Rattle.lin_object.specs.Object.{after};
+ghost use Rattle.lin_object.specs.Kinds.{after};
 ghost use Rattle.lin_history.specs.Problems.LegalLists.{fits};
 ghost use Rattle.lin_history.specs.Recorder.Parts.{start_of};
 ghost use Rattle.lin_history.specs.Locality.Whole.{HasReturned, KeepsOrder, Replays, IsLinearizationOfWhole};

@@ -1,1 +1,1 @@
-pub mod LawsHold
+mod AnswerLemmas

@@ -1,19 +1,15 @@
 -- Items that are equal by the test are the same.
 use Rattle.std.specs.Prelude.{◌≡◌, ℤ, true, List, [], ◌∷◌, refl}
-use Rattle.std.proofs.Common.{Bool, false, ◌&&◌}
 use Rattle.std.specs.Ordering.{int_eq}
 use Rattle.std.specs.Cmp.{signed_Decides}
+use Rattle.std.proofs.lemmas.Bool.{and_parts}
 use Rattle.std.proofs.lemmas.Cmp.{int_eq_equiv}
 use lib.Pointwise.{pointwise}
-
-pub both_true : (a b : Bool) → a && b ≡ true → (a ≡ true) × (b ≡ true)
-both_true true b e = (refl, e)
-both_true false b e = absurd (cc)
 
 pub items_same : (xs ys : List ℤ) → pointwise int_eq xs ys ≡ true → xs ≡ ys
 items_same [] [] e = refl
 items_same (x ∷ xs) (y ∷ ys) e =
-    let both = both_true (int_eq x y) (pointwise int_eq xs ys) e in
+    let both = and_parts (int_eq x y) (pointwise int_eq xs ys) e in
     let same : x ≡ y = (signed_Decides x y).0 both.0 in
     let rest : xs ≡ ys = items_same xs ys both.1 in
     cc

@@ -1,6 +1,7 @@
+//! What a sequential object is: the trait that the search is generic over, with its laws.
 ghost use Rattle.std.specs.Prelude.{◌≡◌, ℕ, Bool, true, Option, IfOk};
-ghost use Rattle.lin_object.specs.Step.{SameStep, state_with};
-ghost use Rattle.lin_object.specs.Lawful.{IsLawful};
+ghost use Rattle.lin_object.specs.StepAnswers.{SameStep, state_with};
+ghost use Rattle.lin_object.specs.Laws.{IsLawful};
 
 use std::alloc::{AllocError, Global};
 use std::hash::Hash;

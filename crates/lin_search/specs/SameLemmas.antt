@@ -3,8 +3,8 @@ use Rattle.std.proofs.Common.{◌≡◌, ℕ, zero, suc, ◌<◌, Bool, true, fa
 use Rattle.std.specs.Prelude.{if◌then◌else◌, IsSomeAnd, IsSome}
 use Rattle.std.specs.Cmp.{IsEquivalence}
 use Rattle.std.specs.List.{slice_get}
-use Rattle.lin_object.specs.Step.{SameStep}
-use Rattle.lin_object.specs.Lawful.{IsLawful}
+use Rattle.lin_object.specs.StepAnswers.{SameStep}
+use Rattle.lin_object.specs.Laws.{IsLawful}
 use Rattle.lin_history.specs.declared.problems.problem.ProblemCall.{ProblemCall}
 use Rattle.lin_history.specs.Problems.ProblemParts.{ProblemParts}
 use Rattle.lin_history.specs.Problems.Problem.{problem_of}

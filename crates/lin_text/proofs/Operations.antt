@@ -5,7 +5,8 @@ use Rattle.serde_json.specs.Data.{Data}
 use Rattle.lin_object.specs.declared.kind.Kind.{Kind}
 use Rattle.lin_object.specs.declared.op.Op.{Op}
 use Rattle.lin_object.specs.declared.op.OpFault.TheVariants as faults
-use Rattle.lin_object.specs.Words.{beside, operations, op_made, op_read}
+use Rattle.lin_object.specs.Names.{beside, op_made}
+use Rattle.lin_object.specs.Kinds.{operations, op_read}
 use Rattle.lin_text.specs.declared.cause.Cause.TheVariants as causes
 use Rattle.lin_text.specs.Fields.{text_at, maker_at, arguments_in, op_from, op_at}
 

@@ -2,9 +2,9 @@
 use Rattle.std.specs.Prelude.{ℕ, ◌^◌, ℤ, pos, negsuc, Bool, List, [], ◌∷◌, codes, bytes_eq, nat_lt, Option, Some, None, option_map, option_and_then, ok_or, Result, Err, if◌then◌else◌}
 use Rattle.serde_json.specs.Data.{Data, null, boolean, number, string, array, object, Items, no_items, item}
 use Rattle.serde_json.specs.Find.{get, as_str, as_number, as_i64, as_array}
-use Rattle.lin_object.specs.Words.{beside, kinds, operations}
+use Rattle.lin_object.specs.Names.{beside}
+use Rattle.lin_object.specs.Kinds.{kind_names, starts_with_number, operations}
 use Rattle.lin_object.specs.declared.kind.Kind.{Kind}
-use Rattle.lin_object.specs.declared.kind.Kind.TheVariants.{Register, Counter}
 use Rattle.lin_object.specs.declared.op.Op.{Op}
 use Rattle.lin_object.specs.declared.reply.Reply.{Reply}
 use Rattle.lin_object.specs.declared.reply.Reply.TheVariants.{Okay, Int, Flag, Empty}
@@ -51,18 +51,17 @@ name_in d = option_and_then (when is_name) (text_at (codes "object") d)
 
 -- The kind of object at `kind`.
 unfoldable pub kind_in : Data → Option Kind
-kind_in d = option_and_then (beside kinds) (text_at (codes "kind") d)
+kind_in d = option_and_then (beside kind_names) (text_at (codes "kind") d)
 
--- The number that an object of the kind starts with: absent, it is 0; it may stand only at a kind that starts with one.
-abbrev pub start_of : Kind → Option Data → Option ℤ
-start_of kind None = Some (pos 0)
-start_of Register (Some d) = whole d
-start_of Counter (Some d) = whole d
-start_of kind (Some d) = None
+-- The number that an object of the kind starts with: 0 where the declaration gives none. It may give one only at a kind
+-- that starts with a number.
+abbrev pub start_from : Kind → Option Data → Option ℤ
+start_from kind None = Some (pos 0)
+start_from kind (Some d) = if starts_with_number kind then whole d else None
 
 -- The number at `start`.
 unfoldable pub start_at : Kind → Data → Option ℤ
-start_at kind d = start_of kind (get (codes "start") d)
+start_at kind d = start_from kind (get (codes "start") d)
 
 -- What makes the operation of its arguments, by the word at `op`.
 unfoldable pub maker_at : Kind → Data → Option (List ℤ → Option Op)

@@ -2,7 +2,8 @@
 
 ghost use Rattle.std.specs.Prelude.{◌≡◌, ◌≢◌, option_map, is_some, IfOk, IfErr, Ok, Err};
 ghost use Rattle.serde_json.specs.View.{view, items_view};
-ghost use Rattle.lin_object.specs.Words.{beside, operations};
+ghost use Rattle.lin_object.specs.Names.{beside};
+ghost use Rattle.lin_object.specs.Kinds.{operations};
 ghost use Rattle.lin_text.specs.Fields.{event_kind_in, process_in, name_in, kind_in, start_at, reply_in, arguments_in, op_at, wholes};
 
 use crate::cause::Cause;
@@ -60,10 +61,8 @@ pub(crate) fn start_of(kind: Kind, value: &Value) -> Option<i64>
 {
     match value.get("start") {
         None => Some(0),
-        Some(start) => match kind {
-            Kind::Register | Kind::Counter => start.as_i64(),
-            Kind::Queue | Kind::Stack | Kind::Set | Kind::Mutex => None,
-        },
+        Some(start) if kind.starts_with_number() => start.as_i64(),
+        Some(_) => None,
     }
 }
 

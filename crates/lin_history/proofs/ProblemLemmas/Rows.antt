@@ -11,7 +11,7 @@ use Rattle.lin_object.specs.declared.state.ObjState.{ObjState}
 use Rattle.lin_object.specs.declared.state.ObjState.TheVariants.{Register}
 use Rattle.lin_object.specs.contracts.reply.ReplyPartialEq.TheImpl.{eq-value as reply_eq}
 use Rattle.lin_object.specs.contracts.state.ObjStatePartialEq.TheImpl.{eq-value as state_eq}
-use Rattle.lin_object.specs.Object.{after}
+use Rattle.lin_object.specs.Kinds.{after}
 use Rattle.lin_history.specs.declared.locality.placed.Placed.{Placed}
 use Rattle.lin_history.specs.declared.problems.problem.ProblemCall.{ProblemCall}
 use Rattle.lin_history.specs.Problems.Lists.{In, IsUpTo, IsLeast}

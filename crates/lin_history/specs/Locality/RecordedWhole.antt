@@ -7,7 +7,7 @@ use Rattle.lin_object.specs.declared.reply.Reply.{Reply}
 use Rattle.lin_object.specs.declared.state.ObjState.{ObjState}
 use Rattle.lin_object.specs.contracts.reply.ReplyPartialEq.TheImpl.{eq-value as reply_eq}
 use Rattle.lin_object.specs.contracts.state.ObjStatePartialEq.TheImpl.{eq-value as state_eq}
-use Rattle.lin_object.specs.Object.{after, state_at_start}
+use Rattle.lin_object.specs.Kinds.{after, state_at_start}
 use Rattle.lin_history.specs.Recorder.RecordedHistory.{RecordedHistory}
 use Rattle.lin_history.specs.Recorder.Parts.{start_of}
 use Rattle.lin_history.specs.Problems.Problem.{Problem}

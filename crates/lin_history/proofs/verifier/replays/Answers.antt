@@ -4,7 +4,7 @@ use Rattle.std.proofs.Common.{pos}
 use Rattle.std.proofs.lemmas.Option.{slice_get_read}
 use Rattle.std.proofs.lemmas.List.{length-map}
 use Rattle.lin_object.specs.declared.kind.Kind.TheVariants.{Register}
-use Rattle.lin_object.specs.Object.{state_at_start}
+use Rattle.lin_object.specs.Kinds.{state_at_start}
 use Rattle.lin_history.specs.Recorder.Views.{call_view}
 use Rattle.lin_history.specs.Locality.RecordedWhole.{whole_of}
 use Rattle.lin_history.proofs.VerifierLemmas.{placed_at, placed_there, stands_there, replaying_none, states_start, replaying_next, replaying_stops}

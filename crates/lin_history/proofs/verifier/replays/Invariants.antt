@@ -1,6 +1,6 @@
 use Rattle.std.proofs.Common.{◌≡◌, drop, length, pos}
 use Rattle.lin_object.specs.declared.kind.Kind.TheVariants.{Register}
-use Rattle.lin_object.specs.Object.{state_at_start}
+use Rattle.lin_object.specs.Kinds.{state_at_start}
 use Rattle.lin_history.specs.Locality.RecordedWhole.{whole_of}
 use Rattle.lin_history.proofs.VerifierLemmas.{IsReplaying}
 use Rattle.lin_history.proofs.verifier.replays.Given as goal

@@ -1,7 +1,7 @@
 use Rattle.std.proofs.Common.{◌≡◌, Some, Ok, rules}
 use Rattle.std.specs.Prelude.{codes}
 use Rattle.serde_json.specs.View.{view}
-use Rattle.lin_object.specs.Words.{op_read}
+use Rattle.lin_object.specs.Kinds.{op_read}
 use Rattle.lin_text.specs.Fields.{text_at, arguments_in}
 use Rattle.lin_text.proofs.Operations.{op_there}
 use Rattle.lin_text.proofs.fields.op_of.Goals as goal

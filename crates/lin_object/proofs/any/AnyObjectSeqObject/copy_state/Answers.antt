@@ -2,7 +2,7 @@ use Rattle.std.proofs.Common.{◌≡◌, ◌∙◌, ap, true, Result, Ok, Err}
 use Rattle.std.specs.Prelude.{IfOk}
 use Rattle.lin_object.specs.declared.state.ObjState.{ObjState}
 use Rattle.lin_object.specs.contracts.state.ObjStatePartialEq.TheImpl.{eq-value as state_eq}
-use Rattle.lin_object.specs.Alike.{state_refl}
+use Rattle.lin_object.specs.StepLemmas.{state_refl}
 use Rattle.lin_object.proofs.any.AnyObjectSeqObject.copy_state.Goals as goal
 
 -- What is the same state is equal to it.

@@ -1,3 +1,4 @@
+-- What the answer of a step tells.
 use Rattle.std.specs.Prelude.{◌≡◌, Bool, true, Option, Some, None, if◌then◌else◌}
 
 -- Two answers of a step are alike: both have none, or both have a state and a reply, equal by the types' own `Eq`.
@@ -8,9 +9,9 @@ SameStep same_state same_reply None (Some b) = ⊥
 SameStep same_state same_reply (Some a) None = ⊥
 
 -- The reply of a step's answer, where there is one.
-abbrev pub reply_in : {S R : Type 0} → Option (S × R) → Option R
-reply_in None = None
-reply_in (Some answer) = Some answer.1
+abbrev pub step_reply : {S R : Type 0} → Option (S × R) → Option R
+step_reply None = None
+step_reply (Some answer) = Some answer.1
 
 -- The state of a step's answer, where its reply equals this one.
 abbrev pub state_with : {S R : Type 0} → (R → R → Bool) → R → Option (S × R) → Option S

@@ -1,8 +1,9 @@
--- Equal objects step alike.
+-- Equal objects step alike: what the tests call equal is the same.
 use Rattle.std.specs.Prelude.{◌≡◌, ℕ, ℤ, true, false, Option, Some, None, refl}
 use Rattle.std.proofs.Common.{ap, sym, eqb-true, eq-eqb}
 use Rattle.std.specs.Ordering.{int_eq}
 use Rattle.std.specs.Cmp.{signed_Decides}
+use Rattle.std.proofs.lemmas.Bool.{and_parts}
 use Rattle.std.proofs.lemmas.Cmp.{int_eq_equiv}
 use Rattle.lin_object.specs.declared.op.Op.{Op}
 use Rattle.lin_object.specs.declared.op.Op.TheVariants.{Write, Read, Cas, Add, Get, Enqueue, Dequeue, Push, Pop, Insert, Remove, Contains, Lock, Unlock, TryLock}
@@ -13,9 +14,9 @@ use Rattle.lin_object.specs.declared.state.ObjState.TheVariants.{Register, Count
 use Rattle.lin_object.specs.contracts.op.OpPartialEq.TheImpl.{eq-value as op_eq}
 use Rattle.lin_object.specs.contracts.reply.ReplyPartialEq.TheImpl.{eq-value as reply_eq}
 use Rattle.lin_object.specs.contracts.state.ObjStatePartialEq.TheImpl.{eq-value as state_eq}
-use Rattle.lin_object.specs.ItemLemmas.{both_true, items_same, items_itself}
-use Rattle.lin_object.specs.Step.{SameStep}
-use Rattle.lin_object.specs.Object.{after}
+use Rattle.lin_object.specs.ItemLemmas.{items_same, items_itself}
+use Rattle.lin_object.specs.StepAnswers.{SameStep}
+use Rattle.lin_object.specs.Kinds.{after}
 
 no : true ≡ false → ⊥
 no e = cc
@@ -26,7 +27,7 @@ int_same a b e = (signed_Decides a b).0 e
 pub op_same : (a b : Op) → op_eq.it a b ≡ true → a ≡ b
 op_same (Write v) (Write w) e = ap Write (int_same v w e)
 op_same Read Read e = refl
-op_same (Cas a b) (Cas c d) e = let h = both_true _ _ e in let h0 : a ≡ c = int_same a c h.0 in let h1 : b ≡ d = int_same b d h.1 in cc
+op_same (Cas a b) (Cas c d) e = let h = and_parts _ _ e in let h0 : a ≡ c = int_same a c h.0 in let h1 : b ≡ d = int_same b d h.1 in cc
 op_same (Add v) (Add w) e = ap Add (int_same v w e)
 op_same Get Get e = refl
 op_same (Enqueue v) (Enqueue w) e = ap Enqueue (int_same v w e)
