@@ -51,6 +51,15 @@ state_at_start kinds.Stack number = states.Stack []
 state_at_start kinds.Set number = states.Set []
 state_at_start kinds.Mutex number = states.Mutex None
 
+-- Whether the state holds items: a step from it, or a copy of it, may take memory. Of the other states none does.
+abbrev pub holds_items : ObjState → Bool
+holds_items (states.Register value) = false
+holds_items (states.Counter value) = false
+holds_items (states.Queue items) = true
+holds_items (states.Stack items) = true
+holds_items (states.Set items) = true
+holds_items (states.Mutex holder) = false
+
 -- The operations of a kind by their names.
 abbrev pub operations : Kind → List (List ℕ × OpMaker)
 operations kinds.Register = register_operations

@@ -1,7 +1,7 @@
 //! The object that the checker judges histories by: it lists the steps of the kinds.
-ghost use Rattle.std.specs.Prelude.{◌≡◌, IfOk};
+ghost use Rattle.std.specs.Prelude.{◌≡◌, true, IfOk, IfErr};
 ghost use Rattle.lin_object.specs.StepAnswers.{step_reply};
-ghost use Rattle.lin_object.specs.Kinds.{after as step_of};
+ghost use Rattle.lin_object.specs.Kinds.{after as step_of, holds_items};
 
 use crate::kinds::{Answer, counter, mutex, queue, register, set, stack};
 use crate::object::SeqObject;
@@ -26,7 +26,8 @@ fn reply_of(state: &ObjState, process: u32, op: &Op) -> Option<Reply>
 
 // The same state.
 fn copied(alloc: Global, state: &ObjState) -> Result<ObjState, AllocError>
-    ensures { IfOk result (λ copy. copy ≡ state.now) }
+    ensures copy { IfOk result (λ copy. copy ≡ state.now) }
+    ensures memory { IfErr result (λ _. holds_items state.now ≡ true) }
 {
     match state {
         ObjState::Register(value) => Ok(ObjState::Register(*value)),
@@ -38,13 +39,13 @@ fn copied(alloc: Global, state: &ObjState) -> Result<ObjState, AllocError>
     }
 }
 
-/// The object that histories are judged by: it has the operations of every kind. An operation of another kind than the
-/// state's has no step.
+/// The object that histories are judged by: it has the operations of every kind. An operation of
+/// another kind than the state's has no step.
 #[derive(Clone, Copy, PartialEq, Eq, Hash, Debug)]
 pub struct AnyObject;
 
 impl SeqObject for AnyObject {
-    ghost use Rattle.lin_object.specs.Kinds.{after as step_of};
+    ghost use Rattle.lin_object.specs.Kinds.{after as step_of, holds_items};
 
     type State = ObjState;
 
@@ -53,6 +54,8 @@ impl SeqObject for AnyObject {
     type Reply = Reply;
 
     ghost after = { λ _ state process op. step_of state process op };
+
+    ghost may_allocate = { holds_items };
 
     fn step(
         &self,

@@ -1,13 +1,14 @@
 //! Sequential objects: what each operation does to a state, and what it replies.
 //!
 //! - `object`: the trait `SeqObject`, which the search is generic over, and its laws.
-//! - `kind`, `op`, `reply`, `state`: the words of declarations, calls and returns, with their printed forms.
-//! - `kinds`: a file for each kind of object, with its operations by name and what each of them does.
+//! - `any`: `AnyObject`, the object that the checker judges histories by. It lists the kinds.
+//! - `kinds`: a file for each kind, with its operations by name and what each of them does.
+//! - `kind`, `op`, `reply`, `state`: what declarations, calls and returns are made of.
 //! - `items`: the items that queues, stacks and sets hold.
-//! - `any`: `AnyObject`, which lists the kinds: the object whose steps the checker judges histories by.
 //!
-//! `specs/Kinds` has a file for each kind too, with its table and the law of its runs; `proofs/kinds` shows that the
-//! table keeps the law. A kind more is a file in each of the three, and a line in each list of the kinds.
+//! `specs/Kinds` has a file for each kind too, with its table and the law of its runs, and
+//! `proofs/kinds` shows that the table keeps the law. One kind more is one file in each of the
+//! three, and a line in each list of the kinds.
 #![tactic(auto)]
 
 mod any;

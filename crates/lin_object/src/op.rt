@@ -129,8 +129,8 @@ fn op_with(kind: Kind, name: &str, args: &[i64]) -> Option<Op>
     }
 }
 
-/// The operation of a kind, by its name and its arguments. Refusals, in order: `BadOp` where the kind has no operation
-/// of that name, `BadArgs` where it takes another number of arguments.
+/// The operation of a kind, by its name and its arguments. Refusals, in order: `BadOp` where the
+/// kind has no operation of that name, `BadArgs` where it takes another number of arguments.
 pub fn read_op(kind: Kind, name: &str, args: &[i64]) -> Result<Op, OpFault>
     ensures { result ≡ op_read kind name.now args.now }
 {

@@ -23,8 +23,8 @@ pub enum ObjState {
     Mutex(Option<u32>),
 }
 
-/// The state in which an object of the kind starts. `number` counts where the kind starts with a number, and nowhere
-/// else. It takes no memory.
+/// The state in which an object of the kind starts. `number` counts where the kind starts with a
+/// number, and nowhere else. It takes no memory.
 pub fn start_state(alloc: Global, kind: Kind, number: i64) -> ObjState
     ensures { result ≡ state_at_start kind number }
 {

@@ -20,7 +20,8 @@ is_in_range n = int_lt (negsuc (2 ^ 63)) n && int_lt n (pos (2 ^ 63))
 
 -- add(d) adds d, with no step where the sum leaves 64 bits; get() answers the number.
 abbrev pub counter_step : ℤ → Op → Option (ObjState × Reply)
-counter_step value (Add d) = if is_in_range (value +ℤ d) then Some (Counter (value +ℤ d), Okay) else None
+counter_step value (Add d) =
+    if is_in_range (value +ℤ d) then Some (Counter (value +ℤ d), Okay) else None
 counter_step value Get = Some (Counter value, Int value)
 counter_step value op = None
 
@@ -39,8 +40,12 @@ sum_added (step ∷ steps) = added_by step.op +ℤ sum_added steps
 -- What every run of a counter keeps, and what each step of it replies.
 pub record CounterLaw (after : Behavior) : Type 0 where
   -- it holds the number from before and the sum of all that was added
-  pub holds : (n : ℤ) (run : List Step) (t : ObjState) → RunsFrom after (Counter n) run t → t ≡ Counter (n +ℤ sum_added run)
+  pub holds :
+      (n : ℤ) (run : List Step) (t : ObjState) →
+      RunsFrom after (Counter n) run t → t ≡ Counter (n +ℤ sum_added run)
   -- a get answers what it holds
   pub gets : (n : ℤ) (process : ℕ) → step_reply (after (Counter n) process Get) ≡ Some (Int n)
   -- an add can be made exactly where the sum is a number of 64 bits
-  pub adds : (n d : ℤ) (process : ℕ) → step_reply (after (Counter n) process (Add d)) ≡ (if is_in_range (n +ℤ d) then Some Okay else None)
+  pub adds :
+      (n d : ℤ) (process : ℕ) →
+      step_reply (after (Counter n) process (Add d)) ≡ (if is_in_range (n +ℤ d) then Some Okay else None)

@@ -12,7 +12,11 @@ use Rattle.lin_object.specs.StepAnswers.{step_reply}
 
 -- lock(), unlock(), try_lock().
 abbrev pub mutex_operations : List (List ℕ × OpMaker)
-mutex_operations = (codes "lock", of_none Lock) ∷ (codes "unlock", of_none Unlock) ∷ (codes "try_lock", of_none TryLock) ∷ []
+mutex_operations =
+    (codes "lock", of_none Lock)
+    ∷ (codes "unlock", of_none Unlock)
+    ∷ (codes "try_lock", of_none TryLock)
+    ∷ []
 
 -- Free, or held by a process: lock() has a step where it is free, unlock() where the same process holds it, and
 -- try_lock() tells whether it was free.
@@ -52,15 +56,27 @@ is_holder p (Some q) = q == p
 pub record MutexLaw (after : Behavior) : Type 0 where
   -- at most one process holds it: while one holds it and does not unlock it, none is given it
   pub alone :
-      (p : ℕ) (run : List Step) (t : ObjState) → RunsFrom after (Mutex (Some p)) run t → HasNoUnlockBy p run →
+      (p : ℕ) (run : List Step) (t : ObjState) →
+      RunsFrom after (Mutex (Some p)) run t → HasNoUnlockBy p run →
       (t ≡ Mutex (Some p)) × HasNoAcquiring run
   -- a lock can be made exactly where it is free
-  pub locks : (holder : Option ℕ) (p : ℕ) → step_reply (after (Mutex holder) p Lock) ≡ (if is_none holder then Some Okay else None)
+  pub locks :
+      (holder : Option ℕ) (p : ℕ) →
+      step_reply (after (Mutex holder) p Lock) ≡ (if is_none holder then Some Okay else None)
   -- a try_lock can always be made, and answers whether it was free
-  pub tries : (holder : Option ℕ) (p : ℕ) → step_reply (after (Mutex holder) p TryLock) ≡ Some (Flag (is_none holder))
+  pub tries :
+      (holder : Option ℕ) (p : ℕ) →
+      step_reply (after (Mutex holder) p TryLock) ≡ Some (Flag (is_none holder))
   -- an unlock can be made exactly where the same process holds it
-  pub unlocks : (holder : Option ℕ) (p : ℕ) → step_reply (after (Mutex holder) p Unlock) ≡ (if is_holder p holder then Some Okay else None)
+  pub unlocks :
+      (holder : Option ℕ) (p : ℕ) →
+      step_reply (after (Mutex holder) p Unlock) ≡ (if is_holder p holder then Some Okay else None)
   -- a step that gives it to a process leaves the process its holder
-  pub takes : (holder : Option ℕ) (t : ObjState) (p : ℕ) (op : Op) (reply : Reply) → after (Mutex holder) p op ≡ Some (t, reply) → is_acquiring op reply ≡ true → t ≡ Mutex (Some p)
+  pub takes :
+      (holder : Option ℕ) (t : ObjState) (p : ℕ) (op : Op) (reply : Reply) →
+      after (Mutex holder) p op ≡ Some (t, reply) → is_acquiring op reply ≡ true →
+      t ≡ Mutex (Some p)
   -- and an unlock leaves it free
-  pub frees : (holder : Option ℕ) (t : ObjState) (p : ℕ) (reply : Reply) → after (Mutex holder) p Unlock ≡ Some (t, reply) → t ≡ Mutex None
+  pub frees :
+      (holder : Option ℕ) (t : ObjState) (p : ℕ) (reply : Reply) →
+      after (Mutex holder) p Unlock ≡ Some (t, reply) → t ≡ Mutex None

@@ -50,8 +50,12 @@ pub record QueueLaw (after : Behavior) : Type 0 where
       (items : List ℤ) (run : List Step) (t : ObjState) → RunsFrom after (Queue items) run t →
       (rest : List ℤ) × (t ≡ Queue rest) × (items ++ put_in run ≡ taken_out run ++ rest)
   -- an item can always be put in
-  pub puts : (items : List ℤ) (v : ℤ) (process : ℕ) → step_reply (after (Queue items) process (Enqueue v)) ≡ Some Okay
+  pub puts :
+      (items : List ℤ) (v : ℤ) (process : ℕ) →
+      step_reply (after (Queue items) process (Enqueue v)) ≡ Some Okay
   -- a deq answers an item where any is left
-  pub takes : (v : ℤ) (items : List ℤ) (process : ℕ) → step_reply (after (Queue (v ∷ items)) process Dequeue) ≡ Some (Int v)
+  pub takes :
+      (v : ℤ) (items : List ℤ) (process : ℕ) →
+      step_reply (after (Queue (v ∷ items)) process Dequeue) ≡ Some (Int v)
   -- and empty where none is
   pub empty : (process : ℕ) → step_reply (after (Queue []) process Dequeue) ≡ Some Empty

@@ -13,13 +13,18 @@ use Rattle.lin_object.specs.StepAnswers.{step_reply}
 
 -- write(v), read(), cas(a,b).
 abbrev pub register_operations : List (List ℕ × OpMaker)
-register_operations = (codes "write", of_one Write) ∷ (codes "read", of_none Read) ∷ (codes "cas", of_two Cas) ∷ []
+register_operations =
+    (codes "write", of_one Write)
+    ∷ (codes "read", of_none Read)
+    ∷ (codes "cas", of_two Cas)
+    ∷ []
 
 -- write(v) sets the value, read() answers it, cas(a,b) sets it to b where it is a, and tells whether it did.
 abbrev pub register_step : ℤ → Op → Option (ObjState × Reply)
 register_step value (Write v) = Some (Register v, Okay)
 register_step value Read = Some (Register value, Int value)
-register_step value (Cas a b) = Some (if int_eq value a then (Register b, Flag true) else (Register value, Flag false))
+register_step value (Cas a b) =
+    Some (if int_eq value a then (Register b, Flag true) else (Register value, Flag false))
 register_step value op = None
 
 -- ---- the law, in words that know nothing of the table
@@ -38,10 +43,16 @@ last_written v (step ∷ steps) = last_written (value_left v step.op step.reply)
 -- What every run of a register keeps, and what each step of it replies.
 pub record RegisterLaw (after : Behavior) : Type 0 where
   -- it holds what was written last
-  pub holds : (v : ℤ) (run : List Step) (t : ObjState) → RunsFrom after (Register v) run t → t ≡ Register (last_written v run)
+  pub holds :
+      (v : ℤ) (run : List Step) (t : ObjState) →
+      RunsFrom after (Register v) run t → t ≡ Register (last_written v run)
   -- a read answers what it holds
   pub reads : (v : ℤ) (process : ℕ) → step_reply (after (Register v) process Read) ≡ Some (Int v)
   -- a write can always be made
-  pub writes : (v w : ℤ) (process : ℕ) → step_reply (after (Register v) process (Write w)) ≡ Some Okay
+  pub writes :
+      (v w : ℤ) (process : ℕ) →
+      step_reply (after (Register v) process (Write w)) ≡ Some Okay
   -- a cas can always be made, and answers whether the register held the first of its values
-  pub compares : (v a b : ℤ) (process : ℕ) → step_reply (after (Register v) process (Cas a b)) ≡ Some (Flag (int_eq v a))
+  pub compares :
+      (v a b : ℤ) (process : ℕ) →
+      step_reply (after (Register v) process (Cas a b)) ≡ Some (Flag (int_eq v a))

@@ -15,12 +15,18 @@ use Rattle.lin_object.specs.StepAnswers.{step_reply}
 
 -- add(v), remove(v), contains(v).
 abbrev pub set_operations : List (List ℕ × OpMaker)
-set_operations = (codes "add", of_one Insert) ∷ (codes "remove", of_one Remove) ∷ (codes "contains", of_one Contains) ∷ []
+set_operations =
+    (codes "add", of_one Insert)
+    ∷ (codes "remove", of_one Remove)
+    ∷ (codes "contains", of_one Contains)
+    ∷ []
 
 -- add(v) and remove(v) tell whether they changed the set, contains(v) whether the item is in it.
 abbrev pub set_step : List ℤ → Op → Option (ObjState × Reply)
-set_step items (Insert v) = Some (if is_in v items then (Set items, Flag false) else (Set (with_in_order v items), Flag true))
-set_step items (Remove v) = Some (if is_in v items then (Set (without_item v items), Flag true) else (Set items, Flag false))
+set_step items (Insert v) =
+    Some (if is_in v items then (Set items, Flag false) else (Set (with_in_order v items), Flag true))
+set_step items (Remove v) =
+    Some (if is_in v items then (Set (without_item v items), Flag true) else (Set items, Flag false))
 set_step items (Contains v) = Some (Set items, Flag (is_in v items))
 set_step items op = None
 
@@ -46,16 +52,25 @@ pub record SetLaw (after : Behavior) (same_state : ObjState → ObjState → Boo
   -- an item is in it exactly where the last insert or remove of the item says so
   pub members :
       (items : List ℤ) (run : List Step) (t : ObjState) → RunsFrom after (Set items) run t →
-      (rest : List ℤ) × (t ≡ Set rest) × ((item : ℤ) → is_in item rest ≡ is_in_after item (is_in item items) run)
+      (rest : List ℤ) × (t ≡ Set rest)
+      × ((item : ℤ) → is_in item rest ≡ is_in_after item (is_in item items) run)
   -- a set in increasing order stays in it
-  pub order : (items rest : List ℤ) (run : List Step) → IsIncreasing items → RunsFrom after (Set items) run (Set rest) → IsIncreasing rest
+  pub order :
+      (items rest : List ℤ) (run : List Step) →
+      IsIncreasing items → RunsFrom after (Set items) run (Set rest) → IsIncreasing rest
   -- so two sets are equal exactly where they have the same members
   pub same :
       (xs ys : List ℤ) → IsIncreasing xs → IsIncreasing ys →
       (same_state (Set xs) (Set ys) ≡ true) ↔ ((item : ℤ) → is_in item xs ≡ is_in item ys)
   -- an insert can always be made, and answers whether the item was not in the set
-  pub inserts : (items : List ℤ) (item : ℤ) (process : ℕ) → step_reply (after (Set items) process (Insert item)) ≡ Some (Flag (not (is_in item items)))
+  pub inserts :
+      (items : List ℤ) (item : ℤ) (process : ℕ) →
+      step_reply (after (Set items) process (Insert item)) ≡ Some (Flag (not (is_in item items)))
   -- a remove can always be made, and answers whether the item was in the set
-  pub removes : (items : List ℤ) (item : ℤ) (process : ℕ) → step_reply (after (Set items) process (Remove item)) ≡ Some (Flag (is_in item items))
-  -- so can a contains
-  pub contains : (items : List ℤ) (item : ℤ) (process : ℕ) → step_reply (after (Set items) process (Contains item)) ≡ Some (Flag (is_in item items))
+  pub removes :
+      (items : List ℤ) (item : ℤ) (process : ℕ) →
+      step_reply (after (Set items) process (Remove item)) ≡ Some (Flag (is_in item items))
+  -- so can a contains, and it answers whether the item is in the set
+  pub contains :
+      (items : List ℤ) (item : ℤ) (process : ℕ) →
+      step_reply (after (Set items) process (Contains item)) ≡ Some (Flag (is_in item items))

@@ -25,7 +25,9 @@ stack_step items op = None
 -- What every run of a stack keeps, and what each step of it replies.
 pub record StackLaw (after : Behavior) : Type 0 where
   -- an item can always be put on a stack, which stays one
-  pub puts : (items : List ℤ) (v : ℤ) (process : ℕ) → (rest : List ℤ) × (after (Stack items) process (Push v) ≡ Some (Stack rest, Okay))
+  pub puts :
+      (items : List ℤ) (v : ℤ) (process : ℕ) →
+      (rest : List ℤ) × (after (Stack items) process (Push v) ≡ Some (Stack rest, Okay))
   -- after a push a pop can be made: it answers what was pushed, and leaves what was there before the push
   pub takes :
       (s m : ObjState) (p q : ℕ) (v : ℤ) (pushed : Reply) →
@@ -35,5 +37,10 @@ pub record StackLaw (after : Behavior) : Type 0 where
   -- so a pop undoes the push before it, anywhere in a run: without the two the run is the same
   pub undoes :
       (s t : ObjState) (early late : List Step) (p q : ℕ) (v : ℤ) (pushed popped : Reply) →
-      RunsFrom after s (early ++ record { process = p; op = Push v; reply = pushed } ∷ record { process = q; op = Pop; reply = popped } ∷ late) t →
+      RunsFrom after s
+      (early
+      ++ record { process = p; op = Push v; reply = pushed }
+      ∷ record { process = q; op = Pop; reply = popped }
+      ∷ late)
+      t →
       (popped ≡ Int v) × RunsFrom after s (early ++ late) t

@@ -10,5 +10,5 @@ equal_where_same : {E : Type 0} (copied : Result ObjState E) (state : ObjState) 
 equal_where_same (Ok copy) state same = ap (λ s. state_eq.it s state) same ∙ state_refl state
 equal_where_same (Err fault) state same = same
 
-pub returns : goal.returns
-returns c = equal_where_same _ _ c.copied.ensures
+pub returns-clause-copy : goal.returns-clause-copy
+returns-clause-copy c = equal_where_same _ _ c.copied.ensures.copy
