@@ -35,7 +35,7 @@ HERE = Path(__file__).parent
 sys.path.insert(0, str(HERE))
 from histories import FAMILIES, FAULTY
 
-LINCHECK = HERE.parent / "crates" / "lincheck" / "out" / "lincheck"
+LINCHECK = HERE.parent / "crates" / "lincheck_program" / "out" / "lincheck_program"
 TIME = Path("/usr/bin/time")
 MEASURING = [TIME, "-q", "-f", "peak %M"] if TIME.exists() else []
 TELLING = 4_000_000  # bytes: less than that may be what the allocator keeps

@@ -32,6 +32,3 @@ pub use own_memo::OwnMemo;
 pub use plain::search_plain;
 pub use refutation::Refutation;
 pub use stop::{NoStop, Stop};
-
-#[cfg(test)]
-mod tests;

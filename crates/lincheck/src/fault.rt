@@ -1,3 +1,5 @@
+//! Why a run ends without an answer.
+
 use thiserror::Error;
 
 /// Why a run ended without a status.

@@ -1,3 +1,5 @@
+//! The words that a user may say to the program.
+
 ghost use Rattle.std.specs.Prelude.{◌≡◌};
 ghost use Rattle.lincheck.specs.Options.{options_made};
 

@@ -1,3 +1,5 @@
+//! What a run answers, and its exit status.
+
 ghost use Rattle.std.specs.Prelude.{◌≡◌};
 ghost use Rattle.lincheck.specs.Status.{exit_status};
 

@@ -1,3 +1,5 @@
+//! What a check finds.
+
 use lin_history::{Order, Placed, WholeOrder};
 
 /// What a check found of a history.

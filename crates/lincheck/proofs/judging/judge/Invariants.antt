@@ -1,7 +1,0 @@
-use Rattle.std.proofs.Common.{◌≡◌}
-use Rattle.lincheck.specs.Verdict.{AreLeastOf}
-use Rattle.lincheck.proofs.judging.judge.Given as goal
-
--- the orders so far are the least, and the parts are as they were
-abbrev pub invariant-loop-object : goal.invariant-loop-object
-invariant-loop-object l = AreLeastOf l.history l.object l.orders.items × (l.problems.items ≡ l.initial.problems.items)

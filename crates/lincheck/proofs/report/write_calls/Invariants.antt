@@ -1,6 +1,0 @@
-use Rattle.std.proofs.Common.{string_bytes}
-use Rattle.lincheck.proofs.ReportLemmas.{CallsWritten}
-use Rattle.lincheck.proofs.report.write_calls.Given as goal
-
-abbrev pub invariant-loop-index : goal.invariant-loop-index
-invariant-loop-index l = CallsWritten l.history l.order (string_bytes l.fn.out) (string_bytes l.out) l.index

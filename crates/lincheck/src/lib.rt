@@ -1,0 +1,19 @@
+//! Reads a recorded history as JSON Lines, tells whether it is linearizable, and writes the answer.
+#![tactic(auto)]
+
+mod device;
+mod fault;
+mod judgement;
+mod lines;
+mod options;
+mod pipeline;
+mod status;
+mod verdict;
+
+pub use device::{DeviceFault, Sink, Source, StdSink, StdSource};
+pub use fault::RunFault;
+pub use lines::report;
+pub use options::{OptionFault, Options};
+pub use pipeline::run;
+pub use status::{Status, status_code};
+pub use verdict::Verdict;

@@ -1,0 +1,179 @@
+//! The lines of an answer.
+
+ghost use Rattle.std.specs.Prelude.{◌≡◌, ℕ, ◌<◌, ◌++◌, length, slice_get, slice_index_or, vec_len, string_bytes, false, IfOk, OnOk, Some};
+ghost use Rattle.lin_object.specs.declared.op.Op.{Op};
+ghost use Rattle.lin_object.specs.declared.reply.Reply.{Reply};
+ghost use Rattle.lin_history.specs.Recorder.Events.{Call};
+ghost use Rattle.lin_history.specs.Recorder.RecordedHistory.{calls_on};
+ghost use Rattle.lincheck.specs.Report.{mark_of, call_line, call_lines, dropped_line, dropped_lines, is_placed, name_line, length_line, yes_report, no_report};
+ghost use Rattle.lincheck.specs.Verdict.{AreCalls, IsOf, report_of};
+
+use crate::verdict::Verdict;
+use lin_history::{History, Placed};
+use lin_object::Reply;
+use std::alloc::{AllocError, Global};
+
+// What tells that a call is pending in the history.
+fn mark_of(returned: &Option<(u32, Reply)>) -> &'static str
+    ensures { result.now ≡ mark_of returned.now }
+{
+    if returned.is_some() { "" } else { " completed" }
+}
+
+// Appends the line of a call that stands in an order at this place.
+fn write_call(
+    out: &mut String,
+    history: &History,
+    place: usize,
+    placed: &Placed,
+) -> Result<(), AllocError>
+    requires { placed.now.call < length history.now.calls }
+    ensures { OnOk result (string_bytes out.new ≡ string_bytes out.old ++ call_line history.now place placed.now.reply (slice_get history.now.calls placed.now.call)) }
+{
+    let call = history.call(placed.call);
+    let object = history.object(call.object);
+    let mark = mark_of(&call.returned);
+    let process = call.process;
+    let name = object.name;
+    let op = call.op;
+    let reply = placed.reply;
+    write!(out, "{place} {process} {name} {op} = {reply}{mark}\n")
+}
+
+// Appends the line of a call that is not in the order.
+fn write_dropped(out: &mut String, history: &History, index: usize) -> Result<(), AllocError>
+    requires { index < length history.now.calls }
+    ensures { OnOk result ((c : Call Op Reply) → slice_get history.now.calls index ≡ Some c → string_bytes out.new ≡ string_bytes out.old ++ dropped_line history.now c) }
+{
+    let call = history.call(index);
+    let object = history.object(call.object);
+    let process = call.process;
+    let name = object.name;
+    let op = call.op;
+    write!(out, "dropped {process} {name} {op}\n")
+}
+
+// Appends the lines of the calls of an order.
+fn write_calls(out: &mut String, history: &History, order: &[Placed]) -> Result<(), AllocError>
+    requires { AreCalls (length history.now.calls) order.now }
+    ensures { OnOk result (string_bytes out.new ≡ string_bytes out.old ++ call_lines history.now 1 order.now) }
+{
+    for (index, placed) in order.iter().enumerate() {
+        write_call(out, history, index + 1, placed)?;
+    }
+    Ok(())
+}
+
+// For each call whether it is in the order.
+fn placed_flags(alloc: Global, calls: usize, order: &[Placed]) -> Result<Vec<bool>, AllocError>
+    requires { AreCalls calls order.now }
+    ensures count { IfOk result (λ flags. vec_len flags ≡ calls) }
+    ensures flags { IfOk result (λ flags. (a : ℕ) → a < calls → slice_index_or flags.items a false ≡ is_placed order.now a) }
+{
+    let mut flags = vec![in alloc; false; calls]?;
+    for placed in order {
+        flags[placed.call] = true;
+    }
+    Ok(flags)
+}
+
+// Appends the lines of the calls that are not in the order.
+fn write_drops(
+    alloc: Global,
+    out: &mut String,
+    history: &History,
+    order: &[Placed],
+) -> Result<(), AllocError>
+    requires { AreCalls (length history.now.calls) order.now }
+    ensures { OnOk result (string_bytes out.new ≡ string_bytes out.old ++ dropped_lines history.now order.now 0 history.now.calls) }
+{
+    let flags = placed_flags(alloc, history.call_count(), order)?;
+    for index in 0..history.call_count() {
+        if !flags[index] {
+            write_dropped(out, history, index)?;
+        }
+    }
+    Ok(())
+}
+
+// Appends the report of a linearization.
+fn write_yes(
+    alloc: Global,
+    out: &mut String,
+    history: &History,
+    order: &[Placed],
+) -> Result<(), AllocError>
+    requires { AreCalls (length history.now.calls) order.now }
+    ensures { OnOk result (string_bytes out.new ≡ string_bytes out.old ++ yes_report history.now order.now) }
+{
+    out.push_str("linearizable\n")?;
+    write_calls(out, history, order)?;
+    write_drops(alloc, out, history, order)
+}
+
+// How many calls of the history are on the object.
+fn calls_on(history: &History, object: usize) -> usize
+    ensures { result ≡ length (calls_on history.now object) }
+{
+    let mut count = 0;
+    for index in 0..history.call_count() {
+        if history.call(index).object == object {
+            count += 1;
+        }
+    }
+    count
+}
+
+// Appends the line that names an object without a linearization.
+fn write_name(out: &mut String, history: &History, object: usize) -> Result<(), AllocError>
+    requires { object < length history.now.objects }
+    ensures { OnOk result (string_bytes out.new ≡ string_bytes out.old ++ name_line history.now object) }
+{
+    let name = history.object(object).name;
+    write!(out, "not linearizable: {name}\n")
+}
+
+// Appends the line that tells the length of a run of the object.
+fn write_length(
+    out: &mut String,
+    history: &History,
+    object: usize,
+    run: &[Placed],
+) -> Result<(), AllocError>
+    ensures { OnOk result (string_bytes out.new ≡ string_bytes out.old ++ length_line history.now object run.now) }
+{
+    let length = run.len();
+    let calls = calls_on(history, object);
+    write!(out, "longest run: {length} of {calls} calls\n")
+}
+
+// Appends the report of an object that has no linearization, and this longest run.
+fn write_no(
+    out: &mut String,
+    history: &History,
+    object: usize,
+    run: &[Placed],
+) -> Result<(), AllocError>
+    requires object { object < length history.now.objects }
+    requires run { AreCalls (length history.now.calls) run.now }
+    ensures { OnOk result (string_bytes out.new ≡ string_bytes out.old ++ no_report history.now object run.now) }
+{
+    write_name(out, history, object)?;
+    write_length(out, history, object, run)?;
+    write_calls(out, history, run)
+}
+
+/// The report of a verdict on a history. `AllocError` where memory was refused.
+///
+/// Condition: the calls and the object that the verdict names are those of the history.
+pub fn report(alloc: Global, history: &History, verdict: &Verdict) -> Result<Vec<u8>, AllocError>
+    requires { IsOf history.now verdict.now }
+    ensures { IfOk result (λ text. text.items ≡ report_of history.now verdict.now) }
+{
+    let mut out = String::new(alloc);
+    match verdict {
+        Verdict::Yes(order) => write_yes(alloc, &mut out, history, order.placed())?,
+        Verdict::No { object, run } => write_no(&mut out, history, *object, run.as_slice())?,
+    }
+    Ok(out.into_bytes())
+}

@@ -1,0 +1,129 @@
+//! The way from the bytes of a text to the bytes of its answer.
+
+ghost use Rattle.std.specs.Prelude.{◌≡◌, ◌≢◌, ℕ, true, false, take, OnOk, IfOk, IfErr, IfSome};
+ghost use Rattle.std.specs.Io.KnownBytes.{Appends};
+ghost use Rattle.lin_text.specs.Words.{fault_line};
+ghost use Rattle.lincheck.specs.Prints.{Prints};
+ghost use Rattle.lincheck.specs.Ran.{Ran};
+ghost use Rattle.lincheck.specs.Reading.{IsReadOf};
+
+use crate::device::{Sink, Source};
+use crate::fault::RunFault;
+use crate::judgement::judge;
+use crate::lines::report;
+use crate::options::Options;
+use crate::status::Status;
+use crate::verdict::Verdict;
+use lin_text::{Cause, TextFault, read_history, write_cause};
+use std::alloc::{AllocError, Global};
+
+// The most bytes of a text, and one more: where so many stand, the text is too long and is read no further.
+const ENOUGH: usize = 67_108_865;
+
+// How many bytes one read asks for.
+const PIECE: usize = 65536;
+
+// Reads the source to its end, or until `ENOUGH` bytes stand, in at most so many reads.
+fn read_text<S: Source>(alloc: Global, source: &mut S) -> Result<Vec<u8>, RunFault>
+    requires { S.failed source.old ≡ false }
+    ensures text { IfOk result (λ read. IfSome (S.remaining source.old) (λ text. IsReadOf text read.items)) }
+    ensures fault { IfErr result (λ fault. fault ≢ RunFault.Write) }
+    ensures read { IfErr result (λ fault. fault ≡ RunFault.Read → S.failed source.new ≡ true) }
+{
+    let mut piece = [0u8; PIECE];
+    let mut text = Vec::new(alloc);
+    'pieces: while text.len() < ENOUGH {
+        let room = PIECE.min(ENOUGH - text.len());
+        let Ok(count) = source.read(&mut piece[..room]) else {
+            return Err(RunFault::Read);
+        };
+        if count == 0 {
+            return Ok(text);
+        }
+        if text.extend_from_slice(&piece[..count]).is_err() {
+            return Err(RunFault::Memory);
+        }
+    }
+    Ok(text)
+}
+
+// The answer to a text that is no history.
+fn refused(alloc: Global, fault: &TextFault) -> Result<(Status, Vec<u8>), AllocError>
+    ensures { IfOk result (λ answer. (fault.now.cause ≢ Cause.OutOfMemory) × (answer.0 ≡ Status.Refused) × (answer.1.items ≡ fault_line fault.now)) }
+{
+    if fault.cause == Cause::OutOfMemory {
+        return Err(AllocError);
+    }
+    let mut printed = Vec::new(alloc);
+    write_cause(alloc, fault, &mut printed)?;
+    Ok((Status::Refused, printed))
+}
+
+// What a text is answered: the status, and what is printed.
+fn answer(alloc: Global, text: &[u8]) -> Result<(Status, Vec<u8>), AllocError>
+    ensures { IfOk result (λ answer. Prints text.now answer.0 answer.1.items) }
+{
+    let history = match read_history(alloc, text) {
+        Ok(history) => history,
+        Err(fault) => return refused(alloc, &fault),
+    };
+    let verdict = judge(alloc, &history)?;
+    let printed = report(alloc, &history, &verdict)?;
+    let status = match verdict {
+        Verdict::Yes(_) => Status::Yes,
+        Verdict::No { .. } => Status::No,
+    };
+    Ok((status, printed))
+}
+
+// Writes the whole answer, and then flushes once. After an `Err` a prefix of it is written.
+fn write_answer<W: Sink>(sink: &mut W, answer: &[u8]) -> Result<(), RunFault>
+    ensures ok { OnOk result (Appends (W.contents sink.old) (W.contents sink.new) answer.now) }
+    ensures write { IfErr result (λ fault. (fault ≡ RunFault.Write) × (W.failed sink.new ≡ true)) }
+    ensures prefix { IfErr result (λ fault. (n : ℕ) × Appends (W.contents sink.old) (W.contents sink.new) (take n answer.now)) }
+{
+    let mut rest = answer;
+    'pieces: while !rest.is_empty() {
+        let Ok(count) = sink.write(rest) else {
+            return Err(RunFault::Write);
+        };
+        rest = &rest[count..];
+    }
+    if sink.flush().is_err() {
+        return Err(RunFault::Write);
+    }
+    Ok(())
+}
+
+/// Reads a text from the source, checks it and writes the answer to the sink.
+///
+/// The text is read whole, or until it is too long; then the whole answer is made, and then it is written and flushed
+/// once. Faults: `Read` where the source failed, `Memory` where memory was refused; nothing was written then. `Write`
+/// where the sink failed; a prefix of the answer was written.
+///
+/// Conditions: neither device has failed, and the options ask for no statistics.
+pub fn run<R: AllocGlobal, S: Source, W: Sink>(
+    rt: &R,
+    source: &mut S,
+    sink: &mut W,
+    options: &Options,
+) -> Result<Status, RunFault>
+    requires source { S.failed source.old ≡ false }
+    requires sink { W.failed sink.old ≡ false }
+    requires stats { options.now.stats ≡ false }
+    ensures ran { IfSome (S.remaining source.old) (λ text. Ran text (W.contents sink.old) (W.contents sink.new) result) }
+    ensures read { IfErr result (λ fault. fault ≡ RunFault.Read → S.failed source.new ≡ true) }
+    ensures write { IfErr result (λ fault. fault ≡ RunFault.Write → W.failed sink.new ≡ true) }
+{
+    let text = match read_text(rt.alloc(), source) {
+        Ok(text) => text,
+        Err(fault) => return Err(fault),
+    };
+    let Ok((status, answer)) = answer(rt.alloc(), text.as_slice()) else {
+        return Err(RunFault::Memory);
+    };
+    match write_answer(sink, answer.as_slice()) {
+        Ok(()) => Ok(status),
+        Err(fault) => Err(fault),
+    }
+}
