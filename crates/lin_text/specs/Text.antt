@@ -6,9 +6,9 @@ use Rattle.lin_text.specs.declared.cause.Cause.{Cause}
 use Rattle.lin_text.specs.declared.cause.Cause.TheVariants.{LineTooLong, InputTooLong}
 use Rattle.lin_history.specs.Refusals.{first_that_holds}
 use Rattle.lin_history.specs.declared.recorder.fault.BuildFault.{BuildFault}
-use Rattle.lin_history.specs.Recorder.RecordedHistory.{RecordedHistory, no_event, kind_named, index_named, declaration_refusals, call_refusals, return_refusals, with_object, with_call, with_return}
-use Rattle.lin_object.specs.declared.op.Op.{Op}
+use Rattle.lin_history.specs.Recorder.RecordedHistory.{RecordedHistory, kind_named, declaration_refusals, call_refusals, return_refusals}
 use Rattle.lin_text.specs.Causes.{cause_of}
+use Rattle.lin_text.specs.Events.{TextEvents, nothing_told, told_after, history_of, IsHistoryTold}
 use Rattle.lin_text.specs.Line.{LineEvent, declares, calls, returns_, json, conditions, event_in}
 
 -- ---- lines
@@ -35,7 +35,7 @@ is_blank_byte b = (b == 32) || (b == 9) || (b == 13)
 abbrev pub is_blank : List ℕ → Bool
 is_blank line = list_all is_blank_byte line
 
--- ---- one line, after the events before it
+-- ---- one line, after the events of the lines before it. What a line may not say is told by the history of those events
 
 -- The event of a line that stands after the events of the history so far.
 unfoldable pub event_at : RecordedHistory → List ℕ → Option LineEvent
@@ -56,22 +56,6 @@ abbrev pub refusals_at : RecordedHistory → Option LineEvent → List (Bool × 
 refusals_at h None = []
 refusals_at h (Some event) = map as_cause (refusals h event)
 
--- The history with the call on the object of this index.
-abbrev pub call_at : RecordedHistory → ℕ → Op → Option ℕ → RecordedHistory
-call_at h process op None = h
-call_at h process op (Some object) = with_call h process object op
-
--- The history with the event of one line more.
-abbrev pub taken : RecordedHistory → LineEvent → RecordedHistory
-taken h (declares name kind start) = with_object h name kind start
-taken h (calls process name op) = call_at h process op (index_named h name)
-taken h (returns_ process name reply) = with_return h process reply
-
--- The history with the event of a line, if it has one.
-abbrev pub with_event : RecordedHistory → Option LineEvent → RecordedHistory
-with_event h None = h
-with_event h (Some event) = taken h event
-
 -- The causes that a line can have, in order, each with whether it holds.
 abbrev pub causes_of : RecordedHistory → List ℕ → List (Bool × Cause)
 causes_of h line =
@@ -82,35 +66,38 @@ causes_of h line =
 abbrev pub HasCause : RecordedHistory → List ℕ → Cause → Type 0
 HasCause h line cause = first_that_holds (causes_of h line) ≡ Some cause
 
--- The line has no cause, and its event, if it is not blank, leads from one history to the other.
-pub record Leads (h : RecordedHistory) (line : List ℕ) (g : RecordedHistory) : Type 0 where
-  pub sound : first_that_holds (causes_of h line) ≡ None
-  pub after : g ≡ (if is_blank line then h else with_event h (event_at h line))
+-- After what is told before, the line has no cause, and with its event, if it is not blank, this is told.
+pub record IsToldBy (told : TextEvents) (line : List ℕ) (more : TextEvents) : Type 0 where
+  pub sound : first_that_holds (causes_of (history_of told) line) ≡ None
+  pub after : more ≡ (if is_blank line then told else told_after told (event_at (history_of told) line))
 
 -- ---- all lines
 
--- No line of these has a cause, and their events lead from h to g.
-abbrev pub Lead : RecordedHistory → List (List ℕ) → RecordedHistory → Type 0
-Lead h [] g = h ≡ g
-Lead h (line ∷ more) g = (m : RecordedHistory) × Leads h line m × Lead m more g
+-- No line of these has a cause, and with their events this is told.
+abbrev pub AreToldBy : TextEvents → List (List ℕ) → TextEvents → Type 0
+AreToldBy told [] all = told ≡ all
+AreToldBy told (line ∷ lines_after) all = (more : TextEvents) × IsToldBy told line more × AreToldBy more lines_after all
 
--- The text means this history: it is not too long, no line has a cause, and it is the history of their events.
+-- The text means this history: it is not too long, no line has a cause, and it is the history of the events that its
+-- lines tell.
 pub record MeansHistory (text : List ℕ) (h : RecordedHistory) : Type 0 where
   pub short : length text ≤ MAX_INPUT_BYTES
-  pub events : Lead no_event (lines text) h
+  pub told : TextEvents
+  pub lines_tell : AreToldBy nothing_told (lines text) told
+  pub history : IsHistoryTold told h
 
--- The lines before this one, which is the number-th, have no cause, and their events lead to h.
-pub record IsReached (text : List ℕ) (number : ℕ) (line : List ℕ) (h : RecordedHistory) : Type 0 where
+-- The lines before this one, which is the number-th, have no cause, and this is what they tell.
+pub record IsReached (text : List ℕ) (number : ℕ) (line : List ℕ) (told : TextEvents) : Type 0 where
   pub short : length text ≤ MAX_INPUT_BYTES
   pub before : List (List ℕ)
   pub after : List (List ℕ)
   pub place : lines text ≡ before ++ line ∷ after
   pub count : length before + 1 ≡ number
-  pub history : Lead no_event before h
+  pub lines_tell : AreToldBy nothing_told before told
 
 -- The line of this number is the first with a cause, and this is its first cause.
 abbrev pub HasFaultyLine : List ℕ → ℕ → Cause → Type 0
-HasFaultyLine text number cause = (line : List ℕ) × (h : RecordedHistory) × IsReached text number line h × HasCause h line cause
+HasFaultyLine text number cause = (line : List ℕ) × (told : TextEvents) × IsReached text number line told × HasCause (history_of told) line cause
 
 -- The text is too long, which is told of line 0.
 abbrev pub IsTooLong : List ℕ → ℕ → Cause → Type 0
@@ -122,4 +109,4 @@ MeansFault text number cause = IsTooLong text number cause ⊎ HasFaultyLine tex
 
 -- Memory may run out at this line: it is not too long, and no line before it has a cause.
 abbrev pub RanOutAt : List ℕ → ℕ → Type 0
-RanOutAt text number = (line : List ℕ) × (h : RecordedHistory) × IsReached text number line h × (length line ≤ MAX_LINE_BYTES)
+RanOutAt text number = (line : List ℕ) × (told : TextEvents) × IsReached text number line told × (length line ≤ MAX_LINE_BYTES)

@@ -5,7 +5,8 @@ ghost use Rattle.std.specs.List.{list_all};
 ghost use Rattle.serde_json.specs.View.{view};
 ghost use Rattle.lin_text.specs.Line.{json, seen};
 ghost use Rattle.lin_history.specs.Recorder.RecordedHistory.{no_event};
-ghost use Rattle.lin_text.specs.Text.{is_newline, lines, is_blank, is_blank_byte, refusals, taken, HasCause, Leads, MeansHistory, MeansFault, RanOutAt};
+ghost use Rattle.lin_text.specs.Events.{TextEvents, IsHistoryTold, told_with};
+ghost use Rattle.lin_text.specs.Text.{is_newline, lines, is_blank, is_blank_byte, refusals, HasCause, IsToldBy, MeansHistory, MeansFault, RanOutAt};
 ghost use Rattle.lin_history.specs.Refusals.{first_that_holds};
 
 use crate::cause::{Cause, TextFault, cause_of};
@@ -49,7 +50,8 @@ fn json_of(alloc: Global, line: &[u8]) -> Result<Value, Cause>
 fn take_event(alloc: Global, builder: &mut Builder, event: Line<'_>) -> Result<(), BuildFault>
     ensures sound { OnOk result (first_that_holds (refusals builder.old (seen event.entry))
         ≡ None) }
-    ensures ok { OnOk result (builder.new ≡ taken builder.old (seen event.entry)) }
+    ensures history { OnOk result ((told : TextEvents) → IsHistoryTold told builder.old
+        → IsHistoryTold (told_with told (seen event.entry)) builder.new) }
     ensures err { IfErr result (λ fault. fault ≢ BuildFault.OutOfMemory
         → first_that_holds (refusals builder.old (seen event.entry)) ≡ Some fault) }
     ensures same { OnErr result (builder.new ≡ builder.old) }
@@ -63,7 +65,8 @@ fn take_event(alloc: Global, builder: &mut Builder, event: Line<'_>) -> Result<(
 
 // Takes the event of a line. An `Err` changes nothing.
 fn take_line(alloc: Global, builder: &mut Builder, line: &[u8]) -> Result<(), Cause>
-    ensures ok { OnOk result (Leads builder.old line.now builder.new) }
+    ensures ok { OnOk result ((told : TextEvents) → IsHistoryTold told builder.old
+        → (more : TextEvents) × IsToldBy told line.now more × IsHistoryTold more builder.new) }
     ensures err { IfErr result (λ cause. cause ≢ Cause.OutOfMemory
         → HasCause builder.old line.now cause) }
     ensures memory { IfErr result (λ cause. cause ≡ Cause.OutOfMemory

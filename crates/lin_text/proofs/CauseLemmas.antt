@@ -1,5 +1,5 @@
 -- The first cause of a line, from the first cause of its value and of its event.
-use Rattle.std.proofs.Common.{◌≡◌, ℕ, ◌≤◌, Bool, true, false, nat_lt, cond, List, [], ◌∷◌, ◌++◌, length, map, Option, Some, None, refl, ap, ◌∙◌, arith}
+use Rattle.std.proofs.Common.{◌≡◌, ℕ, ◌≤◌, Bool, true, false, nat_lt, cond, List, [], ◌∷◌, ◌++◌, length, map, Option, Some, None, refl, ap, subst, ◌∙◌, arith}
 use Rattle.std.proofs.lemmas.Bool.Decides.{nat_tests}
 use Rattle.serde_json.specs.Data.{Data}
 use Rattle.lin_text.specs.declared.cause.Cause.{Cause}
@@ -7,9 +7,11 @@ use Rattle.lin_history.specs.declared.recorder.fault.BuildFault.{BuildFault}
 use Rattle.lin_history.specs.Refusals.{first_that_holds}
 use Rattle.lin_history.specs.Recorder.RecordedHistory.{RecordedHistory, kind_named}
 use Rattle.lin_text.specs.Causes.{cause_of}
+use Rattle.lin_text.specs.Events.{TextEvents, told_with, history_of, IsHistoryTold}
+use Rattle.lin_text.proofs.TextLemmas.{history_told}
 use Rattle.lin_text.specs.Line.{LineEvent, json, conditions_in, IsLineEventIn}
 use Rattle.lin_text.specs.declared.text.TheConstants.{MAX_LINE_BYTES}
-use Rattle.lin_text.specs.Text.{is_blank, event_at, as_cause, refusals, refusals_at, taken, causes_of, HasCause, Leads}
+use Rattle.lin_text.specs.Text.{is_blank, event_at, as_cause, refusals, refusals_at, causes_of, HasCause, IsToldBy}
 
 head_some : (t : Bool) (y x : Cause) (r s : Option Cause) → (r ≡ Some x → s ≡ Some x) → cond t (Some y) r ≡ Some x → cond t (Some y) s ≡ Some x
 head_some true y x r s h e = e
@@ -67,9 +69,23 @@ pub refused_event : (h : RecordedHistory) (line : List ℕ) (d : Data) (event : 
 refused_event h line d event fault r e refused =
     of_value h line d r ∙ (none_passes (conditions_in (kind_named h) d) (refusals_at h (event_at h line)) e.sound ∙ rw (event_is h line d event r e) (mapped_some (refusals h event) fault refused))
 
-pub leads_by : (h g : RecordedHistory) (line : List ℕ) (d : Data) (event : LineEvent) → IsRead h line d → IsLineEventIn (kind_named h) d event
-    → first_that_holds (refusals h event) ≡ None → g ≡ taken h event → Leads h line g
-leads_by h g line d event r e sound is = record {
-  sound = of_value h line d r ∙ (none_passes (conditions_in (kind_named h) d) (refusals_at h (event_at h line)) e.sound ∙ rw (event_is h line d event r e) (mapped_none (refusals h event) sound));
-  after = rw (r.there, event_is h line d event r e) is;
-}
+-- what is told with a line that has this event and no cause
+pub told_by_event : (told : TextEvents) (h g : RecordedHistory) (line : List ℕ) (d : Data) (event : LineEvent) → IsHistoryTold told h → IsRead h line d → IsLineEventIn (kind_named h) d event
+    → first_that_holds (refusals h event) ≡ None → IsHistoryTold (told_with told event) g → (more : TextEvents) × IsToldBy told line more × IsHistoryTold more g
+told_by_event told h g line d event is r e sound told_now =
+    let same = history_told told h is in
+    let none : first_that_holds (causes_of h line) ≡ None = of_value h line d r ∙ (none_passes (conditions_in (kind_named h) d) (refusals_at h (event_at h line)) e.sound ∙ rw (event_is h line d event r e) (mapped_none (refusals h event) sound)) in
+    let there : event_at (history_of told) line ≡ Some event = subst (λ (k : RecordedHistory). event_at k line ≡ Some event) same (event_is h line d event r e) in (
+      told_with told event,
+      record {
+        sound = subst (λ (k : RecordedHistory). first_that_holds (causes_of k line) ≡ None) same none;
+        after = rw (r.there, there) refl;
+      },
+      told_now,
+    )
+
+-- what is told with a blank line
+pub told_by_blank : (told : TextEvents) (h : RecordedHistory) (line : List ℕ) → length line ≤ MAX_LINE_BYTES → is_blank line ≡ true → IsHistoryTold told h → (more : TextEvents) × IsToldBy told line more × IsHistoryTold more h
+told_by_blank told h line short blank is =
+    let test : nat_lt MAX_LINE_BYTES (length line) ≡ false = grind (arith, nat_tests, short) in
+    (told, record { sound = rw (test, blank) refl; after = rw blank refl }, is)
