@@ -1,0 +1,44 @@
+//! A case: a text, what is printed of it, the exit status, and the options of the run.
+
+use crate::choice::options_of;
+use crate::repeat::repeated;
+use lincheck::{StdSink, StdSource, run, status_code};
+use std::{fs, io};
+
+// A file of the case, whole: `NAME.ENDING`, or what `NAME.ENDING.repeat` stands for.
+fn text_of(rt: &HostRuntime, name: &str, ending: &str) -> io::Result<Vec<u8>> {
+    let path = format!(in rt.alloc(); "{name}.{ending}")?;
+    if let Ok(text) = fs::read(rt, path.as_str()) {
+        return Ok(text);
+    }
+    let short = format!(in rt.alloc(); "{path}.repeat")?;
+    repeated(rt.alloc(), fs::read_to_string(rt, short.as_str())?.as_str())
+}
+
+// The number in `NAME.status`.
+fn status_of(rt: &HostRuntime, name: &str) -> io::Result<u8> {
+    let path = format!(in rt.alloc(); "{name}.status")?;
+    let text = fs::read_to_string(rt, path.as_str())?;
+    let status = text.trim().parse::<u8>();
+    status.map_err(|_| io::Error::from(io::ErrorKind::InvalidData))
+}
+
+// The words of `NAME.options`, which need not be there.
+fn words_of(rt: &HostRuntime, name: &str) -> io::Result<String> {
+    let path = format!(in rt.alloc(); "{name}.options")?;
+    Ok(fs::read_to_string(rt, path.as_str()).unwrap_or(String::new(rt.alloc())))
+}
+
+/// Whether `run` answers the text of a case with its status and prints its answer, byte for byte.
+pub fn is_answered(rt: &HostRuntime, name: &str) -> io::Result<bool> {
+    let text = text_of(rt, name, "jsonl")?;
+    let answer = text_of(rt, name, "answer")?;
+    let status = status_of(rt, name)?;
+    let Some(options) = options_of(words_of(rt, name)?.as_str()) else {
+        return Ok(false);
+    };
+    let mut written = Vec::new(rt.alloc());
+    let mut source = StdSource::new(text.as_slice());
+    let ran = run(rt, &mut source, &mut StdSink::new(&mut written), &options);
+    Ok(status_code(&ran) == status && written == answer)
+}

@@ -1,0 +1,10 @@
+//! What no clause of the crates below says, shown through their public calls: that calls succeed with ample memory,
+//! outside vectors, threads, and bodies that must agree.
+
+mod boards;
+mod fakes;
+mod histories;
+mod objects;
+mod program;
+mod records;
+mod searches;
