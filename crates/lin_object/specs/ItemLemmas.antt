@@ -1,4 +1,4 @@
--- Items that are equal by the test are the same.
+-- Lists of items, by the test of their equality.
 use Rattle.std.specs.Prelude.{◌≡◌, ℤ, true, List, [], ◌∷◌, refl}
 use Rattle.std.specs.Ordering.{int_eq}
 use Rattle.std.specs.Cmp.{signed_Decides}
@@ -6,6 +6,7 @@ use Rattle.std.proofs.lemmas.Bool.{and_parts}
 use Rattle.std.proofs.lemmas.Cmp.{int_eq_equiv}
 use lib.Pointwise.{pointwise}
 
+-- Items that are equal by the test are the same.
 pub items_same : (xs ys : List ℤ) → pointwise int_eq xs ys ≡ true → xs ≡ ys
 items_same [] [] e = refl
 items_same (x ∷ xs) (y ∷ ys) e =
@@ -16,6 +17,7 @@ items_same (x ∷ xs) (y ∷ ys) e =
 items_same [] (y ∷ ys) e = absurd (cc)
 items_same (x ∷ xs) [] e = absurd (cc)
 
+-- Items are equal to themselves by the test.
 pub items_itself : (xs : List ℤ) → pointwise int_eq xs xs ≡ true
 items_itself [] = refl
 items_itself (x ∷ xs) = rw (int_eq_equiv.refl x) (items_itself xs)

@@ -1,6 +1,6 @@
--- Equal objects step alike: what the tests call equal is the same.
+-- Equal objects step alike: states and operations that are equal by the tests are the same.
 use Rattle.std.specs.Prelude.{◌≡◌, ℕ, ℤ, true, false, Option, Some, None, refl}
-use Rattle.std.proofs.Common.{ap, sym, eqb-true, eq-eqb}
+use Rattle.std.proofs.Common.{ap, sym, eqb-true, eq-eqb, true≢false}
 use Rattle.std.specs.Ordering.{int_eq}
 use Rattle.std.specs.Cmp.{signed_Decides}
 use Rattle.std.proofs.lemmas.Bool.{and_parts}
@@ -18,12 +18,10 @@ use Rattle.lin_object.specs.ItemLemmas.{items_same, items_itself}
 use Rattle.lin_object.specs.StepAnswers.{SameStep}
 use Rattle.lin_object.specs.Kinds.{after}
 
-no : true ≡ false → ⊥
-no e = cc
-
 int_same : (a b : ℤ) → int_eq a b ≡ true → a ≡ b
 int_same a b e = (signed_Decides a b).0 e
 
+-- Operations that are equal by the test are the same.
 pub op_same : (a b : Op) → op_eq.it a b ≡ true → a ≡ b
 op_same (Write v) (Write w) e = ap Write (int_same v w e)
 op_same Read Read e = refl
@@ -40,7 +38,7 @@ op_same (Contains v) (Contains w) e = ap Contains (int_same v w e)
 op_same Lock Lock e = refl
 op_same Unlock Unlock e = refl
 op_same TryLock TryLock e = refl
-op_same a b e = absurd (no (sym e))
+op_same a b e = absurd (true≢false (sym e))
 
 holder_same : (a b : Option ℕ) → state_eq.it (Mutex a) (Mutex b) ≡ true → a ≡ b
 holder_same None None e = refl
@@ -48,6 +46,7 @@ holder_same (Some a) (Some b) e = ap Some (eqb-true a b e)
 holder_same None (Some b) e = absurd (cc)
 holder_same (Some a) None e = absurd (cc)
 
+-- States that are equal by the test are the same.
 pub state_same : (s t : ObjState) → state_eq.it s t ≡ true → s ≡ t
 state_same (Register v) (Register w) e = ap Register (int_same v w e)
 state_same (Counter v) (Counter w) e = ap Counter (int_same v w e)
@@ -55,8 +54,9 @@ state_same (Queue v) (Queue w) e = ap Queue (items_same v w e)
 state_same (Stack v) (Stack w) e = ap Stack (items_same v w e)
 state_same (Set v) (Set w) e = ap Set (items_same v w e)
 state_same (Mutex a) (Mutex b) e = ap Mutex (holder_same a b e)
-state_same s t e = absurd (no (sym e))
+state_same s t e = absurd (true≢false (sym e))
 
+-- A state is equal to itself by the test.
 pub state_refl : (s : ObjState) → state_eq.it s s ≡ true
 state_refl (Register v) = int_eq_equiv.refl v
 state_refl (Counter v) = int_eq_equiv.refl v
@@ -66,6 +66,7 @@ state_refl (Set items) = items_itself items
 state_refl (Mutex None) = refl
 state_refl (Mutex (Some p)) = eq-eqb p p refl
 
+-- A reply is equal to itself by the test.
 pub reply_refl : (r : Reply) → reply_eq.it r r ≡ true
 reply_refl Okay = refl
 reply_refl (Int v) = int_eq_equiv.refl v
@@ -77,6 +78,9 @@ same_refl : (o : Option (ObjState × Reply)) → SameStep state_eq.it reply_eq.i
 same_refl None = tt
 same_refl (Some p) = (state_refl p.0, reply_refl p.1)
 
-pub alike : (s t : ObjState) (process : ℕ) (a b : Op) → state_eq.it s t ≡ true → op_eq.it a b ≡ true → SameStep state_eq.it reply_eq.it (after s process a) (after t process b)
+-- Equal states step alike by equal operations.
+pub alike :
+    (s t : ObjState) (process : ℕ) (a b : Op) → state_eq.it s t ≡ true → op_eq.it a b ≡ true →
+    SameStep state_eq.it reply_eq.it (after s process a) (after t process b)
 alike s t process a b es eo =
     rw (← state_same s t es, ← op_same a b eo) (same_refl (after s process a))

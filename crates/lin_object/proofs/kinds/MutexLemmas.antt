@@ -11,6 +11,7 @@ use Rattle.lin_object.specs.Runs.{Step, RunsFrom}
 use Rattle.lin_object.specs.StepAnswers.{step_reply}
 use Rattle.lin_object.specs.Kinds.{after}
 use Rattle.lin_object.specs.Kinds.Mutex.{mutex_step, is_acquiring, HasNoUnlockBy, HasNoAcquiring, is_holder, MutexLaw}
+use Rattle.lin_object.proofs.BoolLemmas.{not_both}
 use Rattle.lin_object.proofs.AnswerLemmas.{Gives, no_step, state_given, reply_given}
 
 -- what one step leaves of a mutex that the process holds
@@ -60,9 +61,6 @@ freeing_frees false t reply e = absurd (no_step e)
 unlock_frees : (holder : Option ℕ) (t : ObjState) (p : ℕ) (reply : Reply) → Gives (mutex_step holder p Unlock) t reply → t ≡ Mutex None
 unlock_frees None t p reply e = absurd (no_step e)
 unlock_frees (Some q) t p reply e = freeing_frees (q == p) t reply e
-
-not_both : (b : Bool) → b ≡ true → b ≡ false → ⊥
-not_both b e f = cc
 
 acquires : (holder : Option ℕ) (t : ObjState) (p : ℕ) (op : Op) (reply : Reply) → Gives (mutex_step holder p op) t reply → is_acquiring op reply ≡ true → t ≡ Mutex (Some p)
 acquires None t p Lock reply e given = sym (state_given e)

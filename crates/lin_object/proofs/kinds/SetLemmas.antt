@@ -17,6 +17,8 @@ use Rattle.lin_object.specs.Items.{is_in, with_in_order, without_item}
 use Rattle.lin_object.specs.Runs.{Step, RunsFrom}
 use Rattle.lin_object.specs.Kinds.{after}
 use Rattle.lin_object.specs.Kinds.Set.{set_step, is_in_after_step, is_in_after, IsIncreasing, SetLaw}
+use Rattle.std.proofs.lemmas.Bool.{or_parts}
+use Rattle.lin_object.proofs.BoolLemmas.{not_both}
 use Rattle.lin_object.proofs.AnswerLemmas.{Gives, no_step, state_given}
 use Rattle.std.specs.Ordering.{int_cmp}
 use Rattle.std.specs.List.{AllByRecursion}
@@ -27,13 +29,6 @@ use Rattle.std.proofs.lemmas.List.Kept.{IsStrictlySortedBy-filter}
 use Rattle.lin_object.specs.contracts.state.ObjStatePartialEq.TheImpl.{eq-value as state_eq}
 use Rattle.lin_object.specs.StepAnswers.{step_reply}
 use Rattle.lin_object.specs.StepLemmas.{state_same, state_refl}
-
-not_both : (b : Bool) → b ≡ true → b ≡ false → ⊥
-not_both b e f = cc
-
-neither : (a b : Bool) → (a || b) ≡ false → (a ≡ false) × (b ≡ false)
-neither true b e = absurd (not_both true refl e)
-neither false b e = (refl, e)
 
 -- the items of a set's state
 
@@ -162,21 +157,21 @@ below_or_above v x false e f g = absurd (not_both (int_eq x v) (rw (e, f) refl) 
 less : (v x : ℤ) → int_lt v x ≡ true → int_cmp v x ≡ Less
 less v x e = rw e refl
 
-behind : (v x : ℤ) (xs : List ℤ) (n : ℕ) → insert (x ∷ xs) (1 + n) v ≡ x ∷ insert xs n v
-behind v x xs n = let next : suc n ≡ 1 + n = omega arith in subst (λ (k : ℕ). insert (x ∷ xs) k v ≡ x ∷ insert xs n v) next refl
+insert_later : (v x : ℤ) (xs : List ℤ) (n : ℕ) → insert (x ∷ xs) (1 + n) v ≡ x ∷ insert xs n v
+insert_later v x xs n = let next : suc n ≡ 1 + n = omega arith in subst (λ (k : ℕ). insert (x ∷ xs) k v ≡ x ∷ insert xs n v) next refl
 
 -- the item stands first, or behind the first of the others
-in_front : (v x : ℤ) (xs : List ℤ) (first : Bool) → int_lt v x ≡ first → with_in_order v (x ∷ xs) ≡ (if first then v ∷ x ∷ xs else x ∷ with_in_order v xs)
-in_front v x xs true e = rw e refl
-in_front v x xs false e = rw e (behind v x xs (position_or_len (λ y. int_lt v y) xs))
+with_in_order_at : (v x : ℤ) (xs : List ℤ) (first : Bool) → int_lt v x ≡ first → with_in_order v (x ∷ xs) ≡ (if first then v ∷ x ∷ xs else x ∷ with_in_order v xs)
+with_in_order_at v x xs true e = rw e refl
+with_in_order_at v x xs false e = rw e (insert_later v x xs (position_or_len (λ y. int_lt v y) xs))
 
 all_with : (P : ℤ → Type 0) (v : ℤ) (xs : List ℤ) → P v → AllByRecursion P xs → AllByRecursion P (with_in_order v xs)
 all_with P v [] own all = (own, tt)
 all_with P v (x ∷ xs) own all = go (int_lt v x) refl (all_with P v xs own all.1)
   where
     go : (first : Bool) → int_lt v x ≡ first → AllByRecursion P (with_in_order v xs) → AllByRecursion P (with_in_order v (x ∷ xs))
-    go true e later = subst (AllByRecursion P) (sym (in_front v x xs true e)) (own, all)
-    go false e later = subst (AllByRecursion P) (sym (in_front v x xs false e)) (all.0, later)
+    go true e later = subst (AllByRecursion P) (sym (with_in_order_at v x xs true e)) (own, all)
+    go false e later = subst (AllByRecursion P) (sym (with_in_order_at v x xs false e)) (all.0, later)
 
 below_all : (v x : ℤ) (xs : List ℤ) → int_cmp v x ≡ Less → AllByRecursion (λ y. int_cmp x y ≡ Less) xs → AllByRecursion (λ y. int_cmp v y ≡ Less) xs
 below_all v x [] e all = tt
@@ -186,12 +181,12 @@ put_in_order : (v : ℤ) (xs : List ℤ) → is_in v xs ≡ false → IsIncreasi
 unfolding IsStrictlySortedBy
 put_in_order v [] absent sorted = (tt, tt)
 put_in_order v (x ∷ xs) absent sorted =
-    let apart = neither (int_eq x v) (is_in v xs) absent in
+    let apart = or_parts (int_eq x v) (is_in v xs) absent in
     go (int_lt v x) refl apart.0 (put_in_order v xs apart.1 sorted.1)
   where
     go : (first : Bool) → int_lt v x ≡ first → int_eq x v ≡ false → IsIncreasing (with_in_order v xs) → IsIncreasing (with_in_order v (x ∷ xs))
-    go true e apart later = subst IsIncreasing (sym (in_front v x xs true e)) ((less v x e, below_all v x xs (less v x e) sorted.0), sorted)
-    go false e apart later = subst IsIncreasing (sym (in_front v x xs false e)) (all_with (λ y. int_cmp x y ≡ Less) v xs (below_or_above v x (int_lt x v) refl e apart) sorted.0, later)
+    go true e apart later = subst IsIncreasing (sym (with_in_order_at v x xs true e)) ((less v x e, below_all v x xs (less v x e) sorted.0), sorted)
+    go false e apart later = subst IsIncreasing (sym (with_in_order_at v x xs false e)) (all_with (λ y. int_cmp x y ≡ Less) v xs (below_or_above v x (int_lt x v) refl e apart) sorted.0, later)
 
 insert_ordered : (there : Bool) (w : ℤ) (items rest : List ℤ) (r : Reply) → is_in w items ≡ there → IsIncreasing items → Gives (Some (if there then (Set items, Flag false) else (Set (with_in_order w items), Flag true))) (Set rest) r → IsIncreasing rest
 insert_ordered true w items rest r is sorted e = subst IsIncreasing (items_given e) sorted
