@@ -34,7 +34,7 @@ means_fault text read line cause (inr long) (inl m) =
 means_fault text read line cause (inr long) (inr m) = absurd (let s = m.2.short in let l = long.0 in omega (arith, s, l))
 
 pub prints_read : (text read : List ℕ) (status : Status) (printed : List ℕ) → IsReadOf text read → Prints read status printed → Prints text status printed
-prints_read text read Yes printed r p = (p.0, means_history text read p.0 r p.1, p.2, p.3)
+prints_read text read Yes printed r p = (p.0, means_history text read p.0 r p.1, p.2)
 prints_read text read No printed r p = (p.0, means_history text read p.0 r p.1, p.2, p.3)
 prints_read text read Undecided printed r p = absurd p
 prints_read text read Refused printed r p = (p.0, means_fault text read p.0.line p.0.cause r p.1, p.2)

@@ -18,9 +18,10 @@ use Rattle.lincheck.specs.Report.{yes_report, no_report}
 abbrev pub PrintsRefused : List ℕ → List ℕ → Type 0
 PrintsRefused text printed = (fault : TextFault) × MeansFault text fault.line fault.cause × (printed ≡ fault_line fault)
 
--- A text that means a history prints the least linearizations of its objects, joined, where each object has one.
+-- A text that means a history prints the least linearizations of its objects, joined, where each object has one: what is
+-- printed is a linearization of the whole.
 abbrev pub PrintsYes : RecordedHistory → List ℕ → Type 0
-PrintsYes h printed = (orders : List (List ℕ)) × (l : List (Placed Reply)) × AreLeast h orders × IsJoined (whole_of h) orders l × (printed ≡ yes_report h l)
+PrintsYes h printed = (orders : List (List ℕ)) × (l : List (Placed Reply)) × AreLeast h orders × IsJoined (whole_of h) orders l × IsLinearizationOfWhole (whole_of h) l × (printed ≡ yes_report h l)
 
 -- Otherwise it prints the first object that has none, with its longest run.
 abbrev pub PrintsNo : RecordedHistory → List ℕ → Type 0
@@ -28,7 +29,7 @@ PrintsNo h printed = (object : ℕ) × (run : List (Placed Reply)) × IsFirstWit
 
 -- What the text prints, with each status.
 abbrev pub Prints : List ℕ → Status → List ℕ → Type 0
-Prints text Yes printed = (h : RecordedHistory) × MeansHistory text h × PrintsYes h printed × ((l : List (Placed Reply)) × IsLinearizationOfWhole (whole_of h) l)
+Prints text Yes printed = (h : RecordedHistory) × MeansHistory text h × PrintsYes h printed
 Prints text No printed = (h : RecordedHistory) × MeansHistory text h × PrintsNo h printed × ((l : List (Placed Reply)) → IsLinearizationOfWhole (whole_of h) l → ⊥)
 Prints text Undecided printed = ⊥
 Prints text Refused printed = PrintsRefused text printed

@@ -14,11 +14,11 @@ use crate::lines::report;
 use crate::options::Options;
 use crate::status::Status;
 use crate::verdict::Verdict;
-use lin_text::{Cause, TextFault, read_history, write_cause};
+use lin_text::{Cause, MAX_INPUT_BYTES, TextFault, read_history, write_cause};
 use std::alloc::{AllocError, Global};
 
 // The most bytes of a text, and one more: where so many stand, the text is too long and is read no further.
-const ENOUGH: usize = 67_108_865;
+const ENOUGH: usize = MAX_INPUT_BYTES + 1;
 
 // How many bytes one read asks for.
 const PIECE: usize = 65536;
