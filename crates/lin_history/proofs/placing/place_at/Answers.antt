@@ -25,12 +25,12 @@ call-call-requires c =
 pub unreachable-requires : goal.unreachable-requires
 unreachable-requires c =
     placing_goes_on state_eq.it (whole_of c.args.history.now) c.args.object _ _ c.loop-number.placed.items c.loop-number.state c.calls-calls.result.now c.loop-number.number-index c.args.indices.now _ (call_seen c.call-call.result.now)
-    c.loop-number-test.true c.requires.indices c.loop-number.invariant refl c.call-call.ensures.call (sym c.in_ok-next.ensures ∙ c.in_default.is)
+    c.loop-number-test.true c.requires.indices c.loop-number.invariant refl c.call-call.ensures.call (sym c.in_ok-next.ensures.answer ∙ c.in_default.is)
 
 pub loop-number-preserved : goal.loop-number-preserved
 loop-number-preserved c =
     placing_next state_eq.it (whole_of c.args.history.now) c.args.object _ _ c.loop-number.placed.items c.push.new.self.items c.loop-number.state c.calls-calls.result.now c.loop-number.number-index c.args.indices.now _ (call_seen c.call-call.result.now) c.in-Some.next c.in-Some.reply
-    c.loop-number-test.true c.requires.indices c.loop-number.invariant refl c.call-call.ensures.call (sym (rw c.in-Some.is at c.in_ok-next.ensures)) c.in_ok-push.ensures.items
+    c.loop-number-test.true c.requires.indices c.loop-number.invariant refl c.call-call.ensures.call (sym (rw c.in-Some.is at c.in_ok-next.ensures.answer)) c.in_ok-push.ensures.items
 
 pub returns : goal.returns
 returns c = placing_done state_eq.it (whole_of c.args.history.now) c.args.object _ _ _ _ _ _ c.loop-number-test.false c.calls-calls.ensures c.loop-number.invariant
