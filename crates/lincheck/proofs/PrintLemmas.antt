@@ -53,6 +53,7 @@ placed_calls h object s (c ∷ cs) [] p = absurd p
 pub verdict_of : (h : RecordedHistory) (v : Verdict) → IsVerdict h v → IsOf h v
 verdict_of h (verdicts.Yes l) v = replayed_calls h (start_at h) l v.1.legal
 verdict_of h (verdicts.No object run) v = (v.0.0.declared, placed_calls h object (start_at h object) v.0.1.order run.items v.0.1.placed)
+verdict_of h (verdicts.Undecided object) v = absurd v
 
 -- ---- a run on what was read
 

@@ -54,6 +54,10 @@ yes_report h l = codes "linearizable\n" ++ call_lines h 1 l ++ dropped_lines h l
 abbrev pub name_line : RecordedHistory → ℕ → List ℕ
 name_line h object = codes "not linearizable: " ++ name_of h object ++ codes "\n"
 
+-- The report of a history whose object of this index is not decided.
+abbrev pub undecided_report : RecordedHistory → ℕ → List ℕ
+undecided_report h object = codes "undecided: " ++ name_of h object ++ codes "\n"
+
 -- The line that tells the length of a run, and how many calls its object has.
 abbrev pub length_line : RecordedHistory → ℕ → List (Placed Reply) → List ℕ
 length_line h object run = codes "longest run: " ++ decimal (length run) ++ codes " of " ++ decimal (length (calls_on h object)) ++ codes " calls\n"

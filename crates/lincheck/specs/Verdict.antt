@@ -10,10 +10,10 @@ use Rattle.lin_history.specs.Locality.JoinedOrder.{Places, IsJoined}
 use Rattle.lin_history.specs.Locality.RecordedWhole.{start_at, whole_of, part_of}
 use Rattle.lin_search.specs.LongestRun.{IsFirstLongest}
 use Rattle.lincheck.specs.declared.verdict.Verdict.{Verdict}
-use Rattle.lincheck.specs.declared.verdict.Verdict.TheVariants.{Yes, No}
+use Rattle.lincheck.specs.declared.verdict.Verdict.TheVariants.{Yes, No, Undecided}
 use Rattle.lincheck.specs.declared.verdict.ObjectVerdict.{ObjectVerdict}
 use Rattle.lincheck.specs.declared.verdict.ObjectVerdict.TheVariants as objects
-use Rattle.lincheck.specs.Report.{yes_report, no_report}
+use Rattle.lincheck.specs.Report.{yes_report, no_report, undecided_report}
 
 -- One order for each of the first n objects, in the order of declaration, each the least linearization of its object.
 pub record AreLeastOf (h : RecordedHistory) (n : ℕ) (orders : List (List ℕ)) : Type 0 where
@@ -43,10 +43,12 @@ IsObjectVerdict h object (objects.Yes order) = IsLeast (IsLinearization (part_of
 IsObjectVerdict h object (objects.No run) = ((l : List ℕ) → IsLinearization (part_of h object) l → ⊥) × IsLongestRunOf h object run.items
 
 -- The verdict is right: yes, with the least linearizations of the objects joined, which is a linearization of the whole;
--- or no, with the first object that has none and its longest run, and then the whole has none.
+-- or no, with the first object that has none and its longest run, and then the whole has none. A check without a limit is
+-- never undecided.
 abbrev pub IsVerdict : RecordedHistory → Verdict → Type 0
 IsVerdict h (Yes l) = ((orders : List (List ℕ)) × AreLeast h orders × IsJoined (whole_of h) orders l) × IsLinearizationOfWhole (whole_of h) l
 IsVerdict h (No object run) = (IsFirstWithout h object × IsLongestRunOf h object run.items) × ((l : List (Placed Reply)) → IsLinearizationOfWhole (whole_of h) l → ⊥)
+IsVerdict h (Undecided object) = ⊥
 
 -- Each of the calls is one of the first n.
 abbrev pub AreCalls : ℕ → List (Placed Reply) → Type 0
@@ -57,8 +59,10 @@ AreCalls n (x ∷ xs) = (x.call < n) × AreCalls n xs
 abbrev pub IsOf : RecordedHistory → Verdict → Type 0
 IsOf h (Yes l) = AreCalls (length h.calls) l
 IsOf h (No object run) = (object < length h.objects) × AreCalls (length h.calls) run.items
+IsOf h (Undecided object) = object < length h.objects
 
 -- The report of the verdict.
 abbrev pub report_of : RecordedHistory → Verdict → List ℕ
 report_of h (Yes l) = yes_report h l
 report_of h (No object run) = no_report h object run.items
+report_of h (Undecided object) = undecided_report h object

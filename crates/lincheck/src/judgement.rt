@@ -18,7 +18,8 @@ fn judge_object(
     problem: &Problem<AnyObject>,
 ) -> Result<ObjectVerdict, AllocError>
     requires object { object < length history.now.objects }
-    requires start { option_map start_of (slice_get history.now.objects object) ≡ Some problem.now.start }
+    requires start { option_map start_of (slice_get history.now.objects object)
+        ≡ Some problem.now.start }
     requires calls { problem.now.calls ≡ part_calls history.now object }
     ensures { IfOk result (IsObjectVerdict history.now object) }
 {
