@@ -28,17 +28,7 @@ fn search_root<'p, O: SeqObject>(
 {
     lawful::<O>();
     let root = Config::root(alloc, problem)?;
-    let mut lifts = 0;
-    let ended = search_from(
-        alloc,
-        problem,
-        root,
-        memo,
-        true,
-        None,
-        &mut lifts,
-        &mut NoStop,
-    )?;
+    let ended = search_from(alloc, problem, root, memo, true, None, &mut NoStop)?;
     if !ended.whole {
         return Err(AllocError);
     }

@@ -114,6 +114,13 @@ impl<'p, O: SeqObject> Entries<'p, O> {
         })
     }
 
+    /// The problem.
+    pub(crate) fn problem(&self) -> &'p Problem<O>
+        ensures { result.now ≡ self.now.problem }
+    {
+        self.problem
+    }
+
     /// Lifts the call: takes its entries out. Condition: it is a call of the problem that is not lifted. It takes
     /// constant time and no memory.
     pub fn lift(&mut self, call: usize)

@@ -4,8 +4,8 @@ use Rattle.lin_search.specs.LongestRun.{IsFirstLongest}
 use Rattle.lin_search.specs.FirstCallLemmas.{none_continues}
 use Rattle.lin_search.specs.AlikeLemmas.{like_completion}
 use Rattle.lin_search.specs.SameLemmas.{alike_itself}
-use Rattle.lin_search.proofs.Tried.{leads_down}
-use Rattle.lin_search.proofs.FrameLemmas.{next_minimal}
+use Rattle.lin_search.proofs.ProgressLemmas.{leads_down}
+use Rattle.lin_search.proofs.PathLemmas.{next_minimal}
 use Rattle.lin_search.proofs.RunLemmas.{none_left, first_next, longest_step, none_after, alike_first, rest_next, rest_none}
 use Rattle.lin_search.proofs.longest_runs.longest_run.Goals as goal
 
@@ -62,5 +62,5 @@ returns-clause-run g c =
     rw c.new.ensures (rest_none (IsFirstLongest (IsRun (problem_of g.O.SeqObject.after g.O.State.PartialEq.eq g.O.Reply.PartialEq.eq c.args.problem.now))) c.loop-longest.calls.items
     (c.loop-longest.invariant.rest _ (none_left _ _ (none_continues _ _ _) (rw c.in_default.is at c.loop-longest.invariant.longest))))
 
-pub longest_of-requires-in-Some-clause-here : goal.longest_of-requires-in-Some-clause-here
-longest_of-requires-in-Some-clause-here g c = λ h. g.met.M.Memo.keeps_problem _ _ c.loop-longest.invariant.memo _ (c.is_for-here.ensures h)
+pub longest_of-requires-in-Some-clause-of : goal.longest_of-requires-in-Some-clause-of
+longest_of-requires-in-Some-clause-of g c = λ h. g.met.M.Memo.keeps_problem _ _ c.loop-longest.invariant.memo _ (c.is_for-is_for_problem.ensures h)

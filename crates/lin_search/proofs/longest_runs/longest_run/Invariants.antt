@@ -5,7 +5,7 @@ use Rattle.lin_history.specs.Problems.Continuations.{IsCompletion, IsContinuatio
 use Rattle.lin_history.specs.Problems.Linearizations.{IsRun}
 use Rattle.lin_history.specs.Problems.Configurations.{IsReachable}
 use Rattle.lin_search.specs.LongestRun.{IsFirstLongest}
-use Rattle.lin_search.proofs.Tried.{free}
+use Rattle.lin_search.specs.Progress.{free}
 use Rattle.lin_search.proofs.longest_runs.longest_run.Given as goal
 
 abbrev pub decreases-loop-longest : goal.decreases-loop-longest

@@ -6,13 +6,8 @@ use Rattle.lin_history.specs.Problems.Continuations.{has, IsContinuation, IsComp
 use Rattle.lin_search.specs.CallSet.{with_call}
 use Rattle.lin_search.specs.declared.longest.Longest.{Longest}
 use Rattle.lin_search.specs.Next.{IsNext, HasEveryCompleted}
+use Rattle.lin_search.specs.Progress.{IsBelow, IsContinuationBelow, IsSearchedTo, free}
 use Rattle.lin_search.specs.FirstCallLemmas.{continuation_split, continuation_join, completion_split, completion_join, none_continues, none_completes, complete_none, next_one, next_within}
-
--- how many calls are not in the set
-abbrev pub free : List Bool → ℕ
-free [] = 0
-free (true ∷ s) = free s
-free (false ∷ s) = suc (free s)
 
 pub free_less : (s : List Bool) (c : ℕ) → c < length s → has s c ≡ false → suc (free (with_call s c)) ≡ free s
 free_less [] c h e = absurd (omega arith)
@@ -25,11 +20,6 @@ pub free_within : (s : List Bool) → free s ≤ length s
 free_within [] = omega arith
 free_within (true ∷ s) = omega (arith, free_within s)
 free_within (false ∷ s) = omega (arith, free_within s)
-
--- the list has no call, or its first is below i
-abbrev pub IsBelow : ℕ → List ℕ → Type 0
-IsBelow i [] = Unit {0}
-IsBelow i (c ∷ cs) = c < i
 
 module _ {State Op Reply : Type 0} (p : Problem State Op Reply) where
   pub flags_kept : (set : List Bool) (c : ℕ) → length set ≡ length p.calls → length (with_call set c) ≡ length p.calls
@@ -45,13 +35,8 @@ module _ {State Op Reply : Type 0} (p : Problem State Op Reply) where
       let tail = short cs (with_call set c) q.0 (flags_kept set c flags) q.2 in
       omega (arith, less, tail)
 
-  -- what the calls below i say of a configuration: none begins a completion, and this is the longest that they begin
-  pub record Tried (set : List Bool) (s : State) (i : ℕ) (more : ℕ) (first : Option ℕ) : Type 0 where
-    pub none : (l : List ℕ) → IsCompletion p set s l → IsBelow i l → ⊥
-    pub longest : IsLongest (λ (l : List ℕ). IsContinuation p set s l × IsBelow i l) more first
-
-  pub tried_start : (set : List Bool) (s : State) → (HasEveryCompleted p set → ⊥) → Tried set s 0 0 None
-  tried_start set s open_call = record {
+  pub searched_start : (set : List Bool) (s : State) → (HasEveryCompleted p set → ⊥) → IsSearchedTo p set s 0 0 None
+  searched_start set s open_call = record {
     none = none;
     longest = record {
       there = ([], (none_continues p set s, tt), refl, refl);
@@ -80,13 +65,13 @@ module _ {State Op Reply : Type 0} (p : Problem State Op Reply) where
   below_more i [] b = tt
   below_more i (c ∷ cs) b = omega arith
 
-  pub tried_skip : (set : List Bool) (s : State) (i more : ℕ) (first : Option ℕ) → length set ≡ length p.calls → Tried set s i more first → ((t : State) → IsNext p set s i t → ⊥) → Tried set s (i + 1) more first
-  tried_skip set s i more first flags tried no_step = record {
-    none = λ l k b. tried.none l k (below l k.continuation b);
+  pub searched_skip : (set : List Bool) (s : State) (i more : ℕ) (first : Option ℕ) → length set ≡ length p.calls → IsSearchedTo p set s i more first → ((t : State) → IsNext p set s i t → ⊥) → IsSearchedTo p set s (i + 1) more first
+  searched_skip set s i more first flags searched no_step = record {
+    none = λ l k b. searched.none l k (below l k.continuation b);
     longest = record {
-      there = let q = tried.longest.there in (q.0, (q.1.0, below_more i q.0 q.1.1), q.2, q.3);
-      greatest = λ l k. tried.longest.greatest l (k.0, below l k.0 k.1);
-      least = λ l k. tried.longest.least l (k.0, below l k.0 k.1);
+      there = let q = searched.longest.there in (q.0, (q.1.0, below_more i q.0 q.1.1), q.2, q.3);
+      greatest = λ l k. searched.longest.greatest l (k.0, below l k.0 k.1);
+      least = λ l k. searched.longest.least l (k.0, below l k.0 k.1);
     };
   }
     where
@@ -97,13 +82,13 @@ module _ {State Op Reply : Type 0} (p : Problem State Op Reply) where
       ]
 
   -- calls that can't follow are passed over
-  pub tried_to : (set : List Bool) (s : State) (i j more : ℕ) (first : Option ℕ) → length set ≡ length p.calls → i ≤ j → Tried set s i more first → ((c : ℕ) → i ≤ c → c < j → (t : State) → IsNext p set s c t → ⊥) → Tried set s j more first
-  tried_to set s i j more first flags h tried none = record {
-    none = λ l k b. tried.none l k (below l k.continuation b);
+  pub searched_to : (set : List Bool) (s : State) (i j more : ℕ) (first : Option ℕ) → length set ≡ length p.calls → i ≤ j → IsSearchedTo p set s i more first → ((c : ℕ) → i ≤ c → c < j → (t : State) → IsNext p set s c t → ⊥) → IsSearchedTo p set s j more first
+  searched_to set s i j more first flags h searched none = record {
+    none = λ l k b. searched.none l k (below l k.continuation b);
     longest = record {
-      there = let q = tried.longest.there in (q.0, (q.1.0, above q.0 q.1.1), q.2, q.3);
-      greatest = λ l k. tried.longest.greatest l (k.0, below l k.0 k.1);
-      least = λ l k. tried.longest.least l (k.0, below l k.0 k.1);
+      there = let q = searched.longest.there in (q.0, (q.1.0, above q.0 q.1.1), q.2, q.3);
+      greatest = λ l k. searched.longest.greatest l (k.0, below l k.0 k.1);
+      least = λ l k. searched.longest.least l (k.0, below l k.0 k.1);
     };
   }
     where
@@ -130,9 +115,9 @@ module _ {State Op Reply : Type 0} (p : Problem State Op Reply) where
     tail_completes : (cs : List ℕ) → IsCompletion p set s (i ∷ cs) → IsCompletion p (with_call set i) t cs
     tail_completes cs k = let n = completion_split p set s i cs flags k in subst (λ (u : State). IsCompletion p (with_call set i) u cs) (next_one p set s i n.0 t n.1 is_next) n.2
 
-    none_more : (more : ℕ) (first : Option ℕ) → Tried set s i more first → (l : List ℕ) → IsCompletion p set s l → IsBelow (i + 1) l → ⊥
-    none_more more first tried l k b = elim (below_cases i l b) [
-      | inl h ↦ tried.none l k h
+    none_more : (more : ℕ) (first : Option ℕ) → IsSearchedTo p set s i more first → (l : List ℕ) → IsCompletion p set s l → IsBelow (i + 1) l → ⊥
+    none_more more first searched l k b = elim (below_cases i l b) [
+      | inl h ↦ searched.none l k h
       | inr q ↦ refuted q.0 (tail_completes q.0 (subst (λ (m : List ℕ). IsCompletion p set s m) q.1 k))
     ]
 
@@ -143,19 +128,19 @@ module _ {State Op Reply : Type 0} (p : Problem State Op Reply) where
         let n : length l ≡ suc (length cs) = ap length e in
         omega (arith, h, n)
 
-    pub tried_longer : (more : ℕ) (first : Option ℕ) → Tried set s i more first → more < below + 1 → Tried set s (i + 1) (below + 1) (Some i)
-    tried_longer more first tried longer = record {
-      none = none_more more first tried;
+    pub searched_longer : (more : ℕ) (first : Option ℕ) → IsSearchedTo p set s i more first → more < below + 1 → IsSearchedTo p set s (i + 1) (below + 1) (Some i)
+    searched_longer more first searched longer = record {
+      none = none_more more first searched;
       longest = record {
         there =
             let q = deep.there in
             (i ∷ q.0, (continuation_join p set s i q.0 t flags is_next q.1, omega arith), (let n = q.2 in omega (arith, n)), refl);
         greatest = λ l k. elim (below_cases i l k.1) [
-          | inl h ↦ (let n = tried.longest.greatest l (k.0, h) in omega (arith, n, longer))
+          | inl h ↦ (let n = searched.longest.greatest l (k.0, h) in omega (arith, n, longer))
           | inr q ↦ deep_short l q.0 q.1 k.0
         ];
         least = λ l k e c d f g. elim (below_cases i l k.1) [
-          | inl h ↦ absurd (let n = tried.longest.greatest l (k.0, h) in omega (arith, n, longer, e))
+          | inl h ↦ absurd (let n = searched.longest.greatest l (k.0, h) in omega (arith, n, longer, e))
           | inr q ↦ (let w = first_is l q.0 c d q.1 f g in omega (arith, w))
         ];
       };
@@ -164,17 +149,17 @@ module _ {State Op Reply : Type 0} (p : Problem State Op Reply) where
         first_is : (l cs : List ℕ) (c d : ℕ) → l ≡ i ∷ cs → Some i ≡ Some c → first_of l ≡ Some d → c ≡ d
         first_is l cs c d e f g = let g' = rw e at g in cc
 
-    pub tried_no_longer : (more : ℕ) (first : Option ℕ) → Tried set s i more first → below + 1 ≤ more → Tried set s (i + 1) more first
-    tried_no_longer more first tried no_longer = record {
-      none = none_more more first tried;
+    pub searched_no_longer : (more : ℕ) (first : Option ℕ) → IsSearchedTo p set s i more first → below + 1 ≤ more → IsSearchedTo p set s (i + 1) more first
+    searched_no_longer more first searched no_longer = record {
+      none = none_more more first searched;
       longest = record {
-        there = let q = tried.longest.there in (q.0, (q.1.0, below_more i q.0 q.1.1), q.2, q.3);
+        there = let q = searched.longest.there in (q.0, (q.1.0, below_more i q.0 q.1.1), q.2, q.3);
         greatest = λ l k. elim (below_cases i l k.1) [
-          | inl h ↦ tried.longest.greatest l (k.0, h)
+          | inl h ↦ searched.longest.greatest l (k.0, h)
           | inr q ↦ (let n = deep_short l q.0 q.1 k.0 in omega (arith, n, no_longer))
         ];
         least = λ l k e c d f g. elim (below_cases i l k.1) [
-          | inl h ↦ tried.longest.least l (k.0, h) e c d f g
+          | inl h ↦ searched.longest.least l (k.0, h) e c d f g
           | inr q ↦ begins_less l q.0 c d q.1 f g
         ];
       };
@@ -184,7 +169,7 @@ module _ {State Op Reply : Type 0} (p : Problem State Op Reply) where
         begins_less l cs c d e f g =
             let g' : Some i ≡ Some d = rw e at g in
             let same : i ≡ d = cc in
-            let q = tried.longest.there in
+            let q = searched.longest.there in
             let head : c < i = head_below q.0 c (q.3 ∙ f) q.1.1 in
             omega (arith, same, head)
           where
@@ -193,23 +178,23 @@ module _ {State Op Reply : Type 0} (p : Problem State Op Reply) where
             head_below (d ∷ ds) c e b = let same : d ≡ c = cc in omega (arith, same, b)
 
   -- what the calls up to this one tell, once it is known what this one leads to
-  pub tried_after : (set : List Bool) (s : State) (i : ℕ) (t : State) (longest deep after : Longest) → length set ≡ length p.calls → IsNext p set s i t → ((l : List ℕ) → IsCompletion p (with_call set i) t l → ⊥) → IsLongest (IsContinuation p (with_call set i) t) deep.more deep.first → Tried set s i longest.more longest.first → (longest.more < deep.more + 1 → after ≡ record { more = deep.more + 1; first = Some i }) → (deep.more + 1 ≤ longest.more → after ≡ longest) → Tried set s (i + 1) after.more after.first
-  tried_after set s i t longest deep after flags is_next none is_longest tried longer not_longer =
+  pub searched_after : (set : List Bool) (s : State) (i : ℕ) (t : State) (longest deep after : Longest) → length set ≡ length p.calls → IsNext p set s i t → ((l : List ℕ) → IsCompletion p (with_call set i) t l → ⊥) → IsLongest (IsContinuation p (with_call set i) t) deep.more deep.first → IsSearchedTo p set s i longest.more longest.first → (longest.more < deep.more + 1 → after ≡ record { more = deep.more + 1; first = Some i }) → (deep.more + 1 ≤ longest.more → after ≡ longest) → IsSearchedTo p set s (i + 1) after.more after.first
+  searched_after set s i t longest deep after flags is_next none is_longest searched longer not_longer =
       elim (less_or_not longest.more (deep.more + 1)) [
-        | inl h ↦ rw (longer h) (tried_longer set s i t deep.more deep.first flags is_next none is_longest longest.more longest.first tried h)
-        | inr h ↦ rw (not_longer h) (tried_no_longer set s i t deep.more deep.first flags is_next none is_longest longest.more longest.first tried h)
+        | inl h ↦ rw (longer h) (searched_longer set s i t deep.more deep.first flags is_next none is_longest longest.more longest.first searched h)
+        | inr h ↦ rw (not_longer h) (searched_no_longer set s i t deep.more deep.first flags is_next none is_longest longest.more longest.first searched h)
       ]
     where
       less_or_not : (a b : ℕ) → (a < b) ⊎ (b ≤ a)
       less_or_not a b = grind arith
 
-  pub tried_all : (set : List Bool) (s : State) (n more : ℕ) (first : Option ℕ) → n ≡ length p.calls → length set ≡ length p.calls → Tried set s n more first → ((l : List ℕ) → IsCompletion p set s l → ⊥) × IsLongest (IsContinuation p set s) more first
-  tried_all set s n more first all flags tried = (
-    λ l k. tried.none l k (below l k.continuation),
+  pub searched_all : (set : List Bool) (s : State) (n more : ℕ) (first : Option ℕ) → n ≡ length p.calls → length set ≡ length p.calls → IsSearchedTo p set s n more first → ((l : List ℕ) → IsCompletion p set s l → ⊥) × IsLongest (IsContinuation p set s) more first
+  searched_all set s n more first all flags searched = (
+    λ l k. searched.none l k (below l k.continuation),
     record {
-      there = let q = tried.longest.there in (q.0, q.1.0, q.2, q.3);
-      greatest = λ l k. tried.longest.greatest l (k, below l k);
-      least = λ l k. tried.longest.least l (k, below l k);
+      there = let q = searched.longest.there in (q.0, q.1.0, q.2, q.3);
+      greatest = λ l k. searched.longest.greatest l (k, below l k);
+      least = λ l k. searched.longest.least l (k, below l k);
     },
   )
     where
@@ -217,13 +202,13 @@ module _ {State Op Reply : Type 0} (p : Problem State Op Reply) where
       below [] k = tt
       below (c ∷ cs) k = let q = continuation_split p set s c cs flags k in let h = next_within p s q.0 c q.1.step in omega (arith, h, all)
 
-  pub found_least : (set : List Bool) (s : State) (i : ℕ) (t : State) (more : ℕ) (first : Option ℕ) (m : List ℕ) → length set ≡ length p.calls → Tried set s i more first → IsNext p set s i t → IsLeast (IsCompletion p (with_call set i) t) m → IsLeast (IsCompletion p set s) (i ∷ m)
-  found_least set s i t more first m flags tried is_next least = (completion_join p set s i m t flags is_next least.0, up_to)
+  pub found_least : (set : List Bool) (s : State) (i : ℕ) (t : State) (more : ℕ) (first : Option ℕ) (m : List ℕ) → length set ≡ length p.calls → IsSearchedTo p set s i more first → IsNext p set s i t → IsLeast (IsCompletion p (with_call set i) t) m → IsLeast (IsCompletion p set s) (i ∷ m)
+  found_least set s i t more first m flags searched is_next least = (completion_join p set s i m t flags is_next least.0, up_to)
     where
       up_to : (l : List ℕ) → IsCompletion p set s l → IsUpTo (i ∷ m) l
-      up_to [] k = absurd (tried.none [] k tt)
+      up_to [] k = absurd (searched.none [] k tt)
       up_to (c ∷ cs) k = elim (three c i) [
-        | inl h ↦ absurd (tried.none (c ∷ cs) k h)
+        | inl h ↦ absurd (searched.none (c ∷ cs) k h)
         | inr (inl h) ↦ inr (sym h, least.1 cs (tail cs (subst (λ (x : ℕ). IsCompletion p set s (x ∷ cs)) h k)))
         | inr (inr h) ↦ inl h
       ]
