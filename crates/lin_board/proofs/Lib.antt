@@ -1,5 +1,5 @@
-pub mod Keeps
-pub mod Allows
-pub mod Gathers
-pub mod Seats
-pub mod Settles
+pub mod RuleLemmas
+pub mod StepLemmas
+pub mod GatherLemmas
+pub mod SeatLemmas
+pub mod EndLemmas

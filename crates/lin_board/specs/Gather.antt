@@ -2,7 +2,7 @@
 use Rattle.std.specs.Prelude.{◌≡◌, ℕ, ◌+◌, List, length, All, Contains}
 use Rattle.lin_board.specs.declared.rule.View.{View}
 use Rattle.lin_board.specs.Facts.{SeatFacts}
-use Rattle.lin_lists.specs.Totals.{one_if, total, times}
+use Rattle.lin_board.specs.Lists.Totals.{one_if, total, times}
 
 -- the view of one seat
 pub record IsViewOf (v : View) (s : SeatFacts) : Type 0 where

@@ -5,8 +5,8 @@ use lib.ListN.{get_elem?}
 use Rattle.atomic_table.specs.Table.{State}
 use Rattle.lin_board.specs.declared.rule.View.{View}
 use Rattle.lin_board.specs.declared.rule.Plan.{Plan}
-use Rattle.lin_lists.specs.Totals.{total, times}
-use Rattle.lin_lists.specs.Division.{once_below}
+use Rattle.lin_board.specs.Lists.Totals.{total, times}
+use Rattle.lin_board.specs.Lists.Division.{once_below}
 
 -- the second word while nothing was found: 2^64 - 1, which is no task's number
 abbrev pub nothing_found : ℕ

@@ -4,7 +4,7 @@ use Rattle.atomic_table.specs.Seated.{TableId}
 use Rattle.lin_board.specs.declared.rule.View.{View}
 use Rattle.lin_board.specs.Facts.{SeatFacts}
 use Rattle.lin_board.specs.Steps.{Holder}
-use Rattle.lin_lists.specs.Totals.{one_if}
+use Rattle.lin_board.specs.Lists.Totals.{one_if}
 
 -- the facts of the seat that has this view at this table
 abbrev pub facts_of : TableId → View → Bool → SeatFacts

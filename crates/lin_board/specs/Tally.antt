@@ -3,8 +3,8 @@ use Rattle.std.specs.Prelude.{◌≡◌, ◌≤◌, List, [], map, length, All, 
 use Rattle.std.specs.List.{Any}
 use Rattle.lin_board.specs.declared.tally.Tally.{Tally}
 use Rattle.lin_board.specs.Facts.{BoardFacts, SeatFacts}
-use Rattle.lin_lists.specs.Totals.{total}
-use Rattle.lin_lists.specs.Division.{Divides}
+use Rattle.lin_board.specs.Lists.Totals.{total}
+use Rattle.lin_board.specs.Lists.Division.{Divides}
 
 -- what a tally says of the seats of a board, all of which are there
 pub record Tallies (board : BoardFacts) (seats : List SeatFacts) (tally : Tally) : Type 0 where

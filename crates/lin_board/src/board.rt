@@ -1,3 +1,5 @@
+//! The board: two words, and the steps of its seats on them.
+
 ghost use Rattle.std.specs.Prelude.{◌≡◌, ◌↔◌, ◌<◌, ◌≤◌, ◌^◌, ◌++◌, ◌∷◌, [], length, All, Contains, IfOk, IfErr, IfSome, IfNone, IsErr, OnSome, false, is_none, vec_len};
 ghost use Rattle.std.specs.Option.{option_to_list};
 ghost use Rattle.lin_board.specs.Board.{IsSeatOf, new_seat};
@@ -131,7 +133,8 @@ impl Board {
         ensures told { IfSome result (λ task. All (λ before. task ≤ before) seat.old.told) }
         ensures none { IfNone result ((seat.old.found ≡ []) × (seat.old.told ≡ [])) }
         ensures seat { IsSeatOf self.now seat.new }
-        ensures changed { seat.new ≡ record seat.old { told = seat.old.told ++ option_to_list result } }
+        ensures changed { seat.new ≡ record seat.old
+            { told = seat.old.told ++ option_to_list result } }
     {
         let task = self.table.shared.load::<LeastStep>(&mut seat.token, LEAST);
         if task == NOTHING_FOUND {

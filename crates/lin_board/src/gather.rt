@@ -1,3 +1,5 @@
+//! All seats' views become one, one seat at a time, when a board is closed.
+
 ghost use Rattle.std.specs.Prelude.{◌≡◌, ◌<◌, [], All};
 ghost use Rattle.lin_board.specs.Gather.{Gathered};
 

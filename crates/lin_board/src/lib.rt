@@ -16,6 +16,3 @@ mod tally;
 pub use board::Board;
 pub use seat::Seat;
 pub use tally::{SeatsMissing, Tally};
-
-#[cfg(test)]
-mod tests;

@@ -1,3 +1,5 @@
+//! A seat at a board: what a thread steps with.
+
 ghost use Rattle.std.specs.Prelude.{◌≡◌, [], All, Contains, false, length};
 ghost use Rattle.lin_board.specs.Steps.{one_part};
 ghost use Rattle.lin_board.specs.Seat.{facts_of};

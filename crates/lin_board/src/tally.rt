@@ -1,3 +1,5 @@
+//! What a board tells when it is closed.
+
 ghost use Rattle.std.specs.Prelude.{◌≡◌, ◌≢◌, min, IfSome, IfNone};
 
 use crate::board::Board;

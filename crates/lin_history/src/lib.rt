@@ -1,31 +1,19 @@
 //! Histories of concurrent objects, the part of a history on one object, and what makes an order of
 //! its calls a linearization (Herlihy and Wing 1990).
+//!
+//! Four rooms: `problems` has the part of a history on one object, which a search is given; `recorder`
+//! builds histories from their events; `locality` joins one order for each object in an order of the
+//! whole; `verifier` tells whether an order of the whole is a linearization.
 #![tactic(auto)]
 
-mod builder;
-mod fault;
-mod history;
-mod indices;
-mod joining;
-mod name;
-mod order;
-mod placed;
-mod placing;
-mod problem;
-mod timeline;
-mod verifying;
+mod limits;
+mod locality;
+mod problems;
+mod recorder;
+mod verifier;
 
-pub use builder::Builder;
-pub use fault::BuildFault;
-pub use history::{CallInfo, History, ObjectInfo};
-pub use joining::join;
-pub use name::is_name;
-pub use order::Order;
-pub use placed::{Placed, WholeOrder};
-pub use placing::place;
-pub use problem::{Problem, ProblemCall, ProblemFault};
-pub use timeline::ProblemEvent;
-pub use verifying::verify;
-
-#[cfg(test)]
-mod tests;
+pub use limits::{MAX_CALLS, MAX_CALLS_ON_OBJECT, MAX_NAME_BYTES, MAX_OBJECTS};
+pub use locality::{Placed, WholeOrder, join, place};
+pub use problems::{Order, Problem, ProblemCall, ProblemEvent, ProblemFault};
+pub use recorder::{BuildFault, Builder, CallInfo, History, ObjectInfo, is_name};
+pub use verifier::verify;

@@ -1,1 +1,2 @@
-pub mod LawsHold
+mod AnswerLemmas
+mod BoolLemmas

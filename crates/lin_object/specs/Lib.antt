@@ -1,9 +1,9 @@
 pub mod Items
 pub mod ItemLemmas
-pub mod Step
-pub mod Lawful
-pub mod Object
-pub mod Words
-pub mod Printed
-pub mod Alike
+pub mod StepAnswers
 pub mod Laws
+pub mod Names
+pub mod Runs
+pub mod Kinds
+pub mod PrintedForms
+pub mod StepLemmas

@@ -1,6 +1,8 @@
+//! The items that queues, stacks and sets hold.
 ghost use Rattle.std.specs.Prelude.{◌≡◌, ◌≤◌, ◌∷◌, [], ◌++◌, length, slice_get, int_lt, position, ◌<◌, IfSome, IfOk};
 ghost use Rattle.std.specs.List.{position_or_len};
 
+use crate::reply::Reply;
 use std::alloc::{AllocError, Global};
 use std::hash::{Hash, Hasher};
 use std::marker::Model;
@@ -84,7 +86,7 @@ fn joined(alloc: Global, front: &[i64], item: i64, behind: &[i64]) -> Result<Ite
 
 impl Items {
     ghost use Rattle.std.specs.Prelude.{drop};
-    ghost use Rattle.lin_object.specs.Items.{is_in, with_in_order, without};
+    ghost use Rattle.lin_object.specs.Items.{reply_to_first, is_in, with_in_order, without_item};
 
     /// No item. It takes no memory.
     pub fn none(alloc: Global) -> Self
@@ -124,6 +126,16 @@ impl Items {
         self.items.as_slice().first().copied()
     }
 
+    /// What taking the first item out replies: the item, or `Empty` where there is none.
+    pub(crate) fn reply_to_first(&self) -> Reply
+        ensures { result ≡ reply_to_first self.now }
+    {
+        match self.first() {
+            Some(item) => Reply::Int(item),
+            None => Reply::Empty,
+        }
+    }
+
     /// The items but the first.
     pub fn without_first(&self, alloc: Global) -> Result<Items, AllocError>
         ensures { IfOk result (λ items. items ≡ drop 1 self.now) }
@@ -153,7 +165,7 @@ impl Items {
 
     /// The items that are not this one.
     pub fn without(&self, alloc: Global, item: i64) -> Result<Items, AllocError>
-        ensures { IfOk result (λ items. items ≡ without item self.now) }
+        ensures { IfOk result (λ items. items ≡ without_item item self.now) }
     {
         let mut items = Vec::from_slice(alloc, self.items.as_slice())?;
         items.retain(|other| *other != item);

@@ -1,5 +1,7 @@
+//! The kinds of object, by name.
 ghost use Rattle.std.specs.Prelude.{◌≡◌};
-ghost use Rattle.lin_object.specs.Words.{beside, kinds};
+ghost use Rattle.lin_object.specs.Names.{beside};
+ghost use Rattle.lin_object.specs.Kinds.{kind_names, starts_with_number};
 
 /// The kinds of object that a history may declare.
 #[derive(Clone, Copy, PartialEq, Eq, Hash, Debug)]
@@ -18,9 +20,21 @@ pub enum Kind {
     Mutex,
 }
 
+impl Kind {
+    /// Whether a declaration of the kind may say with which number its object starts.
+    pub fn starts_with_number(self) -> bool
+        ensures { result ≡ starts_with_number self }
+    {
+        match self {
+            Kind::Register | Kind::Counter => true,
+            Kind::Queue | Kind::Stack | Kind::Set | Kind::Mutex => false,
+        }
+    }
+}
+
 /// The kind that a declaration calls by this name; `None` where there is none.
 pub fn kind_of_name(name: &str) -> Option<Kind>
-    ensures { result ≡ beside kinds name.now }
+    ensures { result ≡ beside kind_names name.now }
 {
     match name {
         "register" => Some(Kind::Register),

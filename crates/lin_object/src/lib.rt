@@ -1,12 +1,20 @@
 //! Sequential objects: what each operation does to a state, and what it replies.
 //!
-//! `SeqObject` is the trait that the search is generic over, with its laws; `AnyObject` is the object
-//! whose tables the checker judges histories by.
+//! - `object`: the trait `SeqObject`, which the search is generic over, and its laws.
+//! - `any`: `AnyObject`, the object that the checker judges histories by. It lists the kinds.
+//! - `kinds`: a file for each kind, with its operations by name and what each of them does.
+//! - `kind`, `op`, `reply`, `state`: what declarations, calls and returns are made of.
+//! - `items`: the items that queues, stacks and sets hold.
+//!
+//! `specs/Kinds` has a file for each kind too, with its table and the law of its runs, and
+//! `proofs/kinds` shows that the table keeps the law. One kind more is one file in each of the
+//! three, and a line in each list of the kinds.
 #![tactic(auto)]
 
 mod any;
 mod items;
 mod kind;
+mod kinds;
 mod object;
 mod op;
 mod reply;
@@ -15,10 +23,13 @@ mod state;
 pub use any::AnyObject;
 pub use items::Items;
 pub use kind::{Kind, kind_of_name};
+pub use kinds::counter::counter_law;
+pub use kinds::mutex::mutex_law;
+pub use kinds::queue::queue_law;
+pub use kinds::register::register_law;
+pub use kinds::set::set_law;
+pub use kinds::stack::stack_law;
 pub use object::{SeqObject, SharedObject, lawful};
 pub use op::{Op, OpFault, is_op, read_op, write_op};
 pub use reply::{Reply, write_reply};
 pub use state::{ObjState, start_state};
-
-#[cfg(test)]
-mod tests;

@@ -1,6 +1,7 @@
-ghost use Rattle.std.specs.Prelude.{◌≡◌, ℕ, Bool, true, Option, IfOk};
-ghost use Rattle.lin_object.specs.Step.{SameStep, state_with};
-ghost use Rattle.lin_object.specs.Lawful.{IsLawful};
+//! What a sequential object is: the trait that the search is generic over, with its laws.
+ghost use Rattle.std.specs.Prelude.{◌≡◌, ℕ, Bool, true, Option, IfOk, IfErr};
+ghost use Rattle.lin_object.specs.StepAnswers.{SameStep, state_with};
+ghost use Rattle.lin_object.specs.Laws.{IsLawful};
 
 use std::alloc::{AllocError, Global};
 use std::hash::Hash;
@@ -22,6 +23,10 @@ pub trait SeqObject: Eq + Drop {
     // The state after an operation of a process, and its reply; none where it has no step.
     ghost after: { Self → Self.State → ℕ → Self.Op → Option (Self.State × Self.Reply) };
 
+    // Whether a step from the state, or a copy of it, may take memory. Where an object does not
+    // say, each may.
+    ghost may_allocate: { Self.State → Bool } = { λ _. true };
+
     /// Applies an operation of a process to a state: the next state and the reply, or `None` where the
     /// object has no step. `AllocError` where memory for the next state was refused.
     fn step(
@@ -31,7 +36,8 @@ pub trait SeqObject: Eq + Drop {
         process: u32,
         op: &Self::Op,
     ) -> Result<Option<(Self::State, Self::Reply)>, AllocError>
-        ensures { IfOk result (λ answer. answer ≡ after self.now state.now process op.now) };
+        ensures answer { IfOk result (λ answer. answer ≡ after self.now state.now process op.now) }
+        ensures memory { IfErr result (λ _. may_allocate state.now ≡ true) };
 
     /// The next state, where the object has a step whose reply equals this one; `None` where it has none.
     /// `AllocError` where memory for the next state was refused.
@@ -46,7 +52,9 @@ pub trait SeqObject: Eq + Drop {
         op: &Self::Op,
         reply: &Self::Reply,
     ) -> Result<Option<Self::State>, AllocError>
-        ensures { IfOk result (λ answer. answer ≡ state_with Self.Reply.eq reply.now (after self.now state.now process op.now)) }
+        ensures answer { IfOk result (λ answer.
+            answer ≡ state_with Self.Reply.eq reply.now (after self.now state.now process op.now)) }
+        ensures memory { IfErr result (λ _. may_allocate state.now ≡ true) }
     {
         let Some((next, answered)) = self.step(alloc, state, process, op)? else {
             return Ok(None);
@@ -60,10 +68,13 @@ pub trait SeqObject: Eq + Drop {
 
     /// A state equal to this one. `AllocError` where memory for it was refused.
     fn copy_state(&self, alloc: Global, state: &Self::State) -> Result<Self::State, AllocError>
-        ensures { IfOk result (λ copy. Self.State.eq copy state.now ≡ true) };
+        ensures copy { IfOk result (λ copy. Self.State.eq copy state.now ≡ true) }
+        ensures memory { IfErr result (λ _. may_allocate state.now ≡ true) };
 
     // Equal objects step alike on equal states and equal operations.
-    ghost steps_alike: { (x y : Self) (s t : Self.State) (process : ℕ) (a b : Self.Op) → Self.eq x y ≡ true → Self.State.eq s t ≡ true → Self.Op.eq a b ≡ true → SameStep Self.State.eq Self.Reply.eq (after x s process a) (after y t process b) };
+    ghost steps_alike: { (x y : Self) (s t : Self.State) (process : ℕ) (a b : Self.Op) →
+        Self.eq x y ≡ true → Self.State.eq s t ≡ true → Self.Op.eq a b ≡ true →
+        SameStep Self.State.eq Self.Reply.eq (after x s process a) (after y t process b) };
 }
 
 /// A sequential object that several threads may use at one time. Every `SeqObject` that can be is one.

@@ -1,8 +1,11 @@
+//! Operations: what a call asks of an object, by name and as reports show it.
 ghost use Rattle.std.specs.Prelude.{◌≡◌, ◌++◌, OnOk, OnErr, is_some};
-ghost use Rattle.lin_object.specs.Words.{beside, operations, op_with, op_read};
-ghost use Rattle.lin_object.specs.Printed.{op_text};
+ghost use Rattle.lin_object.specs.Names.{beside};
+ghost use Rattle.lin_object.specs.Kinds.{operations, op_with, op_read};
+ghost use Rattle.lin_object.specs.PrintedForms.{op_name, op_text};
 
 use crate::kind::Kind;
+use crate::kinds::{counter, mutex, queue, register, set, stack};
 use std::alloc::{AllocError, Global};
 use std::fmt;
 
@@ -50,29 +53,50 @@ pub enum OpFault {
     BadArgs,
 }
 
+impl Op {
+    // The name by which calls and reports have the operation.
+    fn name(&self) -> &'static str
+        ensures { result.now ≡ op_name self.now }
+    {
+        match self {
+            Op::Write(_) => "write",
+            Op::Read => "read",
+            Op::Cas(..) => "cas",
+            Op::Add(_) | Op::Insert(_) => "add",
+            Op::Get => "get",
+            Op::Enqueue(_) => "enq",
+            Op::Dequeue => "deq",
+            Op::Push(_) => "push",
+            Op::Pop => "pop",
+            Op::Remove(_) => "remove",
+            Op::Contains(_) => "contains",
+            Op::Lock => "lock",
+            Op::Unlock => "unlock",
+            Op::TryLock => "try_lock",
+        }
+    }
+}
+
 impl fmt::Display for Op {
     ghost use Rattle.std.specs.Prelude.{Some};
-    ghost use Rattle.lin_object.specs.Printed.{op_text};
+    ghost use Rattle.lin_object.specs.PrintedForms.{op_text};
 
     ghost output = { λ op. Some (op_text op) };
 
     fn fmt<W: fmt::Write>(&self, f: &mut fmt::Formatter<W>) -> fmt::Result {
+        let name = self.name();
         match self {
-            Op::Write(value) => write!(f, "write({value})"),
-            Op::Read => write!(f, "read()"),
-            Op::Cas(from, to) => write!(f, "cas({from},{to})"),
-            Op::Add(difference) => write!(f, "add({difference})"),
-            Op::Get => write!(f, "get()"),
-            Op::Enqueue(item) => write!(f, "enq({item})"),
-            Op::Dequeue => write!(f, "deq()"),
-            Op::Push(item) => write!(f, "push({item})"),
-            Op::Pop => write!(f, "pop()"),
-            Op::Insert(item) => write!(f, "add({item})"),
-            Op::Remove(item) => write!(f, "remove({item})"),
-            Op::Contains(item) => write!(f, "contains({item})"),
-            Op::Lock => write!(f, "lock()"),
-            Op::Unlock => write!(f, "unlock()"),
-            Op::TryLock => write!(f, "try_lock()"),
+            Op::Read | Op::Get | Op::Dequeue | Op::Pop | Op::Lock | Op::Unlock | Op::TryLock => {
+                write!(f, "{name}()")
+            }
+            Op::Cas(from, to) => write!(f, "{name}({from},{to})"),
+            Op::Write(value)
+            | Op::Add(value)
+            | Op::Enqueue(value)
+            | Op::Push(value)
+            | Op::Insert(value)
+            | Op::Remove(value)
+            | Op::Contains(value) => write!(f, "{name}({value})"),
         }
     }
 }
@@ -82,41 +106,31 @@ pub fn is_op(kind: Kind, name: &str) -> bool
     ensures { result ≡ is_some (beside (operations kind) name.now) }
 {
     match kind {
-        Kind::Register => matches!(name, "write" | "read" | "cas"),
-        Kind::Counter => matches!(name, "add" | "get"),
-        Kind::Queue => matches!(name, "enq" | "deq"),
-        Kind::Stack => matches!(name, "push" | "pop"),
-        Kind::Set => matches!(name, "add" | "remove" | "contains"),
-        Kind::Mutex => matches!(name, "lock" | "unlock" | "try_lock"),
+        Kind::Register => register::has_op(name),
+        Kind::Counter => counter::has_op(name),
+        Kind::Queue => queue::has_op(name),
+        Kind::Stack => stack::has_op(name),
+        Kind::Set => set::has_op(name),
+        Kind::Mutex => mutex::has_op(name),
     }
 }
 
-// The operation, where the name is one of the kind's and it takes so many arguments.
+// The operation of a kind with this name and these arguments, where there is one.
 fn op_with(kind: Kind, name: &str, args: &[i64]) -> Option<Op>
     ensures { result ≡ op_with kind name.now args.now }
 {
-    match (kind, name, args) {
-        (Kind::Register, "write", [value]) => Some(Op::Write(*value)),
-        (Kind::Register, "read", []) => Some(Op::Read),
-        (Kind::Register, "cas", [from, to]) => Some(Op::Cas(*from, *to)),
-        (Kind::Counter, "add", [difference]) => Some(Op::Add(*difference)),
-        (Kind::Counter, "get", []) => Some(Op::Get),
-        (Kind::Queue, "enq", [item]) => Some(Op::Enqueue(*item)),
-        (Kind::Queue, "deq", []) => Some(Op::Dequeue),
-        (Kind::Stack, "push", [item]) => Some(Op::Push(*item)),
-        (Kind::Stack, "pop", []) => Some(Op::Pop),
-        (Kind::Set, "add", [item]) => Some(Op::Insert(*item)),
-        (Kind::Set, "remove", [item]) => Some(Op::Remove(*item)),
-        (Kind::Set, "contains", [item]) => Some(Op::Contains(*item)),
-        (Kind::Mutex, "lock", []) => Some(Op::Lock),
-        (Kind::Mutex, "unlock", []) => Some(Op::Unlock),
-        (Kind::Mutex, "try_lock", []) => Some(Op::TryLock),
-        _ => None,
+    match kind {
+        Kind::Register => register::op_with(name, args),
+        Kind::Counter => counter::op_with(name, args),
+        Kind::Queue => queue::op_with(name, args),
+        Kind::Stack => stack::op_with(name, args),
+        Kind::Set => set::op_with(name, args),
+        Kind::Mutex => mutex::op_with(name, args),
     }
 }
 
-/// The operation of a kind, by its name and its arguments. Refusals, in order: `BadOp` where the kind has no operation
-/// of that name, `BadArgs` where it takes another number of arguments.
+/// The operation of a kind, by its name and its arguments. Refusals, in order: `BadOp` where the
+/// kind has no operation of that name, `BadArgs` where it takes another number of arguments.
 pub fn read_op(kind: Kind, name: &str, args: &[i64]) -> Result<Op, OpFault>
     ensures { result ≡ op_read kind name.now args.now }
 {

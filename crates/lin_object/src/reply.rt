@@ -1,5 +1,6 @@
+//! Replies: what calls answer, as reports show it.
 ghost use Rattle.std.specs.Prelude.{◌≡◌, ◌++◌, OnOk, OnErr};
-ghost use Rattle.lin_object.specs.Printed.{reply_text};
+ghost use Rattle.lin_object.specs.PrintedForms.{reply_text};
 
 use std::alloc::{AllocError, Global};
 use std::fmt;
@@ -19,7 +20,7 @@ pub enum Reply {
 
 impl fmt::Display for Reply {
     ghost use Rattle.std.specs.Prelude.{Some};
-    ghost use Rattle.lin_object.specs.Printed.{reply_text};
+    ghost use Rattle.lin_object.specs.PrintedForms.{reply_text};
 
     ghost output = { λ reply. Some (reply_text reply) };
 

@@ -1,5 +1,6 @@
+//! The states of objects, and where each kind starts.
 ghost use Rattle.std.specs.Prelude.{◌≡◌};
-ghost use Rattle.lin_object.specs.Object.{state_at_start};
+ghost use Rattle.lin_object.specs.Kinds.{state_at_start};
 
 use crate::items::Items;
 use crate::kind::Kind;
@@ -22,7 +23,8 @@ pub enum ObjState {
     Mutex(Option<u32>),
 }
 
-/// The state in which an object of the kind starts. `number` counts for registers and counters alone. It takes no memory.
+/// The state in which an object of the kind starts. `number` counts where the kind starts with a
+/// number, and nowhere else. It takes no memory.
 pub fn start_state(alloc: Global, kind: Kind, number: i64) -> ObjState
     ensures { result ≡ state_at_start kind number }
 {

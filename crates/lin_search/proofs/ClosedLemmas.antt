@@ -1,30 +1,23 @@
 use Rattle.std.proofs.Common.{not, ◌≡◌, ℕ, zero, suc, ◌+◌, ◌<◌, ◌≤◌, Bool, true, false, List, [], ◌∷◌, length, replicate, ◌⊎◌, inl, inr, refl, sym, ◌∙◌, ap, subst, arith}
 use Rattle.std.proofs.lemmas.List.{length-set}
-use Rattle.lin_history.specs.Posed.{Posed}
-use Rattle.lin_history.specs.Lists.{In}
-use Rattle.lin_history.specs.Legal.{Legal}
-use Rattle.lin_history.specs.Continuations.{has, IsContinuation, no_calls}
-use Rattle.lin_history.specs.Configurations.{IsReachable}
+use Rattle.lin_history.specs.Problems.Problem.{Problem}
+use Rattle.lin_history.specs.Problems.Lists.{In}
+use Rattle.lin_history.specs.Problems.LegalLists.{Legal}
+use Rattle.lin_history.specs.Problems.Continuations.{has, IsContinuation, no_calls}
+use Rattle.lin_history.specs.Problems.Configurations.{IsReachable}
 use Rattle.lin_search.specs.CallSet.{with_call, with_calls}
 use Rattle.lin_search.specs.Next.{IsNext}
 use Rattle.lin_search.specs.declared.longest.Longest.{Longest}
-use Rattle.lin_search.specs.declared.outcome.Outcome.{Outcome}
-use Rattle.lin_search.specs.declared.outcome.Outcome.TheVariants.{Found, Refuted, Undecided, Stopped}
 use Rattle.lin_search.specs.Configuration.{Configuration}
-use Rattle.lin_search.specs.Answer.{IsRefutation}
 use Rattle.lin_search.specs.Closed.{IsClosed}
-use Rattle.lin_search.specs.DepthFirst.{EndsClosed}
+use Rattle.lin_search.specs.Progress.{HoldsBelow}
 use Rattle.lin_search.specs.Store.{Holds}
 use Rattle.lin_search.specs.FirstCallLemmas.{continuation_split, next_within, next_one}
 use Rattle.lin_search.specs.CallSetLemmas.{has_same, has_with, has_still}
 use Rattle.lin_search.specs.AlikeLemmas.{AreAlike}
 
-module _ {State Op Reply : Type 0} (p : Posed State Op Reply) where
-  -- what each call below i leads to is held
-  abbrev pub Followed : (List Bool → State → Type 0) → List Bool → State → ℕ → Type 0
-  Followed holds set s i = (c : ℕ) → c < i → (t : State) → IsNext p set s c t → holds (with_call set c) t
-
-  pub followed_start : (holds : List Bool → State → Type 0) (set : List Bool) (s : State) → Followed holds set s 0
+module _ {State Op Reply : Type 0} (p : Problem State Op Reply) where
+  pub followed_start : (holds : List Bool → State → Type 0) (set : List Bool) (s : State) → HoldsBelow p holds set s 0
   followed_start holds set s c h = absurd (omega (arith, h))
 
   last_or_less : (c i : ℕ) → c < i + 1 → (c < i) ⊎ (c ≡ i)
@@ -34,21 +27,21 @@ module _ {State Op Reply : Type 0} (p : Posed State Op Reply) where
   less_or_not c i = grind arith
 
   -- calls that can't follow are passed over
-  pub followed_to : (holds : List Bool → State → Type 0) (set : List Bool) (s : State) (i j : ℕ) → Followed holds set s i → ((c : ℕ) → i ≤ c → c < j → (t : State) → IsNext p set s c t → ⊥) → Followed holds set s j
+  pub followed_to : (holds : List Bool → State → Type 0) (set : List Bool) (s : State) (i j : ℕ) → HoldsBelow p holds set s i → ((c : ℕ) → i ≤ c → c < j → (t : State) → IsNext p set s c t → ⊥) → HoldsBelow p holds set s j
   followed_to holds set s i j k none c h t n = elim (less_or_not c i) [ inl q ↦ k c q t n | inr q ↦ absurd (none c q h t n) ]
 
   -- one call that can't follow is passed over
-  pub followed_one : (holds : List Bool → State → Type 0) (set : List Bool) (s : State) (i : ℕ) → Followed holds set s i → ((t : State) → IsNext p set s i t → ⊥) → Followed holds set s (i + 1)
+  pub followed_one : (holds : List Bool → State → Type 0) (set : List Bool) (s : State) (i : ℕ) → HoldsBelow p holds set s i → ((t : State) → IsNext p set s i t → ⊥) → HoldsBelow p holds set s (i + 1)
   followed_one holds set s i k none c h t n = elim (last_or_less c i h) [ inl q ↦ k c q t n | inr q ↦ absurd (none t (subst (λ (x : ℕ). IsNext p set s x t) q n)) ]
 
-  pub followed_next : (old new : List Bool → State → Type 0) (set : List Bool) (s : State) (i : ℕ) (u : State) → ((set : List Bool) (s : State) → old set s → new set s) → Followed old set s i → IsNext p set s i u → new (with_call set i) u → Followed new set s (i + 1)
+  pub followed_next : (old new : List Bool → State → Type 0) (set : List Bool) (s : State) (i : ℕ) (u : State) → ((set : List Bool) (s : State) → old set s → new set s) → HoldsBelow p old set s i → IsNext p set s i u → new (with_call set i) u → HoldsBelow p new set s (i + 1)
   followed_next old new set s i u lasting k is_next held c h t n =
       elim (last_or_less c i h) [
         | inl q ↦ lasting (with_call set c) t (k c q t n)
         | inr q ↦ (let m = subst (λ (x : ℕ). IsNext p set s x t) q n in rw (q, next_one p set s i t u m is_next) held)
       ]
 
-  pub followed_all : (holds : List Bool → State → Type 0) (set : List Bool) (s : State) (i : ℕ) → i ≡ length p.calls → Followed holds set s i → (c : ℕ) (t : State) → IsNext p set s c t → holds (with_call set c) t
+  pub followed_all : (holds : List Bool → State → Type 0) (set : List Bool) (s : State) (i : ℕ) → i ≡ length p.calls → HoldsBelow p holds set s i → (c : ℕ) (t : State) → IsNext p set s c t → holds (with_call set c) t
   followed_all holds set s i e k c t n = let h = next_within p s t c n.step in k c (omega (arith, e, h)) t n
 
   pub closed_look : (old new : List Bool → State → Type 0) → ((set : List Bool) (s : State) → new set s → old set s) → ((set : List Bool) (s : State) → old set s → new set s) → IsClosed p old → IsClosed p new
@@ -78,7 +71,7 @@ same_flags (false ∷ a) (false ∷ b) e h = ap (λ (l : List Bool). false ∷ l
 same_flags (true ∷ a) (false ∷ b) e h = absurd (let q = (h 0).0 refl in cc)
 same_flags (false ∷ a) (true ∷ b) e h = absurd (let q = (h 0).1 refl in cc)
 
-module _ {State Op Reply : Type 0} (p : Posed State Op Reply) where
+module _ {State Op Reply : Type 0} (p : Problem State Op Reply) where
   legal_one : (l : List ℕ) (s t u : State) → Legal p s l t → Legal p s l u → t ≡ u
   legal_one [] s t u a b = sym a ∙ b
   legal_one (c ∷ cs) s t u a b =
@@ -145,15 +138,9 @@ module _ {State Op Reply : Type 0} (p : Posed State Op Reply) where
       at_equal set run.3.0 s run.3.2 (rw (← flags, ← ends) r.2)
 
 -- a store with nothing is closed
-pub closed_empty : {State Op Reply : Type 0} (p : Posed State Op Reply) (es : List (Configuration State × Longest)) → es ≡ [] → IsClosed p (Holds p.same_state es)
+pub closed_empty : {State Op Reply : Type 0} (p : Problem State Op Reply) (es : List (Configuration State × Longest)) → es ≡ [] → IsClosed p (Holds p.same_state es)
 closed_empty p es e set s h = absurd (rw e at h)
 
 pub was_true : (b : Bool) → not b ≡ false → b ≡ true
 was_true true e = refl
 was_true false e = sym e
-
-pub refuted_closed : {State Op Reply : Type 0} (p : Posed State Op Reply) (old new : List Bool → State → Type 0) (set : List Bool) (s : State) (o : Outcome) → EndsClosed p old new set s o → IsRefutation o → IsClosed p old → IsClosed p new × new set s
-refuted_closed p old new set s (Found order) k r = absurd r
-refuted_closed p old new set s (Refuted longest) k r = k
-refuted_closed p old new set s Undecided k r = absurd r
-refuted_closed p old new set s (Stopped told) k r = absurd r

@@ -4,13 +4,13 @@ use Rattle.std.specs.Prelude.{IsSomeAnd, is_some}
 use Rattle.std.specs.List.{slice_get}
 use Rattle.std.proofs.lemmas.Option.{slice_get_within, get_or_from_slice_get, same_Some}
 use Rattle.std.proofs.lemmas.List.{length-set, length-replicate, length_push, take_at}
-use Rattle.lin_history.specs.declared.problem.ProblemCall.{ProblemCall}
-use Rattle.lin_history.specs.declared.timeline.ProblemEvent.{ProblemEvent}
-use Rattle.lin_history.specs.declared.timeline.ProblemEvent.TheVariants.{Call, Return}
-use Rattle.lin_history.specs.Posed.{Posed}
-use Rattle.lin_history.specs.Precedence.{Before, IsCompleted}
-use Rattle.lin_history.specs.Timeline.{IsTimeline}
-use Rattle.lin_history.specs.Continuations.{has, no_calls}
+use Rattle.lin_history.specs.declared.problems.problem.ProblemCall.{ProblemCall}
+use Rattle.lin_history.specs.declared.problems.timeline.ProblemEvent.{ProblemEvent}
+use Rattle.lin_history.specs.declared.problems.timeline.ProblemEvent.TheVariants.{Call, Return}
+use Rattle.lin_history.specs.Problems.Problem.{Problem}
+use Rattle.lin_history.specs.Problems.Precedence.{Before, IsCompleted}
+use Rattle.lin_history.specs.Problems.Timeline.{IsTimeline}
+use Rattle.lin_history.specs.Problems.Continuations.{has, no_calls}
 use Rattle.lin_search.specs.CallSet.{with_call, with_calls, lifted_set}
 use Rattle.lin_search.specs.CallSetLemmas.{same_or_not, true_or_false, has_same, has_other}
 use Rattle.lin_search.specs.Next.{HasEveryCompleted}
@@ -42,7 +42,7 @@ has_none (suc n) (suc c) = has_none n c
 true_false : (b : Bool) → b ≡ true → b ≡ false → ⊥
 true_false b e f = cc
 
-module _ {State Op Reply : Type 0} (p : Posed State Op Reply) where
+module _ {State Op Reply : Type 0} (p : Problem State Op Reply) where
   lifted_last : (set : List Bool) (l : List ℕ) (c : ℕ) → AreLifted p set l → c < length p.calls → has (with_calls set l) c ≡ false → AreLifted p set (l ++ c ∷ [])
   lifted_last set [] c k h out = (h, out, tt)
   lifted_last set (d ∷ l) c k h out = (k.0, k.1, lifted_last (with_call set d) l c k.2 h out)
@@ -69,7 +69,7 @@ out_within [] = omega arith
 out_within (true ∷ set) = let r = out_within set in omega (arith, r)
 out_within (false ∷ set) = let r = out_within set in omega (arith, r)
 
-module _ {State Op Reply : Type 0} (p : Posed State Op Reply) where
+module _ {State Op Reply : Type 0} (p : Problem State Op Reply) where
   out_lifted : (set : List Bool) (l : List ℕ) → length set ≡ length p.calls → AreLifted p set l → count_out (with_calls set l) + length l ≡ count_out set
   out_lifted set [] n k = omega arith
   out_lifted set (c ∷ l) n k =
@@ -152,7 +152,7 @@ some_and (Some x) P h = (x, refl, h)
 and_some : {A : Type 0} (o : Option A) (P : A → Type 0) (x : A) → o ≡ Some x → P x → IsSomeAnd o P
 and_some o P x e h = rw e h
 
-module _ {State Op Reply : Type 0} (p : Posed State Op Reply) (set : List Bool) (n : length set ≡ length p.calls) where
+module _ {State Op Reply : Type 0} (p : Problem State Op Reply) (set : List Bool) (n : length set ≡ length p.calls) where
   pub all_completed : count_left p.calls set ≡ 0 → HasEveryCompleted p set
   all_completed z c h = let x = some_and (slice_get p.calls c) (λ x. IsSome x.returned) h in every_left p.calls set c x.0 n z x.1 x.2
 
@@ -227,7 +227,7 @@ pub record IsLiftedOnce (events : List ProblemEvent) (places : Places) (set : Li
   pub can_put_call : HasLinks (with_return m o) a
   pub back : with_entry (with_return m o) a ≡ l
 
-module _ {State Op Reply : Type 0} (p : Posed State Op Reply) (events : List ProblemEvent) (places : Places) (timeline : IsTimeline p events) (are_places : ArePlaces (length p.calls) events places) (set : List Bool) (n : length set ≡ length p.calls) (l : Linked) (linked : IsLinked (length events) (Here events set) l) (c : ℕ) (within : c < length p.calls) (outside : has set c ≡ false) (i : ℕ) (at : slice_get events i ≡ Some (Call c)) (a : ℕ) (a_is : a ≡ i + 1) where
+module _ {State Op Reply : Type 0} (p : Problem State Op Reply) (events : List ProblemEvent) (places : Places) (timeline : IsTimeline p events) (are_places : ArePlaces (length p.calls) events places) (set : List Bool) (n : length set ≡ length p.calls) (l : Linked) (linked : IsLinked (length events) (Here events set) l) (c : ℕ) (within : c < length p.calls) (outside : has set c ≡ false) (i : ℕ) (at : slice_get events i ≡ Some (Call c)) (a : ℕ) (a_is : a ≡ i + 1) where
   low : 0 < a
   low = omega (arith, a_is)
 
@@ -344,7 +344,7 @@ module _ {State Op Reply : Type 0} (p : Posed State Op Reply) (events : List Pro
   by_return (Some (Some b)) e = let k = are_places.only c b e in once_completed k.0 k.2 b k.1
 
 -- the links without one call more
-module _ {State Op Reply : Type 0} (p : Posed State Op Reply) (events : List ProblemEvent) (places : Places) (timeline : IsTimeline p events) (are_places : ArePlaces (length p.calls) events places) where
+module _ {State Op Reply : Type 0} (p : Problem State Op Reply) (events : List ProblemEvent) (places : Places) (timeline : IsTimeline p events) (are_places : ArePlaces (length p.calls) events places) where
   call_place : (c : ℕ) → c < length p.calls → (i : ℕ) × (slice_get events i ≡ Some (Call c)) × (get_or places.called c 0 ≡ i + 1)
   call_place c h = let i = timeline.called c h in (i.0, i.1, get_or_from_slice_get places.called c (i.0 + 1) 0 (are_places.called i.0 c i.1))
 
@@ -375,7 +375,7 @@ module _ {State Op Reply : Type 0} (p : Posed State Op Reply) (events : List Pro
 
 -- ---- the entries, call after call
 
-module _ {State Op Reply : Type 0} (p : Posed State Op Reply) (events : List ProblemEvent) (places : Places) (links : Linked) (lifted : List ℕ) (room left : ℕ) (entries : AreEntries p events places links lifted room left) where
+module _ {State Op Reply : Type 0} (p : Problem State Op Reply) (events : List ProblemEvent) (places : Places) (links : Linked) (lifted : List ℕ) (room left : ℕ) (entries : AreEntries p events places links lifted room left) where
   pub now_linked : IsLinked (length events) (Here events (lifted_set p lifted)) links
   now_linked =
       let k = entries.are_linked in
@@ -425,7 +425,7 @@ module _ {State Op Reply : Type 0} (p : Posed State Op Reply) (events : List Pro
     }
 
 -- the entries after a call is unlifted
-module _ {State Op Reply : Type 0} (p : Posed State Op Reply) (events : List ProblemEvent) (places : Places) (links : Linked) (lifted before : List ℕ) (c room left : ℕ) (last : lifted ≡ before ++ c ∷ []) (entries : AreEntries p events places links lifted room left) where
+module _ {State Op Reply : Type 0} (p : Problem State Op Reply) (events : List ProblemEvent) (places : Places) (links : Linked) (lifted before : List ℕ) (c room left : ℕ) (last : lifted ≡ before ++ c ∷ []) (entries : AreEntries p events places links lifted room left) where
   was_lifted : AreLifted p (no_calls p) before × (c < length p.calls) × (has (lifted_set p before) c ≡ false)
   was_lifted = let P : List ℕ → Type 0 = λ l. AreLifted p (no_calls p) l in lifted_before p (no_calls p) before c (subst P last entries.are_lifted)
 
@@ -487,7 +487,7 @@ not_same i j h ne = omega (arith, h, ne)
 call_or_return : (c d : ℕ) → Call c ≡ Return d → ⊥
 call_or_return c d e = cc
 
-module _ {State Op Reply : Type 0} (p : Posed State Op Reply) (events : List ProblemEvent) (places : Places) (links : Linked) (lifted : List ℕ) (room left : ℕ) (entries : AreEntries p events places links lifted room left) where
+module _ {State Op Reply : Type 0} (p : Problem State Op Reply) (events : List ProblemEvent) (places : Places) (links : Linked) (lifted : List ℕ) (room left : ℕ) (entries : AreEntries p events places links lifted room left) where
   abbrev set : List Bool
   set = lifted_set p lifted
 
@@ -635,7 +635,7 @@ module _ {State Op Reply : Type 0} (p : Posed State Op Reply) (events : List Pro
       omega (arith, k)
 
 -- the entries of all calls
-pub entries_start : {State Op Reply : Type 0} (p : Posed State Op Reply) (events : List ProblemEvent) (places : Places) (links : Linked) (lifted : List ℕ) (room left : ℕ) → IsTimeline p events → ArePlaces (length p.calls) events places → IsRow (length events) links → lifted ≡ [] → length p.calls ≤ room → left ≡ count_completed p.calls → AreEntries p events places links lifted room left
+pub entries_start : {State Op Reply : Type 0} (p : Problem State Op Reply) (events : List ProblemEvent) (places : Places) (links : Linked) (lifted : List ℕ) (room left : ℕ) → IsTimeline p events → ArePlaces (length p.calls) events places → IsRow (length events) links → lifted ≡ [] → length p.calls ≤ room → left ≡ count_completed p.calls → AreEntries p events places links lifted room left
 entries_start p events places links lifted room left timeline are_places row none fits count = record {
   timeline = timeline;
   are_places = are_places;
@@ -656,7 +656,7 @@ completed_more calls i x e =
     let at : i + 1 ≡ suc i = omega arith in
     completed_rest calls i x e ∙ sym (ap (λ (k : ℕ). one_completed (is_some x.returned) + count_completed (drop k calls)) at)
 
-pub completed_within : {State Op Reply : Type 0} (p : Posed State Op Reply) (a : ℕ) → IsCompleted p a → a < length p.calls
+pub completed_within : {State Op Reply : Type 0} (p : Problem State Op Reply) (a : ℕ) → IsCompleted p a → a < length p.calls
 completed_within p a h = let x = some_and (slice_get p.calls a) (λ x. IsSome x.returned) h in slice_get_within p.calls a x.0 x.1
 
 -- what is left of a list after its last call is taken off

@@ -1,8 +1,8 @@
 -- A set of calls that is filled up to another, call by call.
 use Rattle.std.proofs.Common.{◌≡◌, ◌≢◌, ℕ, zero, suc, ◌+◌, ◌<◌, ◌≤◌, Bool, true, false, List, [], ◌∷◌, ◌++◌, length, replicate, ◌⊎◌, inl, inr, refl, sym, ◌∙◌, arith}
 use Rattle.std.proofs.lemmas.List.{length-set}
-use Rattle.lin_history.specs.Posed.{Posed}
-use Rattle.lin_history.specs.Continuations.{has, no_calls}
+use Rattle.lin_history.specs.Problems.Problem.{Problem}
+use Rattle.lin_history.specs.Problems.Continuations.{has, no_calls}
 use Rattle.lin_search.specs.CallSet.{with_call, with_calls}
 use Rattle.lin_search.specs.Entries.{Lifting}
 use Rattle.lin_search.specs.CallSetLemmas.{has_same, has_other, with_append}
@@ -61,6 +61,6 @@ filled_all set whole n e k =
     same_everywhere set whole k.flags (λ c. elim (less_or_not c n) [ inl h ↦ k.seen c h | inr h ↦ k.unseen c h ∙ sym (past_end whole c (omega (arith, h, e))) ])
 
 -- a call of the other set is lifted from the entries
-pub filled_lifted : {Object State Op Reply : Type 0} (p : Posed State Op Reply) (e was : Lifting Object State Op Reply) (whole : List Bool) (c : ℕ) → e ≡ record { problem = was.problem; lifted = was.lifted ++ c ∷ [] } → c < length whole → has whole c ≡ true → IsFilledTo (with_calls (no_calls p) was.lifted) whole c → IsFilledTo (with_calls (no_calls p) e.lifted) whole (c + 1)
+pub filled_lifted : {Object State Op Reply : Type 0} (p : Problem State Op Reply) (e was : Lifting Object State Op Reply) (whole : List Bool) (c : ℕ) → e ≡ record { problem = was.problem; lifted = was.lifted ++ c ∷ [] } → c < length whole → has whole c ≡ true → IsFilledTo (with_calls (no_calls p) was.lifted) whole c → IsFilledTo (with_calls (no_calls p) e.lifted) whole (c + 1)
 filled_lifted p e was whole c now within there k =
     rw (now, with_append (no_calls p) was.lifted (c ∷ [])) (filled_more (with_calls (no_calls p) was.lifted) whole c within there k)

@@ -1,4 +1,4 @@
-pub mod Tried
+pub mod ProgressLemmas
 pub mod LookupLemmas
 pub mod ClosedLemmas
 pub mod LinksLemmas
@@ -6,7 +6,7 @@ pub mod PlacesLemmas
 pub mod EntriesLemmas
 pub mod SizeLemmas
 pub mod RunLemmas
-pub mod FrameLemmas
+pub mod PathLemmas
 pub mod FilledLemmas
 pub mod TotalLemmas
 pub mod WindowLemmas

@@ -7,7 +7,7 @@ use lib.Pointwise.{pointwise}
 use mathlib.Core.Bool.{beq}
 use Rattle.indexmap.specs.IndexMap.{insert_entry}
 use Rattle.indexmap.proofs.MapLemmas.{insert_entry-absent, absent_from_lookup}
-use Rattle.lin_history.specs.Posed.{Posed}
+use Rattle.lin_history.specs.Problems.Problem.{Problem}
 use Rattle.lin_search.specs.declared.longest.Longest.{Longest}
 use Rattle.lin_search.specs.declared.memo.Noted.{Noted}
 use Rattle.lin_search.specs.declared.memo.Noted.TheVariants.{New, Known, Busy, NoRoom, Stranger}
@@ -78,7 +78,7 @@ module _ {State : Type 0} (same : State → State → Bool) (k : Configuration S
   pub inserted : (l : Longest) → is_some (lookup (same_configuration same k) es) ≡ false → insert_entry (same_configuration same) es k l ≡ es ++ (k, l) ∷ []
   inserted l e = insert_entry-absent (same_configuration same) k l es (absent_from_lookup (same_configuration same k) es (none_of (lookup (same_configuration same k) es) e))
 
-module _ {State Op Reply : Type 0} (p : Posed State Op Reply) where
+module _ {State Op Reply : Type 0} (p : Problem State Op Reply) where
   refuted_more : (es : List (Configuration State × Longest)) (e : Configuration State × Longest) → AllRefuted p es → IsRefutedWith p e.0.lifted e.0.state e.1 → AllRefuted p (es ++ e ∷ [])
   refuted_more [] e all r = (r, tt)
   refuted_more (x ∷ es) e all r = (all.0, refuted_more es e all.1 r)
@@ -107,7 +107,7 @@ module _ {State Op Reply : Type 0} (p : Posed State Op Reply) where
 pub some_by : {X : Type 0} (o n : Option X) (B : Type 0) → o ≡ n → (is_some n ≡ true → B) → (B → is_some n ≡ true) → IsSome o ↔ B
 some_by o n B e to from = (λ h. to (ap is_some (sym e) ∙ h), λ h. ap is_some e ∙ from h)
 
-module _ {State Op Reply : Type 0} {p q : Posed State Op Reply} (alike : AreAlike p q) where
+module _ {State Op Reply : Type 0} {p q : Problem State Op Reply} (alike : AreAlike p q) where
   pub found_refuted : (k : Configuration State) (es : List (Configuration State × Longest)) → AllRefuted p es → (o : Option Longest) → o ≡ lookup (same_configuration p.same_state k) es → IfSome o (λ (l : Longest). IsRefutedWith q k.lifted k.state l)
   found_refuted k es all None e = tt
   found_refuted k es all (Some l) e =
@@ -115,7 +115,7 @@ module _ {State Op Reply : Type 0} {p q : Posed State Op Reply} (alike : AreAlik
       alike_refuted alike k.lifted f.0 k.state l (alike.equal_states.symm f.0 k.state ∙ f.1) f.2
 
 -- What is told of a configuration holds in a problem that says the same.
-pub told_alike : {State Op Reply : Type 0} {p q : Posed State Op Reply} → AreAlike p q → (set : List Bool) (s : State) (o : Option Longest) → IfSome o (λ (l : Longest). IsRefutedWith p set s l) → IfSome o (λ (l : Longest). IsRefutedWith q set s l)
+pub told_alike : {State Op Reply : Type 0} {p q : Problem State Op Reply} → AreAlike p q → (set : List Bool) (s : State) (o : Option Longest) → IfSome o (λ (l : Longest). IsRefutedWith p set s l) → IfSome o (λ (l : Longest). IsRefutedWith q set s l)
 told_alike alike set s None h = tt
 told_alike alike set s (Some l) h = alike_refuted alike set s s l (alike.equal_states.refl s) h
 

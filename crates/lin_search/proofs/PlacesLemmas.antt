@@ -3,8 +3,8 @@ use Rattle.std.proofs.Common.{◌≡◌, ◌≢◌, ℕ, zero, suc, ◌+◌, ◌
 use Rattle.std.specs.List.{slice_get}
 use Rattle.std.proofs.lemmas.Option.{slice_get_within, same_Some}
 use Rattle.std.proofs.lemmas.List.{length-set, length-replicate}
-use Rattle.lin_history.specs.declared.timeline.ProblemEvent.{ProblemEvent}
-use Rattle.lin_history.specs.declared.timeline.ProblemEvent.TheVariants.{Call, Return}
+use Rattle.lin_history.specs.declared.problems.timeline.ProblemEvent.{ProblemEvent}
+use Rattle.lin_history.specs.declared.problems.timeline.ProblemEvent.TheVariants.{Call, Return}
 use Rattle.lin_search.specs.CallSetLemmas.{same_or_not}
 use Rattle.lin_search.specs.Places.{Places, ArePlaces}
 

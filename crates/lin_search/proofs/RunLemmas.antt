@@ -1,7 +1,7 @@
 use Rattle.std.proofs.Common.{◌≡◌, ℕ, suc, ◌+◌, ◌<◌, ◌≤◌, Bool, true, Some, None, List, [], ◌∷◌, ◌++◌, length, ◌⊎◌, inl, inr, refl, sym, ap, subst, arith, append_assoc, append-nil}
-use Rattle.lin_history.specs.Posed.{Posed}
-use Rattle.lin_history.specs.Lists.{IsLongest, IsUpTo, first_of}
-use Rattle.lin_history.specs.Continuations.{IsContinuation, IsCompletion}
+use Rattle.lin_history.specs.Problems.Problem.{Problem}
+use Rattle.lin_history.specs.Problems.Lists.{IsLongest, IsUpTo, first_of}
+use Rattle.lin_history.specs.Problems.Continuations.{IsContinuation, IsCompletion}
 use Rattle.lin_search.specs.CallSet.{with_call}
 use Rattle.lin_search.specs.Next.{IsNext}
 use Rattle.lin_search.specs.LongestRun.{IsFirstLongest}
@@ -20,7 +20,7 @@ none_left P more there k = record {
     empty [] more e f = sym e
     empty (c ∷ cs) more e f = absurd (cc)
 
-module _ {State Op Reply : Type 0} (p : Posed State Op Reply) (set : List Bool) (s : State) (flags : length set ≡ length p.calls) where
+module _ {State Op Reply : Type 0} (p : Problem State Op Reply) (set : List Bool) (s : State) (flags : length set ≡ length p.calls) where
   begins_with : (l : List ℕ) (c : ℕ) → first_of l ≡ Some c → (cs : List ℕ) × (l ≡ c ∷ cs)
   begins_with [] c e = absurd (cc)
   begins_with (d ∷ ds) c e = (ds, (let q : d ≡ c = cc in ap (λ (x : ℕ). x ∷ ds) q))
@@ -68,7 +68,7 @@ module _ {State Op Reply : Type 0} (p : Posed State Op Reply) (set : List Bool) 
     pub none_after : ((l : List ℕ) → IsCompletion p set s l → ⊥) → (l : List ℕ) → IsCompletion p (with_call set c) t l → ⊥
     none_after none l k = none (c ∷ l) (completion_join p set s c l t flags is_next k)
 
-module _ {State Op Reply : Type 0} {p : Posed State Op Reply} (alike : AreAlike p p) where
+module _ {State Op Reply : Type 0} {p : Problem State Op Reply} (alike : AreAlike p p) where
   pub alike_first : (set : List Bool) (s t : State) (l : List ℕ) → p.same_state s t ≡ true → IsFirstLongest (IsContinuation p set s) l → IsFirstLongest (IsContinuation p set t) l
   alike_first set s t l same k = record {
     holds = like_continuation alike.there set s t l same k.holds;

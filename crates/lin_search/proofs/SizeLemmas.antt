@@ -1,16 +1,12 @@
 use Rattle.std.proofs.Common.{◌≡◌, ℕ, suc, ◌+◌, ◌-◌, Option, Some, None, ◌<◌, ◌≤◌, Bool, List, [], ◌∷◌, ◌++◌, length, ◌⊎◌, inl, inr, refl, sym, ◌∙◌, ap, subst, arith, length-append}
 use Rattle.std.specs.Prelude.{IsSomeAnd}
-use Rattle.lin_history.specs.Posed.{Posed}
-use Rattle.lin_history.specs.Continuations.{IsContinuation}
+use Rattle.lin_history.specs.Problems.Problem.{Problem}
+use Rattle.lin_history.specs.Problems.Continuations.{IsContinuation}
 use Rattle.lin_search.specs.CallSet.{with_call}
 use Rattle.lin_search.specs.Next.{IsNext}
-use Rattle.lin_search.specs.declared.outcome.Outcome.{Outcome}
-use Rattle.lin_search.specs.declared.outcome.Outcome.TheVariants.{Found, Refuted, Undecided, Stopped}
 use Rattle.lin_search.specs.Size.{IsOneOf, AllDifferent, EachOf, HasMany, HasMoreThan}
-use Rattle.lin_search.specs.Answer.{IsAnswer}
-use Rattle.lin_search.specs.DepthFirst.{IsFinding, IsCounted, IsTold}
 use Rattle.lin_search.specs.FirstCallLemmas.{continuation_join, none_continues}
-use Rattle.lin_search.proofs.Tried.{IsBelow}
+use Rattle.lin_search.specs.Progress.{IsBelow, IsContinuationBelow}
 
 module _ (P : List ℕ → Type 0) where
   each_append : (xs ys : List (List ℕ)) → EachOf P xs → EachOf P ys → EachOf P (xs ++ ys)
@@ -74,37 +70,33 @@ not_empty i l e = cc
 pub many_none : (P : List ℕ → Type 0) → HasMany P 0
 many_none P = record { lists = []; different = tt; each = tt; count = refl }
 
-module _ {State Op Reply : Type 0} (p : Posed State Op Reply) (set : List Bool) (s : State) where
-  -- continuations that begin with a call below i
-  abbrev pub Begun : ℕ → List ℕ → Type 0
-  Begun i l = IsContinuation p set s l × IsBelow i l
-
+module _ {State Op Reply : Type 0} (p : Problem State Op Reply) (set : List Bool) (s : State) where
   below_to : (i j : ℕ) → i ≤ j → (l : List ℕ) → IsBelow i l → IsBelow j l
   below_to i j h [] b = tt
   below_to i j h (c ∷ cs) b = omega (arith, b, h)
 
-  pub many_to : (i j n : ℕ) → i ≤ j → HasMany (Begun i) n → HasMany (Begun j) n
+  pub many_to : (i j n : ℕ) → i ≤ j → HasMany (IsContinuationBelow p set s i) n → HasMany (IsContinuationBelow p set s j) n
   many_to i j n h k = record {
     lists = k.lists;
     different = k.different;
-    each = each_map (λ (l : List ℕ). Begun i l × (l ≡ [] → ⊥)) (λ (l : List ℕ). Begun j l × (l ≡ [] → ⊥)) (λ l b. ((b.0.0, below_to i j h l b.0.1), b.1)) k.lists k.each;
+    each = each_map (λ (l : List ℕ). IsContinuationBelow p set s i l × (l ≡ [] → ⊥)) (λ (l : List ℕ). IsContinuationBelow p set s j l × (l ≡ [] → ⊥)) (λ l b. ((b.0.0, below_to i j h l b.0.1), b.1)) k.lists k.each;
     count = k.count;
   }
 
-  pub many_all : (i n : ℕ) → HasMany (Begun i) n → HasMany (IsContinuation p set s) n
+  pub many_all : (i n : ℕ) → HasMany (IsContinuationBelow p set s i) n → HasMany (IsContinuation p set s) n
   many_all i n k = record {
     lists = k.lists;
     different = k.different;
-    each = each_map (λ (l : List ℕ). Begun i l × (l ≡ [] → ⊥)) (λ (l : List ℕ). IsContinuation p set s l × (l ≡ [] → ⊥)) (λ l h. (h.0.0, h.1)) k.lists k.each;
+    each = each_map (λ (l : List ℕ). IsContinuationBelow p set s i l × (l ≡ [] → ⊥)) (λ (l : List ℕ). IsContinuation p set s l × (l ≡ [] → ⊥)) (λ l h. (h.0.0, h.1)) k.lists k.each;
     count = k.count;
   }
 
   -- one for the call i itself, and one for each continuation after it
-  pub many_step : (i : ℕ) (t : State) (n k : ℕ) → length set ≡ length p.calls → IsNext p set s i t → HasMany (Begun i) n → HasMany (IsContinuation p (with_call set i) t) k → HasMany (Begun (i + 1)) (n + 1 + k)
+  pub many_step : (i : ℕ) (t : State) (n k : ℕ) → length set ≡ length p.calls → IsNext p set s i t → HasMany (IsContinuationBelow p set s i) n → HasMany (IsContinuation p (with_call set i) t) k → HasMany (IsContinuationBelow p set s (i + 1)) (n + 1 + k)
   many_step i t n k flags is_next a b = record {
     lists = a.lists ++ here;
     different = different_append a.lists here a.different (fresh, different_behind i b.lists b.different) apart;
-    each = each_append Good a.lists here (each_map (λ (l : List ℕ). Begun i l × (l ≡ [] → ⊥)) Good (λ l h. ((h.0.0, below_next i l h.0.1), h.1)) a.lists a.each) (one, each_behind (λ (l : List ℕ). IsContinuation p (with_call set i) t l × (l ≡ [] → ⊥)) Good i (λ l h. ((continuation_join p set s i l t flags is_next h.0, omega arith), not_empty i l)) b.lists b.each);
+    each = each_append Good a.lists here (each_map (λ (l : List ℕ). IsContinuationBelow p set s i l × (l ≡ [] → ⊥)) Good (λ l h. ((h.0.0, below_next i l h.0.1), h.1)) a.lists a.each) (one, each_behind (λ (l : List ℕ). IsContinuation p (with_call set i) t l × (l ≡ [] → ⊥)) Good i (λ l h. ((continuation_join p set s i l t flags is_next h.0, omega arith), not_empty i l)) b.lists b.each);
     count = let x = length-append a.lists here in let y = length_behind i b.lists in let u = a.count in let v = b.count in omega (arith, x, y, u, v);
   }
     where
@@ -112,7 +104,7 @@ module _ {State Op Reply : Type 0} (p : Posed State Op Reply) (set : List Bool) 
       here = (i ∷ []) ∷ behind i b.lists
 
       Good : List ℕ → Type 0
-      Good l = Begun (i + 1) l × (l ≡ [] → ⊥)
+      Good l = IsContinuationBelow p set s (i + 1) l × (l ≡ [] → ⊥)
 
       one : Good (i ∷ [])
       one = ((continuation_join p set s i [] t flags is_next (none_continues p (with_call set i) t), omega arith), not_empty i [])
@@ -124,23 +116,8 @@ module _ {State Op Reply : Type 0} (p : Posed State Op Reply) (set : List Bool) 
 
       apart : (l : List ℕ) → IsOneOf l a.lists → IsOneOf l here → ⊥
       apart l h m =
-          let below = (each_at (λ (l : List ℕ). Begun i l × (l ≡ [] → ⊥)) a.lists l a.each h).0.1 in
+          let below = (each_at (λ (l : List ℕ). IsContinuationBelow p set s i l × (l ≡ [] → ⊥)) a.lists l a.each h).0.1 in
           elim m [ inl q ↦ not_below_itself i l [] q below | inr q ↦ (let r = one_behind i b.lists l q in not_below_itself i l r.0 r.1 below) ]
 
 pub many_as : (P : List ℕ → Type 0) (n m : ℕ) → n ≡ m → HasMany P n → HasMany P m
 many_as P n m e k = record { lists = k.lists; different = k.different; each = k.each; count = k.count ∙ e }
-
-pub count_start : (a : ℕ) → 0 ≡ a - a
-count_start a = omega arith
-
--- what the recursion tells of a configuration, when no lift was counted before
-module _ {State Op Reply : Type 0} (p : Posed State Op Reply) (set : List Bool) (s : State) where
-  more_than : (limit : Option ℕ) → IsSomeAnd limit (λ (most : ℕ). HasMany (IsContinuation p set s) ((most - 0) + 1)) → IsSomeAnd limit (λ (most : ℕ). HasMoreThan (IsContinuation p set s) most)
-  more_than None k = absurd k
-  more_than (Some most) k = many_as (IsContinuation p set s) ((most - 0) + 1) (most + 1) (omega arith) k
-
-  pub answer_of : (limit : Option ℕ) (new : ℕ) (tells : ℕ → Type 0) (o : Outcome) → IsFinding p set s o → IsCounted p set s limit 0 new o → IsTold tells o → IsAnswer p set s limit tells o
-  answer_of limit new tells (Found order) k m h = k
-  answer_of limit new tells (Refuted longest) k m h = k
-  answer_of limit new tells Undecided k m h = more_than limit m
-  answer_of limit new tells (Stopped told) k m h = h

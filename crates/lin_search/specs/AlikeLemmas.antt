@@ -2,13 +2,13 @@
 use Rattle.std.proofs.Common.{◌+◌, ◌≡◌, ℕ, Bool, true, false, Option, Some, None, List, [], ◌∷◌, length, replicate, refl, sym, ◌∙◌, subst}
 use Rattle.std.specs.Prelude.{IsSomeAnd}
 use Rattle.std.specs.Cmp.{IsEquivalence}
-use Rattle.lin_history.specs.Posed.{Posed}
-use Rattle.lin_history.specs.Lists.{IsLongest}
-use Rattle.lin_history.specs.Legal.{next, Legal}
-use Rattle.lin_history.specs.Precedence.{Before, IsCompleted}
-use Rattle.lin_history.specs.Continuations.{IsContinuation, IsCompletion, no_calls}
-use Rattle.lin_history.specs.Linearizations.{IsRun}
-use Rattle.lin_history.specs.Configurations.{IsReachable}
+use Rattle.lin_history.specs.Problems.Problem.{Problem}
+use Rattle.lin_history.specs.Problems.Lists.{IsLongest}
+use Rattle.lin_history.specs.Problems.LegalLists.{next, Legal}
+use Rattle.lin_history.specs.Problems.Precedence.{Before, IsCompleted}
+use Rattle.lin_history.specs.Problems.Continuations.{IsContinuation, IsCompletion, no_calls}
+use Rattle.lin_history.specs.Problems.Linearizations.{IsRun}
+use Rattle.lin_history.specs.Problems.Configurations.{IsReachable}
 use Rattle.lin_search.specs.declared.longest.Longest.{Longest}
 use Rattle.lin_search.specs.declared.outcome.Outcome.{Outcome}
 use Rattle.lin_search.specs.declared.outcome.Outcome.TheVariants.{Found, Refuted, Undecided, Stopped}
@@ -17,12 +17,12 @@ use Rattle.lin_search.specs.Answer.{IsAnswer}
 use Rattle.lin_search.specs.Refuted.{IsRefutedWith}
 
 -- what the one problem says of equal states, the other says too
-pub record IsLike {State Op Reply : Type 0} (p q : Posed State Op Reply) : Type 0 where
+pub record IsLike {State Op Reply : Type 0} (p q : Problem State Op Reply) : Type 0 where
   pub steps : (s t u : State) (c : ℕ) → p.same_state s t ≡ true → next p s c ≡ Some u → (v : State) × (next q t c ≡ Some v) × (p.same_state u v ≡ true)
   pub before : (a b : ℕ) → Before q a b → Before p a b
   pub completed : (a : ℕ) → IsCompleted q a → IsCompleted p a
 
-module _ {State Op Reply : Type 0} {p q : Posed State Op Reply} (like : IsLike p q) where
+module _ {State Op Reply : Type 0} {p q : Problem State Op Reply} (like : IsLike p q) where
   pub like_legal : (l : List ℕ) (s t e : State) → p.same_state s t ≡ true → Legal p s l e → (f : State) × Legal q t l f × (p.same_state e f ≡ true)
   like_legal [] s t e same k = (t, refl, subst (λ (x : State). p.same_state x t ≡ true) k same)
   like_legal (c ∷ cs) s t e same k =
@@ -45,7 +45,7 @@ module _ {State Op Reply : Type 0} {p q : Posed State Op Reply} (like : IsLike p
   }
 
 -- each problem says what the other says, and they begin in equal states
-pub record AreAlike {State Op Reply : Type 0} (p q : Posed State Op Reply) : Type 0 where
+pub record AreAlike {State Op Reply : Type 0} (p q : Problem State Op Reply) : Type 0 where
   pub there : IsLike p q
   pub back : IsLike q p
   pub same_test : (s t : State) → p.same_state s t ≡ q.same_state s t
@@ -53,7 +53,7 @@ pub record AreAlike {State Op Reply : Type 0} (p q : Posed State Op Reply) : Typ
   pub starts : p.same_state p.start q.start ≡ true
   pub counts : length p.calls ≡ length q.calls
 
-module _ {State Op Reply : Type 0} {p q : Posed State Op Reply} (alike : AreAlike p q) where
+module _ {State Op Reply : Type 0} {p q : Problem State Op Reply} (alike : AreAlike p q) where
   -- equal states, the other way round, by the other problem's test
   pub turned : (s t : State) → p.same_state s t ≡ true → q.same_state t s ≡ true
   turned s t same = sym (alike.same_test t s) ∙ sym (alike.equal_states.symm s t) ∙ same

@@ -3,8 +3,8 @@ use Rattle.std.specs.Prelude.{ℕ, ◌+◌, ◌*◌, ◌/◌, ◌%◌, ◌^◌, 
 use Rattle.std.specs.Hash as fed
 use Rattle.std.specs.Hash.{HashWrites}
 use mathlib.Core.Bool.{cond}
-use Rattle.lin_history.specs.Posed.{Posed}
-use Rattle.lin_history.specs.Continuations.{no_calls}
+use Rattle.lin_history.specs.Problems.Problem.{Problem}
+use Rattle.lin_history.specs.Problems.Continuations.{no_calls}
 
 -- The set with this call too.
 abbrev pub with_call : List Bool → ℕ → List Bool
@@ -16,7 +16,7 @@ with_calls set [] = set
 with_calls set (c ∷ cs) = with_calls (with_call set c) cs
 
 -- The set of the calls of the list.
-abbrev pub lifted_set : {State Op Reply : Type 0} → Posed State Op Reply → List ℕ → List Bool
+abbrev pub lifted_set : {State Op Reply : Type 0} → Problem State Op Reply → List ℕ → List Bool
 lifted_set p lifted = with_calls (no_calls p) lifted
 
 -- What the calls of a set weigh together. The first flag is that of call n.

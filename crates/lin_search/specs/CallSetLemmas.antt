@@ -3,7 +3,7 @@ use Rattle.std.proofs.Common.{◌≡◌, ◌≢◌, ℕ, ◌<◌, Bool, true, fa
 use Rattle.std.proofs.lemmas.List.{get_or-set_same, get_or-set_other}
 use lib.Pointwise.{pointwise}
 use mathlib.Core.Bool.{beq}
-use Rattle.lin_history.specs.Continuations.{has}
+use Rattle.lin_history.specs.Problems.Continuations.{has}
 use Rattle.lin_search.specs.CallSet.{with_call, with_calls}
 
 -- sets that the test finds equal are equal

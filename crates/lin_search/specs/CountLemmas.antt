@@ -1,8 +1,8 @@
 -- Lists of configurations: which is longer, how many there can be, and what the pairs of a store count.
 use Rattle.std.proofs.Common.{◌≡◌, ℕ, suc, ◌≤◌, Bool, true, List, [], ◌∷◌, length, ◌⊎◌, inl, inr, refl, sym, ◌∙◌, ap, arith}
 use Rattle.std.specs.Cmp.{IsEquivalence}
-use Rattle.lin_history.specs.Posed.{Posed}
-use Rattle.lin_history.specs.Configurations.{IsReachable}
+use Rattle.lin_history.specs.Problems.Problem.{Problem}
+use Rattle.lin_history.specs.Problems.Configurations.{IsReachable}
 use Rattle.lin_search.specs.declared.longest.Longest.{Longest}
 use Rattle.lin_search.specs.Configuration.{Configuration}
 use Rattle.lin_search.specs.Count.{Among, AllApart, AllReachable, IsNumberReachable, HasReachable}
@@ -50,7 +50,7 @@ module _ {State : Type 0} (same : State → State → Bool) (equal : IsEquivalen
       let n = q.1 in
       omega (arith, rest, n)
 
-module _ {State Op Reply : Type 0} (p : Posed State Op Reply) (equal : IsEquivalence p.same_state) (itself : (set : List Bool) (s t : State) → p.same_state s t ≡ true → IsReachable p set s → IsReachable p set t) where
+module _ {State Op Reply : Type 0} (p : Problem State Op Reply) (equal : IsEquivalence p.same_state) (itself : (set : List Bool) (s t : State) → p.same_state s t ≡ true → IsReachable p set s → IsReachable p set t) where
   pub among_reachable : (xs : List (Configuration State)) → AllReachable p xs → (a : List Bool) (t : State) → Among p.same_state xs a t → IsReachable p a t
   among_reachable [] all a t h = absurd h
   among_reachable (x ∷ xs) all a t h = elim h [
@@ -64,7 +64,7 @@ module _ {State Op Reply : Type 0} (p : Posed State Op Reply) (equal : IsEquival
       let less = no_longer p.same_state equal h.0 k.0 h.1.apart (λ a t q. k.2 a t (among_reachable h.0 h.1.reachable a t q)) in
       let e = h.2 in let f = k.3 in omega (arith, less, e, f)
 
-module _ {State Op Reply : Type 0} (p : Posed State Op Reply) where
+module _ {State Op Reply : Type 0} (p : Problem State Op Reply) where
   pub stored_reachable : (es : List (Configuration State × Longest)) → AllRefuted p es → AllReachable p (configurations es)
   stored_reachable [] all = tt
   stored_reachable (e ∷ es) all = (all.0.refuted.reachable, stored_reachable es all.1)

@@ -1,11 +1,11 @@
 -- What the entries of a problem are while some of its calls are lifted.
 use Rattle.std.specs.Prelude.{◌≡◌, ℕ, ◌+◌, ◌<◌, ◌≤◌, Bool, true, false, Option, Some, None, is_some, List, [], ◌∷◌, length, slice_get, slice_index}
-use Rattle.lin_history.specs.declared.problem.ProblemCall.{ProblemCall}
-use Rattle.lin_history.specs.declared.timeline.ProblemEvent.{ProblemEvent}
-use Rattle.lin_history.specs.declared.timeline.ProblemEvent.TheVariants.{Call, Return}
-use Rattle.lin_history.specs.Posed.{Posed}
-use Rattle.lin_history.specs.Timeline.{IsTimeline}
-use Rattle.lin_history.specs.Continuations.{has, no_calls}
+use Rattle.lin_history.specs.declared.problems.problem.ProblemCall.{ProblemCall}
+use Rattle.lin_history.specs.declared.problems.timeline.ProblemEvent.{ProblemEvent}
+use Rattle.lin_history.specs.declared.problems.timeline.ProblemEvent.TheVariants.{Call, Return}
+use Rattle.lin_history.specs.Problems.Problem.{Problem}
+use Rattle.lin_history.specs.Problems.Timeline.{IsTimeline}
+use Rattle.lin_history.specs.Problems.Continuations.{has, no_calls}
 use Rattle.lin_search.specs.CallSet.{with_call, lifted_set}
 use Rattle.lin_search.specs.Links.{Linked, without, HasLinks, IsRow}
 use Rattle.lin_search.specs.Places.{Places, ArePlaces, with_return, without_calls}
@@ -46,13 +46,13 @@ pub record CanPutBack (places : Places) (l : Linked) (c : ℕ) : Type 0 where
   pub called : HasLinks (with_return l (slice_get places.returned c)) (slice_index places.called c)
 
 -- The calls of the list are calls of the problem, no two the same and none in the set.
-abbrev pub AreLifted : {State Op Reply : Type 0} → Posed State Op Reply → List Bool → List ℕ → Type 0
+abbrev pub AreLifted : {State Op Reply : Type 0} → Problem State Op Reply → List Bool → List ℕ → Type 0
 AreLifted p set [] = Unit {0}
 AreLifted p set (c ∷ cs) = (c < length p.calls) × (has set c ≡ false) × AreLifted p (with_call set c) cs
 
 -- The links are those of the timeline without the entries of the calls lifted; there is room for all calls; and so many
 -- completed calls are left.
-pub record AreEntries {State Op Reply : Type 0} (p : Posed State Op Reply) (events : List ProblemEvent) (places : Places) (links : Linked) (lifted : List ℕ) (room left : ℕ) : Type 0 where
+pub record AreEntries {State Op Reply : Type 0} (p : Problem State Op Reply) (events : List ProblemEvent) (places : Places) (links : Linked) (lifted : List ℕ) (room left : ℕ) : Type 0 where
   pub timeline : IsTimeline p events
   pub are_places : ArePlaces (length p.calls) events places
   pub are_lifted : AreLifted p (no_calls p) lifted

@@ -1,11 +1,11 @@
 -- Continuations and completions by their first call: the call, and then one of the configuration that it leads to.
 use Rattle.std.proofs.Common.{◌≡◌, ◌≢◌, ℕ, ◌<◌, Bool, false, Some, List, [], ◌∷◌, ◌++◌, length, set, ◌⊎◌, inl, inr, refl, sym, ◌∙◌, ap, subst, arith}
 use Rattle.std.proofs.lemmas.Option.{slice_get_cases}
-use Rattle.lin_history.specs.Posed.{Posed}
-use Rattle.lin_history.specs.Lists.{In}
-use Rattle.lin_history.specs.Legal.{next}
-use Rattle.lin_history.specs.Precedence.{Before}
-use Rattle.lin_history.specs.Continuations.{has, IsContinuation, IsCompletion}
+use Rattle.lin_history.specs.Problems.Problem.{Problem}
+use Rattle.lin_history.specs.Problems.Lists.{In}
+use Rattle.lin_history.specs.Problems.LegalLists.{next}
+use Rattle.lin_history.specs.Problems.Precedence.{Before}
+use Rattle.lin_history.specs.Problems.Continuations.{has, IsContinuation, IsCompletion}
 use Rattle.lin_search.specs.CallSet.{with_call}
 use Rattle.lin_search.specs.CallSetLemmas.{same_or_not, has_same, has_other, has_still, has_with}
 use Rattle.lin_search.specs.Next.{IsNext, HasEveryCompleted}
@@ -15,7 +15,7 @@ begins : (c : ℕ) (cs early : List ℕ) (b : ℕ) (late : List ℕ) → c ∷ c
 begins c cs [] b late e = inl (refl, cc)
 begins c cs (d ∷ rest) b late e = inr (rest, (cc), cc)
 
-module _ {State Op Reply : Type 0} (p : Posed State Op Reply) where
+module _ {State Op Reply : Type 0} (p : Problem State Op Reply) where
   -- a call with a step is a call of the problem
   pub next_within : (s t : State) (c : ℕ) → next p s c ≡ Some t → c < length p.calls
   next_within s t c e = elim (slice_get_cases p.calls c).1 [ inl k ↦ k.1 | inr q ↦ absurd (let e' = rw q.1 at e in cc) ]

@@ -11,7 +11,6 @@ pub mod Next
 pub mod Size
 pub mod Answer
 pub mod Closed
-pub mod DepthFirst
 pub mod LongestRun
 pub mod Refuted
 pub mod Refuting
@@ -24,4 +23,5 @@ pub mod AlikeLemmas
 pub mod SameLemmas
 pub mod ReachableLemmas
 pub mod CountLemmas
-pub mod Frames
+pub mod Path
+pub mod Progress

@@ -1,7 +1,7 @@
 -- Where the entries of a problem's calls are.
 use Rattle.std.specs.Prelude.{◌≡◌, ℕ, ◌+◌, Option, Some, None, List, [], ◌∷◌, length, slice_get, slice_index}
-use Rattle.lin_history.specs.declared.timeline.ProblemEvent.{ProblemEvent}
-use Rattle.lin_history.specs.declared.timeline.ProblemEvent.TheVariants.{Call, Return}
+use Rattle.lin_history.specs.declared.problems.timeline.ProblemEvent.{ProblemEvent}
+use Rattle.lin_history.specs.declared.problems.timeline.ProblemEvent.TheVariants.{Call, Return}
 use Rattle.lin_search.specs.Links.{Linked, without, with_entry}
 
 -- Of each call its call entry, and its return entry where it has one.

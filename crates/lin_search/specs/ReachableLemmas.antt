@@ -1,12 +1,12 @@
 -- The root is reachable, and so is what a call leads to from a reachable configuration.
 use Rattle.std.proofs.Common.{◌≡◌, ℕ, zero, suc, ◌<◌, Bool, true, false, Some, List, [], ◌∷◌, ◌++◌, length, replicate, ◌⊎◌, inl, inr, refl, sym, ◌∙◌, ap, subst, arith}
-use Rattle.lin_history.specs.Posed.{Posed}
-use Rattle.lin_history.specs.Lists.{In, IsDistinct}
-use Rattle.lin_history.specs.Legal.{next, Legal}
-use Rattle.lin_history.specs.Precedence.{Before}
-use Rattle.lin_history.specs.Continuations.{has, no_calls}
-use Rattle.lin_history.specs.Linearizations.{IsRun}
-use Rattle.lin_history.specs.Configurations.{IsReachable}
+use Rattle.lin_history.specs.Problems.Problem.{Problem}
+use Rattle.lin_history.specs.Problems.Lists.{In, IsDistinct}
+use Rattle.lin_history.specs.Problems.LegalLists.{next, Legal}
+use Rattle.lin_history.specs.Problems.Precedence.{Before}
+use Rattle.lin_history.specs.Problems.Continuations.{has, no_calls}
+use Rattle.lin_history.specs.Problems.Linearizations.{IsRun}
+use Rattle.lin_history.specs.Problems.Configurations.{IsReachable}
 use Rattle.lin_search.specs.CallSet.{with_call}
 use Rattle.lin_search.specs.CallSetLemmas.{has_same, has_with, has_still}
 use Rattle.lin_search.specs.Next.{IsNext}
@@ -51,7 +51,7 @@ place_at_end (x ∷ l) c (d ∷ early) b late e =
       | inr q ↦ (let r = q.0 in inr (cc, q.1))
     ]
 
-module _ {State Op Reply : Type 0} (p : Posed State Op Reply) where
+module _ {State Op Reply : Type 0} (p : Problem State Op Reply) where
   legal_end : (l : List ℕ) (s t u : State) (c : ℕ) → Legal p s l t → next p t c ≡ Some u → Legal p s (l ++ c ∷ []) u
   legal_end [] s t u c k e = (u, subst (λ (x : State). next p x c ≡ Some u) (sym k) e, refl)
   legal_end (d ∷ l) s t u c k e = (k.0, k.1, legal_end l k.0 t u c k.2 e)

@@ -3,13 +3,13 @@ use Rattle.std.proofs.Common.{◌≡◌, ℕ, zero, suc, ◌<◌, Bool, true, fa
 use Rattle.std.specs.Prelude.{if◌then◌else◌, IsSomeAnd, IsSome}
 use Rattle.std.specs.Cmp.{IsEquivalence}
 use Rattle.std.specs.List.{slice_get}
-use Rattle.lin_object.specs.Step.{SameStep}
-use Rattle.lin_object.specs.Lawful.{IsLawful}
-use Rattle.lin_history.specs.declared.problem.ProblemCall.{ProblemCall}
-use Rattle.lin_history.specs.Posing.{Posing}
-use Rattle.lin_history.specs.Posed.{posed}
-use Rattle.lin_history.specs.Legal.{fits, state_if_fits, after_call}
-use Rattle.lin_history.specs.Same.{SameReturn, SameCall, SameCalls, SameProblem}
+use Rattle.lin_object.specs.StepAnswers.{SameStep}
+use Rattle.lin_object.specs.Laws.{IsLawful}
+use Rattle.lin_history.specs.declared.problems.problem.ProblemCall.{ProblemCall}
+use Rattle.lin_history.specs.Problems.ProblemParts.{ProblemParts}
+use Rattle.lin_history.specs.Problems.Problem.{problem_of}
+use Rattle.lin_history.specs.Problems.LegalLists.{fits, state_if_fits, after_call}
+use Rattle.lin_history.specs.Problems.SameProblem.{SameReturn, SameCall, SameCalls, SameProblem}
 use Rattle.lin_search.specs.AlikeLemmas.{IsLike, AreAlike}
 
 module _ {Reply : Type 0} {same : Reply → Reply → Bool} (equal : IsEquivalence same) where
@@ -103,17 +103,17 @@ module _ {Object State Op Reply : Type 0} {after : Object → State → ℕ → 
   same_calls_back [] (y ∷ ys) k = absurd k
   same_calls_back (x ∷ xs) [] k = absurd k
 
-  pub same_itself : (p : Posing Object State Op Reply) → SameProblem same_object same_state same_op same_reply p p
+  pub same_itself : (p : ProblemParts Object State Op Reply) → SameProblem same_object same_state same_op same_reply p p
   same_itself p = record { object = lawful.objects.refl p.object; start = lawful.states.refl p.start; calls = same_calls_itself p.calls }
 
-  pub same_back : (p q : Posing Object State Op Reply) → SameProblem same_object same_state same_op same_reply p q → SameProblem same_object same_state same_op same_reply q p
+  pub same_back : (p q : ProblemParts Object State Op Reply) → SameProblem same_object same_state same_op same_reply p q → SameProblem same_object same_state same_op same_reply q p
   same_back p q k = record {
     object = lawful.objects.symm q.object p.object ∙ k.object;
     start = lawful.states.symm q.start p.start ∙ k.start;
     calls = same_calls_back p.calls q.calls k.calls;
   }
 
-  step_alike : (p q : Posing Object State Op Reply) (s t u : State) (a b : Option (ProblemCall Op Reply)) → SameProblem same_object same_state same_op same_reply p q → same_state s t ≡ true → SameRead same_op same_reply a b → after_call (posed after same_state same_reply p) s a ≡ Some u → (v : State) × (after_call (posed after same_state same_reply q) t b ≡ Some v) × (same_state u v ≡ true)
+  step_alike : (p q : ProblemParts Object State Op Reply) (s t u : State) (a b : Option (ProblemCall Op Reply)) → SameProblem same_object same_state same_op same_reply p q → same_state s t ≡ true → SameRead same_op same_reply a b → after_call (problem_of after same_state same_reply p) s a ≡ Some u → (v : State) × (after_call (problem_of after same_state same_reply q) t b ≡ Some v) × (same_state u v ≡ true)
   step_alike p q s t u (Some a) (Some b) k e r h =
       state_alike same_state lawful.replies a.returned b.returned (after p.object s a.process a.op) (after q.object t b.process b.op) u r.returned
       (subst (λ (n : ℕ). SameStep same_state same_reply (after p.object s a.process a.op) (after q.object t n b.op)) r.process (lawful.steps_alike p.object q.object s t a.process a.op b.op k.object e r.op))
@@ -122,7 +122,7 @@ module _ {Object State Op Reply : Type 0} {after : Object → State → ℕ → 
   step_alike p q s t u None (Some b) k e r h = absurd r
   step_alike p q s t u (Some a) None k e r h = absurd r
 
-  pub like_of_same : (p q : Posing Object State Op Reply) → SameProblem same_object same_state same_op same_reply p q → IsLike (posed after same_state same_reply p) (posed after same_state same_reply q)
+  pub like_of_same : (p q : ProblemParts Object State Op Reply) → SameProblem same_object same_state same_op same_reply p q → IsLike (problem_of after same_state same_reply p) (problem_of after same_state same_reply q)
   like_of_same p q k = record {
     steps = λ s t u c e h. step_alike p q s t u (slice_get p.calls c) (slice_get q.calls c) k e (same_read same_op same_reply p.calls q.calls c k.calls) h;
     before = λ a b h. before_alike same_op same_reply (slice_get p.calls a) (slice_get q.calls a) (slice_get p.calls b) (slice_get q.calls b) (same_read same_op same_reply p.calls q.calls a k.calls) (same_read same_op same_reply p.calls q.calls b k.calls) h;
@@ -130,7 +130,7 @@ module _ {Object State Op Reply : Type 0} {after : Object → State → ℕ → 
   }
 
   -- problems that are equal in every part say the same
-  pub alike_of_same : (p q : Posing Object State Op Reply) → SameProblem same_object same_state same_op same_reply p q → AreAlike (posed after same_state same_reply p) (posed after same_state same_reply q)
+  pub alike_of_same : (p q : ProblemParts Object State Op Reply) → SameProblem same_object same_state same_op same_reply p q → AreAlike (problem_of after same_state same_reply p) (problem_of after same_state same_reply q)
   alike_of_same p q k = record {
     there = like_of_same p q k;
     back = like_of_same q p (same_back p q k);
@@ -140,5 +140,5 @@ module _ {Object State Op Reply : Type 0} {after : Object → State → ℕ → 
     counts = same_count same_op same_reply p.calls q.calls k.calls;
   }
 
-  pub alike_itself : (p : Posing Object State Op Reply) → AreAlike (posed after same_state same_reply p) (posed after same_state same_reply p)
+  pub alike_itself : (p : ProblemParts Object State Op Reply) → AreAlike (problem_of after same_state same_reply p) (problem_of after same_state same_reply p)
   alike_itself p = alike_of_same p p (same_itself p)

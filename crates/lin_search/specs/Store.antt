@@ -1,7 +1,7 @@
 -- What a memo of one problem keeps (Lowe 2017: no configuration is searched again).
 use Rattle.std.specs.Prelude.{◌≡◌, Bool, List, [], ◌∷◌, ◌++◌}
-use Rattle.lin_history.specs.Posed.{Posed}
-use Rattle.lin_history.specs.Posing.{Posing}
+use Rattle.lin_history.specs.Problems.Problem.{Problem}
+use Rattle.lin_history.specs.Problems.ProblemParts.{ProblemParts}
 use Rattle.lin_search.specs.declared.longest.Longest.{Longest}
 use Rattle.lin_search.specs.declared.memo.Noted.{Noted}
 use Rattle.lin_search.specs.declared.memo.Noted.TheVariants.{New, Known, Busy, NoRoom, Stranger}
@@ -11,7 +11,7 @@ use Rattle.lin_search.specs.Count.{Among, AllApart}
 
 -- The problem that it names, and the pairs of a configuration and what its longest continuations tell, in order of storing.
 pub record Store (Object State Op Reply : Type 0) : Type 0 where
-  pub problem : Posing Object State Op Reply
+  pub problem : ProblemParts Object State Op Reply
   pub pairs : List (Configuration State × Longest)
 
 -- The configurations of the pairs.
@@ -24,12 +24,12 @@ abbrev pub Holds : {State : Type 0} → (State → State → Bool) → List (Con
 Holds same es set s = Among same (configurations es) set s
 
 -- Each pair is of a refuted configuration of the problem, with its longest.
-abbrev pub AllRefuted : {State Op Reply : Type 0} → Posed State Op Reply → List (Configuration State × Longest) → Type 0
+abbrev pub AllRefuted : {State Op Reply : Type 0} → Problem State Op Reply → List (Configuration State × Longest) → Type 0
 AllRefuted p [] = Unit {0}
 AllRefuted p (e ∷ es) = IsRefutedWith p e.0.lifted e.0.state e.1 × AllRefuted p es
 
 -- What the pairs of a store always are: refuted, and no configuration is in two of them.
-pub record IsStore {State Op Reply : Type 0} (p : Posed State Op Reply) (es : List (Configuration State × Longest)) : Type 0 where
+pub record IsStore {State Op Reply : Type 0} (p : Problem State Op Reply) (es : List (Configuration State × Longest)) : Type 0 where
   pub refuted : AllRefuted p es
   pub apart : AllApart p.same_state (configurations es)
 

@@ -2,7 +2,7 @@
 use Rattle.std.specs.Prelude.{◌≡◌, Bool, true, List, [], ◌∷◌, ◌++◌, ◌⊎◌, refl}
 use Rattle.std.proofs.Common.{inl, inr, sym, ◌∙◌, append-nil, append_assoc}
 use Rattle.std.specs.Cmp.{IsEquivalence}
-use Rattle.lin_history.specs.Posing.{Posing}
+use Rattle.lin_history.specs.Problems.ProblemParts.{ProblemParts}
 use Rattle.lin_search.specs.declared.longest.Longest.{Longest}
 use Rattle.lin_search.specs.Configuration.{Configuration}
 use Rattle.lin_search.specs.Store.{Store, Holds, IsGrown}
@@ -38,5 +38,5 @@ module _ {Object State Op Reply : Type 0} where
       record { problem = m.problem ∙ k.problem; more = (q.0 ++ r.0, rw (r.1, q.1) (append_assoc a.pairs q.0 r.0)) }
 
   -- the store goes on naming the problem
-  pub named_still : (P : Posing Object State Op Reply → Type 0) (a b : Store Object State Op Reply) → IsGrown a b → P a.problem → P b.problem
+  pub named_still : (P : ProblemParts Object State Op Reply → Type 0) (a b : Store Object State Op Reply) → IsGrown a b → P a.problem → P b.problem
   named_still P a b k h = rw k.problem h

@@ -1,6 +1,6 @@
 ghost use Rattle.std.specs.Prelude.{◌≡◌, ℕ, ◌≤◌, [], IfOk};
-ghost use Rattle.lin_history.specs.Posed.{posed};
-ghost use Rattle.lin_history.specs.Continuations.{no_calls};
+ghost use Rattle.lin_history.specs.Problems.Problem.{problem_of};
+ghost use Rattle.lin_history.specs.Problems.Continuations.{no_calls};
 ghost use Rattle.lin_search.specs.Answer.{IsDecision, IsRefutation};
 ghost use Rattle.lin_search.specs.Count.{HasEachReachable, HasReachable, IsNumberReachable};
 ghost use Rattle.lin_search.specs.Store.{configurations, IsStore};
@@ -22,23 +22,13 @@ fn search_root<'p, O: SeqObject>(
     memo: &mut OwnMemo<'p, O>,
 ) -> Result<Outcome, AllocError>
     requires { memo.old ≡ record { problem = problem.now; pairs = [] } }
-    ensures answer { IfOk result (IsDecision (posed O.after O.State.eq O.Reply.eq problem.now) (no_calls (posed O.after O.State.eq O.Reply.eq problem.now)) problem.now.start) }
+    ensures answer { IfOk result (IsDecision (problem_of O.after O.State.eq O.Reply.eq problem.now) (no_calls (problem_of O.after O.State.eq O.Reply.eq problem.now)) problem.now.start) }
     ensures problem { memo.new.problem ≡ problem.now }
-    ensures all { IfOk result (λ outcome. IsRefutation outcome → HasEachReachable (posed O.after O.State.eq O.Reply.eq problem.now) (configurations memo.new.pairs)) }
+    ensures all { IfOk result (λ outcome. IsRefutation outcome → HasEachReachable (problem_of O.after O.State.eq O.Reply.eq problem.now) (configurations memo.new.pairs)) }
 {
     lawful::<O>();
     let root = Config::root(alloc, problem)?;
-    let mut lifts = 0;
-    let ended = search_from(
-        alloc,
-        problem,
-        root,
-        memo,
-        true,
-        None,
-        &mut lifts,
-        &mut NoStop,
-    )?;
+    let ended = search_from(alloc, problem, root, memo, true, None, &mut NoStop)?;
     if !ended.whole {
         return Err(AllocError);
     }
@@ -53,10 +43,10 @@ pub fn search_alone<O: SeqObject>(
     alloc: Global,
     problem: &Problem<O>,
 ) -> Result<(Outcome, u64), AllocError>
-    ensures answer { IfOk result (λ r. IsDecision (posed O.after O.State.eq O.Reply.eq problem.now) (no_calls (posed O.after O.State.eq O.Reply.eq problem.now)) problem.now.start r.0) }
-    ensures stored { IfOk result (λ r. HasReachable (posed O.after O.State.eq O.Reply.eq problem.now) r.1) }
-    ensures at_most { IfOk result (λ r. (n : ℕ) → IsNumberReachable (posed O.after O.State.eq O.Reply.eq problem.now) n → r.1 ≤ n) }
-    ensures all { IfOk result (λ r. IsRefutation r.0 → IsNumberReachable (posed O.after O.State.eq O.Reply.eq problem.now) r.1) }
+    ensures answer { IfOk result (λ r. IsDecision (problem_of O.after O.State.eq O.Reply.eq problem.now) (no_calls (problem_of O.after O.State.eq O.Reply.eq problem.now)) problem.now.start r.0) }
+    ensures stored { IfOk result (λ r. HasReachable (problem_of O.after O.State.eq O.Reply.eq problem.now) r.1) }
+    ensures at_most { IfOk result (λ r. (n : ℕ) → IsNumberReachable (problem_of O.after O.State.eq O.Reply.eq problem.now) n → r.1 ≤ n) }
+    ensures all { IfOk result (λ r. IsRefutation r.0 → IsNumberReachable (problem_of O.after O.State.eq O.Reply.eq problem.now) r.1) }
 {
     lawful::<O>();
     let mut memo = OwnMemo::new(alloc, problem);

@@ -1,5 +1,5 @@
 ghost use Rattle.std.specs.Prelude.{◌≡◌, ◌≢◌, ℕ, ◌+◌, ◌-◌, ◌*◌, ◌/◌, ◌%◌, ◌^◌, ◌<◌, ◌≤◌, ◌↔◌, Bool, false, max, length, replicate, drop, slice_index, bit_or, IfOk, IsTrue};
-ghost use Rattle.lin_history.specs.Continuations.{has};
+ghost use Rattle.lin_history.specs.Problems.Continuations.{has};
 ghost use Rattle.lin_search.specs.CallSet.{with_call, sum_of, folded, weight_of};
 ghost use Rattle.lin_search.specs.Window.{word_at};
 

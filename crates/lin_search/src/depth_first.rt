@@ -1,23 +1,26 @@
-ghost use Rattle.std.specs.Prelude.{◌≡◌, ◌≤◌, ◌+◌, ◌⊎◌, Bool, List, length, true, IfOk, IfSome, IsTrue, IsSomeAnd};
-ghost use Rattle.lin_history.specs.Posed.{posed};
-ghost use Rattle.lin_history.specs.Configurations.{IsReachable};
-ghost use Rattle.lin_search.specs.Answer.{IsAnswer};
-ghost use Rattle.lin_search.specs.CallSet.{lifted_set};
+ghost use Rattle.std.specs.Prelude.{◌≡◌, ℕ, ◌⊎◌, Bool, List, Option, Some, None, [], length, true, IfOk, IfSome, IfNone, IsTrue};
+ghost use Rattle.lin_history.specs.Problems.Problem.{problem_of};
+ghost use Rattle.lin_history.specs.Problems.Configurations.{IsReachable};
+ghost use Rattle.lin_search.specs.Answer.{IsAnswer, IsRefutation};
+ghost use Rattle.lin_search.specs.CallSet.{with_call, lifted_set};
+ghost use Rattle.lin_search.specs.Closed.{IsClosed};
+ghost use Rattle.lin_search.specs.Configuration.{Configuration};
+ghost use Rattle.lin_search.specs.Next.{IsNext};
 ghost use Rattle.lin_search.specs.Refuted.{IsRefutedWith};
 ghost use Rattle.lin_search.specs.Noted.{IsKept};
-ghost use Rattle.lin_search.specs.DepthFirst.{IsFinding, IsCounted, IsTold, EndsClosed};
-ghost use Rattle.lin_search.specs.declared.memo.Noted.TheVariants.{New};
+ghost use Rattle.lin_search.specs.Path.{Frame as PathFrame};
+ghost use Rattle.lin_search.specs.Progress.{IsProgress, IsStep, HoldsSearched, HoldsStep, IsTaken, IsRefusal, bound, work};
 
 use crate::config::Config;
-use crate::entries::Entries;
-use crate::frame::{Frame, order_through};
 use crate::longest::Longest;
 use crate::memo::{Memo, Noted};
 use crate::outcome::Outcome;
+use crate::path::{Frame, Path, Position};
 use crate::stop::Stop;
 use lin_history::{Order, Problem};
 use lin_object::{SeqObject, lawful};
 use std::alloc::{AllocError, Global};
+use std::ops::ControlFlow;
 
 /// How the search of a configuration ended.
 #[derive(Drop)]
@@ -27,185 +30,286 @@ pub(crate) struct Ended {
     pub(crate) whole: bool,
 }
 
-// Asks the memo for a configuration; `here` tells that the memo names the problem.
+// Asks the memo for a configuration; `is_for_problem` tells that it names the problem.
 pub(crate) fn look_at<O: SeqObject, M: Memo<O>>(
     problem: &Problem<O>,
     config: &Config<O>,
     memo: &mut M,
-    here: bool,
+    is_for_problem: bool,
 ) -> Option<Longest>
-    requires { IsTrue here → M.is_of memo.old problem.now }
-    ensures refuted { IfSome result (λ longest. IsRefutedWith (posed O.after O.State.eq O.Reply.eq problem.now) config.now.lifted config.now.state longest) }
+    requires { IsTrue is_for_problem → M.is_of memo.old problem.now }
+    ensures refuted { IfSome result (λ longest. IsRefutedWith (problem_of O.after O.State.eq O.Reply.eq problem.now) config.now.lifted config.now.state longest) }
     ensures held { IfSome result (λ longest. M.holds memo.new config.now.lifted config.now.state) }
     ensures only { (set : List Bool) (s : O.State) → M.holds memo.new set s → M.holds memo.old set s }
     ensures changes { M.changes memo.old memo.new }
 {
-    if here {
+    if is_for_problem {
         memo.look_here(problem, config)
     } else {
         memo.look(problem, config)
     }
 }
 
-// Hands the memo a refuted configuration; `here` tells that the memo names the problem.
+// Hands the memo a refuted configuration; `is_for_problem` tells that it names the problem.
 fn note_at<O: SeqObject, M: Memo<O>>(
     problem: &Problem<O>,
     config: Config<O>,
     longest: Longest,
     memo: &mut M,
-    here: bool,
+    is_for_problem: bool,
 ) -> Noted
-    requires here { IsTrue here → M.is_of memo.old problem.now }
-    requires refuted { IsRefutedWith (posed O.after O.State.eq O.Reply.eq problem.now) config.lifted config.state longest }
-    ensures held { IsKept result → M.holds memo.new config.lifted config.state }
-    ensures only { (set : List Bool) (s : O.State) → M.holds memo.new set s → M.holds memo.old set s ⊎ ((result ≡ New) × (set ≡ config.lifted) × (O.State.eq s config.state ≡ true)) }
+    requires of { IsTrue is_for_problem → M.is_of memo.old problem.now }
+    requires refuted { IsRefutedWith (problem_of O.after O.State.eq O.Reply.eq problem.now) config.lifted config.state longest }
+    ensures holds { IsKept result → (frames : List (PathFrame O.State)) → HoldsSearched (problem_of O.after O.State.eq O.Reply.eq problem.now) (M.holds memo.old) frames config None → HoldsSearched (problem_of O.after O.State.eq O.Reply.eq problem.now) (M.holds memo.new) frames config None × M.holds memo.new config.lifted config.state }
     ensures changes { M.changes memo.old memo.new }
 {
+    lawful::<O>();
     let (lifted, state) = config.into_parts();
-    if here {
+    if is_for_problem {
         memo.note_here(problem, lifted, state, longest)
     } else {
         memo.note_parts(problem, lifted, state, longest)
     }
 }
 
-// Counts a lift where the limit leaves room for it. Without a limit nothing is counted.
-fn count_lift(limit: Option<u64>, lifts: &mut u64) -> bool
-    requires { IfSome limit (λ most. lifts.old ≤ most) }
-    ensures more { lifts.old ≤ lifts.new }
-    ensures within { IfSome limit (λ most. lifts.new ≤ most) }
-    ensures counted { IsTrue result → IfSome limit (λ most. lifts.new ≡ lifts.old + 1) }
-    ensures met { (IsTrue result → ⊥) → IsSomeAnd limit (λ most. lifts.old ≡ most) }
+// Takes one of the lifts that are left. Without a limit nothing is counted.
+fn take_lift(left: &mut Option<u64>) -> bool
+    ensures taken { IsTrue result → IsTaken left.old left.new }
+    ensures none { (IsTrue result → ⊥) → left.old ≡ Some 0 }
 {
-    match limit {
+    match *left {
         None => true,
-        Some(most) => {
-            if *lifts == most {
-                false
-            } else {
-                *lifts += 1;
-                true
+        Some(0) => false,
+        Some(lifts) => {
+            *left = Some(lifts - 1);
+            true
+        }
+    }
+}
+
+// Why no call may be lifted: no lift is left, or the stop answers. Else one of the lifts left is taken.
+fn refusal<S: Stop>(left: &mut Option<u64>, stop: &mut S) -> Option<Outcome>
+    ensures refused { IfSome result (IsRefusal left.old (S.tells stop.new)) }
+    ensures taken { IfNone result (IsTaken left.old left.new) }
+    ensures stop { S.follows stop.old stop.new }
+{
+    if !take_lift(left) {
+        return Some(Outcome::Undecided);
+    }
+    match stop.ask() {
+        Some(told) => Some(Outcome::Stopped(told)),
+        None => None,
+    }
+}
+
+// Lifts the frame's call, which leads to the child: that is a success where the child is complete. Else the memo
+// is asked for the child, and the search goes on after the call or from the child.
+fn visit<O: SeqObject, M: Memo<O>>(
+    alloc: Global,
+    path: &mut Path<'_, O>,
+    frame: Frame<O>,
+    child: Config<O>,
+    memo: &mut M,
+    is_for_problem: bool,
+) -> Result<ControlFlow<Outcome, Position<O>>, AllocError>
+    requires of { IsTrue is_for_problem → M.is_of memo.old path.old.entries.problem }
+    requires progress { (root : Configuration O.State) × (limit left : Option ℕ) × IsProgress (problem_of O.after O.State.eq O.Reply.eq path.old.entries.problem) root limit path.old.entries.lifted path.old.frames.items left frame.config frame.longest (Some frame.call) }
+    requires lifted { child.lifted ≡ with_call frame.config.lifted frame.call }
+    requires next { IsNext (problem_of O.after O.State.eq O.Reply.eq path.old.entries.problem) frame.config.lifted frame.config.state frame.call child.state }
+    requires reachable { IsReachable (problem_of O.after O.State.eq O.Reply.eq path.old.entries.problem) child.lifted child.state }
+    ensures problem { path.new.entries.problem ≡ path.old.entries.problem }
+    ensures step { IfOk result (λ step. (root : Configuration O.State) (limit left after : Option ℕ) → IsTaken left after → IsProgress (problem_of O.after O.State.eq O.Reply.eq path.old.entries.problem) root limit path.old.entries.lifted path.old.frames.items left frame.config frame.longest (Some frame.call) → IsStep (problem_of O.after O.State.eq O.Reply.eq path.old.entries.problem) root limit path.new.entries.lifted path.new.frames.items after (λ told. ⊥) (work (length path.old.entries.problem.calls) path.old.frames.items frame.config.lifted frame.call) step) }
+    ensures holds { IfOk result (λ step. (root : Configuration O.State) → HoldsSearched (problem_of O.after O.State.eq O.Reply.eq path.old.entries.problem) (M.holds memo.old) path.old.frames.items frame.config (Some frame.call) → HoldsStep (problem_of O.after O.State.eq O.Reply.eq path.old.entries.problem) root (M.holds memo.new) path.new.frames.items step) }
+    ensures changes { M.changes memo.old memo.new }
+{
+    let problem = path.problem();
+    let call = frame.call();
+    path.lift(call);
+    if path.is_complete() {
+        let order = path.order_through(alloc, call)?;
+        return Ok(ControlFlow::Break(Outcome::Found(order)));
+    }
+    match look_at(problem, &child, memo, is_for_problem) {
+        Some(deep) => Ok(ControlFlow::Continue(path.leave(frame, deep))),
+        None => Ok(ControlFlow::Continue(path.descend(frame, child)?)),
+    }
+}
+
+// Tries the frame's call: passes it over where it can't follow, and else visits what it leads to, where
+// another call may be lifted.
+fn try_call<O: SeqObject, M: Memo<O>, S: Stop>(
+    alloc: Global,
+    path: &mut Path<'_, O>,
+    frame: Frame<O>,
+    memo: &mut M,
+    is_for_problem: bool,
+    left: &mut Option<u64>,
+    stop: &mut S,
+) -> Result<ControlFlow<Outcome, Position<O>>, AllocError>
+    requires of { IsTrue is_for_problem → M.is_of memo.old path.old.entries.problem }
+    requires progress { (root : Configuration O.State) × (limit : Option ℕ) × IsProgress (problem_of O.after O.State.eq O.Reply.eq path.old.entries.problem) root limit path.old.entries.lifted path.old.frames.items left.old frame.config frame.longest (Some frame.call) }
+    ensures problem { path.new.entries.problem ≡ path.old.entries.problem }
+    ensures step { IfOk result (λ step. (root : Configuration O.State) (limit : Option ℕ) → IsProgress (problem_of O.after O.State.eq O.Reply.eq path.old.entries.problem) root limit path.old.entries.lifted path.old.frames.items left.old frame.config frame.longest (Some frame.call) → IsStep (problem_of O.after O.State.eq O.Reply.eq path.old.entries.problem) root limit path.new.entries.lifted path.new.frames.items left.new (S.tells stop.new) (work (length path.old.entries.problem.calls) path.old.frames.items frame.config.lifted frame.call) step) }
+    ensures holds { IfOk result (λ step. (root : Configuration O.State) → HoldsSearched (problem_of O.after O.State.eq O.Reply.eq path.old.entries.problem) (M.holds memo.old) path.old.frames.items frame.config (Some frame.call) → HoldsStep (problem_of O.after O.State.eq O.Reply.eq path.old.entries.problem) root (M.holds memo.new) path.new.frames.items step) }
+    ensures changes { M.changes memo.old memo.new }
+    ensures stop { S.follows stop.old stop.new }
+{
+    let Some(child) = path.child(alloc, &frame)? else {
+        return Ok(ControlFlow::Continue(path.skip(frame)));
+    };
+    if let Some(outcome) = refusal(left, stop) {
+        return Ok(ControlFlow::Break(outcome));
+    }
+    visit(alloc, path, frame, child, memo, is_for_problem)
+}
+
+// What a search keeps count of.
+#[derive(Drop)]
+struct Tally {
+    // How many lifts are left, where there is a limit.
+    left: Option<u64>,
+    // Whether the memo kept all that it was handed.
+    whole: bool,
+}
+
+// One step of a search: tries the candidate. Where none is left, the configuration is refuted: hands it to the memo,
+// and goes back.
+fn step<O: SeqObject, M: Memo<O>, S: Stop>(
+    alloc: Global,
+    path: &mut Path<'_, O>,
+    position: Position<O>,
+    memo: &mut M,
+    is_for_problem: bool,
+    tally: &mut Tally,
+    stop: &mut S,
+) -> Result<ControlFlow<Outcome, Position<O>>, AllocError>
+    requires of { IsTrue is_for_problem → M.is_of memo.old path.old.entries.problem }
+    requires progress { (root : Configuration O.State) × (limit : Option ℕ) × IsProgress (problem_of O.after O.State.eq O.Reply.eq path.old.entries.problem) root limit path.old.entries.lifted path.old.frames.items tally.old.left position.config position.longest position.candidate }
+    ensures problem { path.new.entries.problem ≡ path.old.entries.problem }
+    ensures step { IfOk result (λ step. (root : Configuration O.State) (limit : Option ℕ) → IsProgress (problem_of O.after O.State.eq O.Reply.eq path.old.entries.problem) root limit path.old.entries.lifted path.old.frames.items tally.old.left position.config position.longest position.candidate → IsStep (problem_of O.after O.State.eq O.Reply.eq path.old.entries.problem) root limit path.new.entries.lifted path.new.frames.items tally.new.left (S.tells stop.new) (work (length path.old.entries.problem.calls) path.old.frames.items position.config.lifted (bound (problem_of O.after O.State.eq O.Reply.eq path.old.entries.problem) position.candidate)) step) }
+    ensures whole { IsTrue tally.new.whole → IsTrue tally.old.whole }
+    ensures holds { IfOk result (λ step. IsTrue tally.new.whole → (root : Configuration O.State) (limit : Option ℕ) → IsProgress (problem_of O.after O.State.eq O.Reply.eq path.old.entries.problem) root limit path.old.entries.lifted path.old.frames.items tally.old.left position.config position.longest position.candidate → HoldsSearched (problem_of O.after O.State.eq O.Reply.eq path.old.entries.problem) (M.holds memo.old) path.old.frames.items position.config position.candidate → HoldsStep (problem_of O.after O.State.eq O.Reply.eq path.old.entries.problem) root (M.holds memo.new) path.new.frames.items step) }
+    ensures changes { M.changes memo.old memo.new }
+    ensures stop { S.follows stop.old stop.new }
+{
+    let (config, longest, candidate) = position.into_parts();
+    let Some(call) = candidate else {
+        let noted = note_at(path.problem(), config, longest, memo, is_for_problem);
+        tally.whole = tally.whole && noted.is_kept();
+        return Ok(path.backtrack(longest));
+    };
+    let frame = Frame::new(config, call, longest);
+    try_call(
+        alloc,
+        path,
+        frame,
+        memo,
+        is_for_problem,
+        &mut tally.left,
+        stop,
+    )
+}
+
+// Searches on from a position without a frame, where the root is, until the search ends.
+fn search_on<O: SeqObject, M: Memo<O>, S: Stop>(
+    alloc: Global,
+    path: &mut Path<'_, O>,
+    root: Position<O>,
+    memo: &mut M,
+    is_for_problem: bool,
+    limit: Option<u64>,
+    stop: &mut S,
+) -> Result<Ended, AllocError>
+    requires of { IsTrue is_for_problem → M.is_of memo.old path.old.entries.problem }
+    requires frames { path.old.frames.items ≡ [] }
+    requires progress { IsProgress (problem_of O.after O.State.eq O.Reply.eq path.old.entries.problem) root.config limit path.old.entries.lifted path.old.frames.items limit root.config root.longest root.candidate }
+    ensures answer { IfOk result (λ ended. IsAnswer (problem_of O.after O.State.eq O.Reply.eq path.old.entries.problem) root.config.lifted root.config.state limit (S.tells stop.new) ended.outcome) }
+    ensures closed { IfOk result (λ ended. IsTrue ended.whole → IsRefutation ended.outcome → HoldsSearched (problem_of O.after O.State.eq O.Reply.eq path.old.entries.problem) (M.holds memo.old) [] root.config root.candidate → IsClosed (problem_of O.after O.State.eq O.Reply.eq path.old.entries.problem) (M.holds memo.new) × M.holds memo.new root.config.lifted root.config.state) }
+    ensures memo { M.changes memo.old memo.new }
+    ensures stop { S.follows stop.old stop.new }
+{
+    let mut position = root;
+    let mut tally = Tally {
+        left: limit,
+        whole: true,
+    };
+    loop {
+        match step(
+            alloc,
+            path,
+            position,
+            memo,
+            is_for_problem,
+            &mut tally,
+            stop,
+        )? {
+            ControlFlow::Continue(next) => position = next,
+            ControlFlow::Break(outcome) => {
+                return Ok(Ended {
+                    outcome,
+                    whole: tally.whole,
+                });
             }
         }
     }
 }
 
-// The entries of the problem, from which the calls of the configuration are lifted.
-fn entries_at<'p, O: SeqObject>(
+// Searches a configuration and what it leads to, over the path that begins there.
+fn search_path<O: SeqObject, M: Memo<O>, S: Stop>(
     alloc: Global,
-    problem: &'p Problem<O>,
-    config: &Config<O>,
-) -> Result<Entries<'p, O>, AllocError>
-    requires { length config.now.lifted ≡ length problem.now.calls }
-    ensures problem { IfOk result (λ entries. entries.problem ≡ problem.now) }
-    ensures lifted { IfOk result (λ entries. lifted_set (posed O.after O.State.eq O.Reply.eq problem.now) entries.lifted ≡ config.now.lifted) }
-{
-    let mut entries = Entries::new(alloc, problem)?;
-    for call in 0..problem.len() {
-        if config.has(call) {
-            entries.lift(call);
-        }
-    }
-    Ok(entries)
-}
-
-// Searches a configuration and what it leads to, with the lifts counted so far. `here` tells that the
-// memo names the problem, so that it compares nothing.
-//
-// The frames are the configurations on the way, each with the call that leads on from it; `current` is where
-// they lead, and `candidate` the call that is tried next there.
-pub(crate) fn search_from<O: SeqObject, M: Memo<O>, S: Stop>(
-    alloc: Global,
-    problem: &Problem<O>,
+    path: &mut Path<'_, O>,
     config: Config<O>,
     memo: &mut M,
-    here: bool,
+    is_for_problem: bool,
     limit: Option<u64>,
-    lifts: &mut u64,
     stop: &mut S,
 ) -> Result<Ended, AllocError>
-    requires reachable { IsReachable (posed O.after O.State.eq O.Reply.eq problem.now) config.lifted config.state }
-    requires here { IsTrue here → M.is_of memo.old problem.now }
-    requires within { IfSome limit (λ most. lifts.old ≤ most) }
-    ensures answer { IfOk result (λ ended. IsFinding (posed O.after O.State.eq O.Reply.eq problem.now) config.lifted config.state ended.outcome) }
+    requires reachable { IsReachable (problem_of O.after O.State.eq O.Reply.eq path.old.entries.problem) config.lifted config.state }
+    requires lifted { lifted_set (problem_of O.after O.State.eq O.Reply.eq path.old.entries.problem) path.old.entries.lifted ≡ config.lifted }
+    requires frames { path.old.frames.items ≡ [] }
+    requires of { IsTrue is_for_problem → M.is_of memo.old path.old.entries.problem }
+    ensures answer { IfOk result (λ ended. IsAnswer (problem_of O.after O.State.eq O.Reply.eq path.old.entries.problem) config.lifted config.state limit (S.tells stop.new) ended.outcome) }
+    ensures closed { IfOk result (λ ended. IsTrue ended.whole → IsRefutation ended.outcome → IsClosed (problem_of O.after O.State.eq O.Reply.eq path.old.entries.problem) (M.holds memo.old) → IsClosed (problem_of O.after O.State.eq O.Reply.eq path.old.entries.problem) (M.holds memo.new) × M.holds memo.new config.lifted config.state) }
     ensures memo { M.changes memo.old memo.new }
-    ensures closed { IfOk result (λ ended. IsTrue ended.whole → EndsClosed (posed O.after O.State.eq O.Reply.eq problem.now) (M.holds memo.old) (M.holds memo.new) config.lifted config.state ended.outcome) }
-    ensures more { lifts.old ≤ lifts.new }
-    ensures within { IfSome limit (λ most. lifts.new ≤ most) }
-    ensures size { IfOk result (λ ended. IsCounted (posed O.after O.State.eq O.Reply.eq problem.now) config.lifted config.state limit lifts.old lifts.new ended.outcome) }
     ensures stop { S.follows stop.old stop.new }
-    ensures told { IfOk result (λ ended. IsTold (S.tells stop.new) ended.outcome) }
 {
-    let mut entries = entries_at(alloc, problem, &config)?;
-    if entries.is_complete() {
+    if path.is_complete() {
         return Ok(Ended {
             outcome: Outcome::Found(Order::new(Vec::new(alloc))),
             whole: true,
         });
     }
-    if let Some(longest) = look_at(problem, &config, memo, here) {
+    let problem = path.problem();
+    if let Some(longest) = look_at(problem, &config, memo, is_for_problem) {
         return Ok(Ended {
             outcome: Outcome::Refuted(longest),
             whole: true,
         });
     }
-    lawful::<O>();
-    let mut frames = Vec::with_capacity(alloc, problem.len())?;
-    let mut whole = true;
-    let mut current = config;
-    let mut longest = Longest::none();
-    let mut candidate = entries.first_minimal();
-    loop {
-        let Some(call) = candidate else {
-            let noted = note_at(problem, current, longest, memo, here);
-            whole = whole && noted.is_kept();
-            let Some(frame) = frames.pop() else {
-                return Ok(Ended {
-                    outcome: Outcome::Refuted(longest),
-                    whole,
-                });
-            };
-            let (left, call, before) = Frame::into_parts(frame);
-            current = left;
-            longest = before.or_after(call, longest);
-            entries.unlift(call);
-            candidate = entries.next_minimal(call);
-            continue;
-        };
-        let Some(child) = current.child_of_minimal(alloc, problem, call)? else {
-            candidate = entries.next_minimal(call);
-            continue;
-        };
-        if !count_lift(limit, lifts) {
-            return Ok(Ended {
-                outcome: Outcome::Undecided,
-                whole,
-            });
-        }
-        if let Some(told) = stop.ask() {
-            return Ok(Ended {
-                outcome: Outcome::Stopped(told),
-                whole,
-            });
-        }
-        entries.lift(call);
-        if entries.is_complete() {
-            return Ok(Ended {
-                outcome: Outcome::Found(order_through(alloc, frames.as_slice(), call)?),
-                whole,
-            });
-        }
-        if let Some(deep) = look_at(problem, &child, memo, here) {
-            longest = longest.or_after(call, deep);
-            entries.unlift(call);
-            candidate = entries.next_minimal(call);
-            continue;
-        }
-        frames.push(Frame::new(current, call, longest))?;
-        current = child;
-        longest = Longest::none();
-        candidate = entries.first_minimal();
-    }
+    let root = path.enter(config);
+    search_on(alloc, path, root, memo, is_for_problem, limit, stop)
+}
+
+// Searches a configuration and what it leads to. `is_for_problem` tells that the memo names the problem, so that
+// it compares nothing.
+pub(crate) fn search_from<O: SeqObject, M: Memo<O>, S: Stop>(
+    alloc: Global,
+    problem: &Problem<O>,
+    config: Config<O>,
+    memo: &mut M,
+    is_for_problem: bool,
+    limit: Option<u64>,
+    stop: &mut S,
+) -> Result<Ended, AllocError>
+    requires reachable { IsReachable (problem_of O.after O.State.eq O.Reply.eq problem.now) config.lifted config.state }
+    requires of { IsTrue is_for_problem → M.is_of memo.old problem.now }
+    ensures answer { IfOk result (λ ended. IsAnswer (problem_of O.after O.State.eq O.Reply.eq problem.now) config.lifted config.state limit (S.tells stop.new) ended.outcome) }
+    ensures closed { IfOk result (λ ended. IsTrue ended.whole → IsRefutation ended.outcome → IsClosed (problem_of O.after O.State.eq O.Reply.eq problem.now) (M.holds memo.old) → IsClosed (problem_of O.after O.State.eq O.Reply.eq problem.now) (M.holds memo.new) × M.holds memo.new config.lifted config.state) }
+    ensures memo { M.changes memo.old memo.new }
+    ensures stop { S.follows stop.old stop.new }
+{
+    let mut path = Path::new(alloc, problem, &config)?;
+    search_path(alloc, &mut path, config, memo, is_for_problem, limit, stop)
 }
 
 /// The depth-first search from a configuration over a memo (Wing and Gong 1993; Lowe 2017): a complete
@@ -227,15 +331,14 @@ pub fn search<O: SeqObject, M: Memo<O>, S: Stop>(
     limit: Option<u64>,
     stop: &mut S,
 ) -> Result<Outcome, AllocError>
-    requires { IsReachable (posed O.after O.State.eq O.Reply.eq problem.now) config.now.lifted config.now.state }
-    ensures answer { IfOk result (IsAnswer (posed O.after O.State.eq O.Reply.eq problem.now) config.now.lifted config.now.state limit (S.tells stop.new)) }
+    requires { IsReachable (problem_of O.after O.State.eq O.Reply.eq problem.now) config.now.lifted config.now.state }
+    ensures answer { IfOk result (IsAnswer (problem_of O.after O.State.eq O.Reply.eq problem.now) config.now.lifted config.now.state limit (S.tells stop.new)) }
     ensures memo { M.changes memo.old memo.new }
     ensures stop { S.follows stop.old stop.new }
 {
     lawful::<O>();
-    let here = memo.is_for(problem);
+    let is_for_problem = memo.is_for(problem);
     let copy = config.copy(alloc, problem)?;
-    let mut lifts = 0;
-    let ended = search_from(alloc, problem, copy, memo, here, limit, &mut lifts, stop)?;
+    let ended = search_from(alloc, problem, copy, memo, is_for_problem, limit, stop)?;
     Ok(ended.outcome)
 }

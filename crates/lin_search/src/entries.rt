@@ -1,6 +1,6 @@
 ghost use Rattle.std.specs.Prelude.{◌≡◌, ℕ, ◌+◌, ◌-◌, ◌<◌, ◌++◌, ◌∷◌, ◌↔◌, [], List, false, length, slice_get, IfOk, IsTrue};
-ghost use Rattle.lin_history.specs.Posed.{posed};
-ghost use Rattle.lin_history.specs.Continuations.{has};
+ghost use Rattle.lin_history.specs.Problems.Problem.{problem_of};
+ghost use Rattle.lin_history.specs.Problems.Continuations.{has};
 ghost use Rattle.lin_search.specs.CallSet.{lifted_set};
 ghost use Rattle.lin_search.specs.Next.{HasEveryCompleted};
 ghost use Rattle.lin_search.specs.Entries.{IsMinimal, IsLeastMinimal};
@@ -36,12 +36,12 @@ impl<'p, O: SeqObject> Model for Entries<'p, O> {
 
     ghost Value = { Lifting O O.State O.Op O.Reply };
 
-    ghost use Rattle.lin_history.specs.Posed.{posed};
+    ghost use Rattle.lin_history.specs.Problems.Problem.{problem_of};
     ghost use Rattle.lin_search.specs.Entered.{AreEntries};
 
     ghost view = { λ e. record { problem = e.problem.now; lifted = e.lifted.items } };
 
-    ghost invariant = { λ e. AreEntries (posed O.after O.State.eq O.Reply.eq e.problem.now) e.events.items e.places e.links e.lifted.items (vec_capacity e.lifted) e.left };
+    ghost invariant = { λ e. AreEntries (problem_of O.after O.State.eq O.Reply.eq e.problem.now) e.events.items e.places e.links e.lifted.items (vec_capacity e.lifted) e.left };
 }
 
 // How many calls are completed.
@@ -114,11 +114,18 @@ impl<'p, O: SeqObject> Entries<'p, O> {
         })
     }
 
+    /// The problem.
+    pub(crate) fn problem(&self) -> &'p Problem<O>
+        ensures { result.now ≡ self.now.problem }
+    {
+        self.problem
+    }
+
     /// Lifts the call: takes its entries out. Condition: it is a call of the problem that is not lifted. It takes
     /// constant time and no memory.
     pub fn lift(&mut self, call: usize)
         requires within { call < length self.old.problem.calls }
-        requires outside { has (lifted_set (posed O.after O.State.eq O.Reply.eq self.old.problem) self.old.lifted) call ≡ false }
+        requires outside { has (lifted_set (problem_of O.after O.State.eq O.Reply.eq self.old.problem) self.old.lifted) call ≡ false }
         ensures { self.new ≡ record { problem = self.old.problem; lifted = self.old.lifted ++ call ∷ [] } }
     {
         take_out(&mut self.links, &self.places, call);
@@ -143,15 +150,15 @@ impl<'p, O: SeqObject> Entries<'p, O> {
 
     /// The least minimal call: a call that is not lifted and that no other such call precedes. It takes constant time.
     pub fn first_minimal(&self) -> Option<usize>
-        ensures { IsLeastMinimal (posed O.after O.State.eq O.Reply.eq self.now.problem) (lifted_set (posed O.after O.State.eq O.Reply.eq self.now.problem) self.now.lifted) 0 result }
+        ensures { IsLeastMinimal (problem_of O.after O.State.eq O.Reply.eq self.now.problem) (lifted_set (problem_of O.after O.State.eq O.Reply.eq self.now.problem) self.now.lifted) 0 result }
     {
         call_at(self.events.as_slice(), self.links.next(0))
     }
 
     /// The least minimal call after this one. Condition: this one is minimal. It takes constant time.
     pub fn next_minimal(&self, call: usize) -> Option<usize>
-        requires { IsMinimal (posed O.after O.State.eq O.Reply.eq self.now.problem) (lifted_set (posed O.after O.State.eq O.Reply.eq self.now.problem) self.now.lifted) call }
-        ensures { IsLeastMinimal (posed O.after O.State.eq O.Reply.eq self.now.problem) (lifted_set (posed O.after O.State.eq O.Reply.eq self.now.problem) self.now.lifted) (call + 1) result }
+        requires { IsMinimal (problem_of O.after O.State.eq O.Reply.eq self.now.problem) (lifted_set (problem_of O.after O.State.eq O.Reply.eq self.now.problem) self.now.lifted) call }
+        ensures { IsLeastMinimal (problem_of O.after O.State.eq O.Reply.eq self.now.problem) (lifted_set (problem_of O.after O.State.eq O.Reply.eq self.now.problem) self.now.lifted) (call + 1) result }
     {
         let entry = self.places.called(call);
         call_at(self.events.as_slice(), self.links.next(entry))
@@ -159,7 +166,7 @@ impl<'p, O: SeqObject> Entries<'p, O> {
 
     // Whether every completed call is lifted. It takes constant time.
     pub(crate) fn is_complete(&self) -> bool
-        ensures { IsTrue result ↔ HasEveryCompleted (posed O.after O.State.eq O.Reply.eq self.now.problem) (lifted_set (posed O.after O.State.eq O.Reply.eq self.now.problem) self.now.lifted) }
+        ensures { IsTrue result ↔ HasEveryCompleted (problem_of O.after O.State.eq O.Reply.eq self.now.problem) (lifted_set (problem_of O.after O.State.eq O.Reply.eq self.now.problem) self.now.lifted) }
     {
         self.left == 0
     }

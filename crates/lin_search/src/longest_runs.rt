@@ -1,9 +1,9 @@
 ghost use Rattle.std.specs.Prelude.{ℕ, List, IfOk, IsTrue};
-ghost use Rattle.lin_history.specs.Lists.{IsLongest};
-ghost use Rattle.lin_history.specs.Posed.{posed};
-ghost use Rattle.lin_history.specs.Continuations.{IsContinuation};
-ghost use Rattle.lin_history.specs.Configurations.{IsReachable};
-ghost use Rattle.lin_history.specs.Linearizations.{IsLinearization, IsRun};
+ghost use Rattle.lin_history.specs.Problems.Lists.{IsLongest};
+ghost use Rattle.lin_history.specs.Problems.Problem.{problem_of};
+ghost use Rattle.lin_history.specs.Problems.Continuations.{IsContinuation};
+ghost use Rattle.lin_history.specs.Problems.Configurations.{IsReachable};
+ghost use Rattle.lin_history.specs.Problems.Linearizations.{IsLinearization, IsRun};
 ghost use Rattle.lin_search.specs.Answer.{HasNoCompletion};
 ghost use Rattle.lin_search.specs.LongestRun.{IsFirstLongest};
 
@@ -18,34 +18,32 @@ use lin_object::{SeqObject, lawful};
 use std::alloc::{AllocError, Global};
 
 // What the longest continuations of a configuration with no completion tell: by a look, or by a search where
-// the memo does not know it. `here` tells that the memo names the problem.
+// the memo does not know it. `is_for_problem` tells that the memo names the problem.
 fn longest_of<O: SeqObject, M: Memo<O>>(
     alloc: Global,
     problem: &Problem<O>,
     config: &Config<O>,
     memo: &mut M,
-    here: bool,
+    is_for_problem: bool,
 ) -> Result<Longest, AllocError>
-    requires reachable { IsReachable (posed O.after O.State.eq O.Reply.eq problem.now) config.now.lifted config.now.state }
-    requires none { HasNoCompletion (posed O.after O.State.eq O.Reply.eq problem.now) config.now.lifted config.now.state }
-    requires here { IsTrue here → M.is_of memo.old problem.now }
-    ensures longest { IfOk result (λ longest. IsLongest (IsContinuation (posed O.after O.State.eq O.Reply.eq problem.now) config.now.lifted config.now.state) longest.more longest.first) }
+    requires reachable { IsReachable (problem_of O.after O.State.eq O.Reply.eq problem.now) config.now.lifted config.now.state }
+    requires none { HasNoCompletion (problem_of O.after O.State.eq O.Reply.eq problem.now) config.now.lifted config.now.state }
+    requires of { IsTrue is_for_problem → M.is_of memo.old problem.now }
+    ensures longest { IfOk result (λ longest. IsLongest (IsContinuation (problem_of O.after O.State.eq O.Reply.eq problem.now) config.now.lifted config.now.state) longest.more longest.first) }
     ensures memo { M.changes memo.old memo.new }
 {
     lawful::<O>();
-    if let Some(longest) = look_at(problem, config, memo, here) {
+    if let Some(longest) = look_at(problem, config, memo, is_for_problem) {
         return Ok(longest);
     }
     let copy = config.copy(alloc, problem)?;
-    let mut lifts = 0;
     let ended = search_from(
         alloc,
         problem,
         copy,
         memo,
-        here,
+        is_for_problem,
         None,
-        &mut lifts,
         &mut NoStop,
     )?;
     match ended.outcome {
@@ -67,22 +65,22 @@ pub fn longest_run<O: SeqObject, M: Memo<O>>(
     problem: &Problem<O>,
     memo: &mut M,
 ) -> Result<Order, AllocError>
-    requires { (l : List ℕ) → IsLinearization (posed O.after O.State.eq O.Reply.eq problem.now) l → ⊥ }
-    ensures run { IfOk result (λ order. IsFirstLongest (IsRun (posed O.after O.State.eq O.Reply.eq problem.now)) order) }
+    requires { (l : List ℕ) → IsLinearization (problem_of O.after O.State.eq O.Reply.eq problem.now) l → ⊥ }
+    ensures run { IfOk result (λ order. IsFirstLongest (IsRun (problem_of O.after O.State.eq O.Reply.eq problem.now)) order) }
     ensures memo { M.changes memo.old memo.new }
 {
     lawful::<O>();
-    let here = memo.is_for(problem);
+    let is_for_problem = memo.is_for(problem);
     let mut calls = Vec::new(alloc);
     let mut config = Config::root(alloc, problem)?;
-    let mut longest = longest_of(alloc, problem, &config, memo, here)?;
+    let mut longest = longest_of(alloc, problem, &config, memo, is_for_problem)?;
     while let Some(call) = longest.first {
         calls.push(call)?;
         let Some(child) = config.child_of_minimal(alloc, problem, call)? else {
             unreachable!()
         };
         config = child;
-        longest = longest_of(alloc, problem, &config, memo, here)?;
+        longest = longest_of(alloc, problem, &config, memo, is_for_problem)?;
     }
     Ok(Order::new(calls))
 }

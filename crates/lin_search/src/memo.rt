@@ -1,6 +1,6 @@
 ghost use Rattle.std.specs.Prelude.{◌≡◌, ◌↔◌, ◌⊎◌, Bool, List, true, IfSome, IsTrue};
-ghost use Rattle.lin_history.specs.Posing.{Posing};
-ghost use Rattle.lin_history.specs.Posed.{posed};
+ghost use Rattle.lin_history.specs.Problems.ProblemParts.{ProblemParts};
+ghost use Rattle.lin_history.specs.Problems.Problem.{problem_of};
 ghost use Rattle.lin_search.specs.Configuration.{Configuration};
 ghost use Rattle.lin_search.specs.Refuted.{IsRefutedWith};
 ghost use Rattle.lin_search.specs.Noted.{IsKept};
@@ -55,16 +55,16 @@ pub trait Memo<O: SeqObject> {
     ghost holds: { Self → List Bool → O.State → Type 0 };
 
     // The memo names this very problem, so that nothing has to be compared.
-    ghost is_of: { Self → Posing O O.State O.Op O.Reply → Type 0 };
+    ghost is_of: { Self → ProblemParts O O.State O.Op O.Reply → Type 0 };
 
     // What the memo's answer to a refutation says, of the memo before and after it. A memo that promises no
     // more than the clauses below says nothing.
-    ghost answers: { Self → Posing O O.State O.Op O.Reply → Configuration O.State → Longest → Noted → Self → Type 0 };
+    ghost answers: { Self → ProblemParts O O.State O.Op O.Reply → Configuration O.State → Longest → Noted → Self → Type 0 };
 
     /// What the longest continuations of the configuration tell, where the memo has it and names a problem
     /// that is the same: then the configuration is refuted in the asker's problem.
     fn look(&mut self, problem: &Problem<O>, config: &Config<O>) -> Option<Longest>
-        ensures refuted { IfSome result (λ longest. IsRefutedWith (posed O.after O.State.eq O.Reply.eq problem.now) config.now.lifted config.now.state longest) }
+        ensures refuted { IfSome result (λ longest. IsRefutedWith (problem_of O.after O.State.eq O.Reply.eq problem.now) config.now.lifted config.now.state longest) }
         ensures held { IfSome result (λ longest. holds self.new config.now.lifted config.now.state) }
         ensures only { (set : List Bool) (s : O.State) → holds self.new set s → holds self.old set s }
         ensures changes { changes self.old self.new };
@@ -77,7 +77,7 @@ pub trait Memo<O: SeqObject> {
         state: O::State,
         longest: Longest,
     ) -> Noted
-        requires { IsRefutedWith (posed O.after O.State.eq O.Reply.eq problem.now) lifted state longest }
+        requires { IsRefutedWith (problem_of O.after O.State.eq O.Reply.eq problem.now) lifted state longest }
         ensures held { IsKept result → holds self.new lifted state }
         ensures exact { answers self.old problem.now (record { lifted = lifted; state = state }) longest result self.new }
         ensures only { (set : List Bool) (s : O.State) → holds self.new set s → holds self.old set s ⊎ ((result ≡ New) × (set ≡ lifted) × (O.State.eq s state ≡ true)) }
@@ -94,7 +94,7 @@ pub trait Memo<O: SeqObject> {
     /// `look`, for the problem that the memo names; nothing is compared. Condition: it names this one.
     fn look_here(&mut self, problem: &Problem<O>, config: &Config<O>) -> Option<Longest>
         requires { is_of self.old problem.now }
-        ensures refuted { IfSome result (λ longest. IsRefutedWith (posed O.after O.State.eq O.Reply.eq problem.now) config.now.lifted config.now.state longest) }
+        ensures refuted { IfSome result (λ longest. IsRefutedWith (problem_of O.after O.State.eq O.Reply.eq problem.now) config.now.lifted config.now.state longest) }
         ensures held { IfSome result (λ longest. holds self.new config.now.lifted config.now.state) }
         ensures only { (set : List Bool) (s : O.State) → holds self.new set s → holds self.old set s }
         ensures changes { changes self.old self.new }
@@ -112,7 +112,7 @@ pub trait Memo<O: SeqObject> {
         longest: Longest,
     ) -> Noted
         requires here { is_of self.old problem.now }
-        requires refuted { IsRefutedWith (posed O.after O.State.eq O.Reply.eq problem.now) lifted state longest }
+        requires refuted { IsRefutedWith (problem_of O.after O.State.eq O.Reply.eq problem.now) lifted state longest }
         ensures held { IsKept result → holds self.new lifted state }
         ensures exact { answers self.old problem.now (record { lifted = lifted; state = state }) longest result self.new }
         ensures only { (set : List Bool) (s : O.State) → holds self.new set s → holds self.old set s ⊎ ((result ≡ New) × (set ≡ lifted) × (O.State.eq s state ≡ true)) }
@@ -144,5 +144,5 @@ pub trait Memo<O: SeqObject> {
     ghost at_equal: { (m : Self) (set : List Bool) (s t : O.State) → O.State.eq s t ≡ true → holds m set s → holds m set t };
 
     // The memo goes on naming the problem.
-    ghost keeps_problem: { (a b : Self) → changes a b → (p : Posing O O.State O.Op O.Reply) → is_of a p → is_of b p };
+    ghost keeps_problem: { (a b : Self) → changes a b → (p : ProblemParts O O.State O.Op O.Reply) → is_of a p → is_of b p };
 }

@@ -1,6 +1,6 @@
 ghost use Rattle.std.specs.Prelude.{◌≡◌, ◌++◌, ◌∷◌, ◌⊎◌, ◌↔◌, [], Bool, List, true, IfSome, IsSome, IsTrue, length};
-ghost use Rattle.lin_history.specs.Posed.{posed};
-ghost use Rattle.lin_history.specs.Same.{SameProblem};
+ghost use Rattle.lin_history.specs.Problems.Problem.{problem_of};
+ghost use Rattle.lin_history.specs.Problems.SameProblem.{SameProblem};
 ghost use Rattle.lin_search.specs.Refuted.{IsRefutedWith};
 ghost use Rattle.lin_search.specs.Noted.{IsKept};
 ghost use Rattle.lin_search.specs.Store.{Holds, IsNoted, IsStore, IsGrown};
@@ -33,12 +33,12 @@ impl<'p, O: SeqObject> Model for OwnMemo<'p, O> {
 
     ghost Value = { Store O O.State O.Op O.Reply };
 
-    ghost use Rattle.lin_history.specs.Posed.{posed};
+    ghost use Rattle.lin_history.specs.Problems.Problem.{problem_of};
     ghost use Rattle.lin_search.specs.Store.{IsStore};
 
     ghost view = { λ m. record { problem = m.problem.now; pairs = m.entries.entries } };
 
-    ghost invariant = { λ m. IsStore (posed O.after O.State.eq O.Reply.eq m.problem.now) m.entries.entries };
+    ghost invariant = { λ m. IsStore (problem_of O.after O.State.eq O.Reply.eq m.problem.now) m.entries.entries };
 }
 
 impl<'p, O: SeqObject> OwnMemo<'p, O> {
@@ -55,14 +55,14 @@ impl<'p, O: SeqObject> OwnMemo<'p, O> {
     /// How many configurations are stored.
     pub fn count(&self) -> u64
         ensures count { result ≡ length self.now.pairs }
-        ensures store { IsStore (posed O.after O.State.eq O.Reply.eq self.now.problem) self.now.pairs }
+        ensures store { IsStore (problem_of O.after O.State.eq O.Reply.eq self.now.problem) self.now.pairs }
     {
         self.entries.len() as u64
     }
 
     // What is stored with the configuration.
     fn find(&self, config: &Config<O>) -> Option<Longest>
-        ensures refuted { IfSome result (λ longest. IsRefutedWith (posed O.after O.State.eq O.Reply.eq self.now.problem) config.now.lifted config.now.state longest) }
+        ensures refuted { IfSome result (λ longest. IsRefutedWith (problem_of O.after O.State.eq O.Reply.eq self.now.problem) config.now.lifted config.now.state longest) }
         ensures exact { IsSome result ↔ Holds O.State.eq self.now.pairs config.now.lifted config.now.state }
     {
         lawful::<O>();
@@ -71,7 +71,7 @@ impl<'p, O: SeqObject> OwnMemo<'p, O> {
 
     // Stores a configuration of the problem that the memo names.
     fn add(&mut self, config: Config<O>, longest: Longest) -> Noted
-        requires { IsRefutedWith (posed O.after O.State.eq O.Reply.eq self.old.problem) config.lifted config.state longest }
+        requires { IsRefutedWith (problem_of O.after O.State.eq O.Reply.eq self.old.problem) config.lifted config.state longest }
         ensures problem { self.new.problem ≡ self.old.problem }
         ensures exact { IsNoted O.State.eq (Unit {0}) self.old.pairs self.new.pairs config longest result }
     {
@@ -88,7 +88,7 @@ impl<'p, O: SeqObject> OwnMemo<'p, O> {
     /// What the longest continuations of the configuration tell: `Some` exactly where the configuration is
     /// stored and the problem that the memo names is the `same` as this one. It takes no memory.
     pub fn look(&self, problem: &Problem<O>, config: &Config<O>) -> Option<Longest>
-        ensures refuted { IfSome result (λ longest. IsRefutedWith (posed O.after O.State.eq O.Reply.eq problem.now) config.now.lifted config.now.state longest) }
+        ensures refuted { IfSome result (λ longest. IsRefutedWith (problem_of O.after O.State.eq O.Reply.eq problem.now) config.now.lifted config.now.state longest) }
         ensures exact { IsSome result ↔ (SameProblem O.eq O.State.eq O.Op.eq O.Reply.eq self.now.problem problem.now × Holds O.State.eq self.now.pairs config.now.lifted config.now.state) }
     {
         lawful::<O>();
@@ -112,7 +112,7 @@ impl<'p, O: SeqObject> Memo<O> for OwnMemo<'p, O> {
     ghost is_of = { λ m. SameProblem O.eq O.State.eq O.Op.eq O.Reply.eq m.problem };
 
     fn look(&mut self, problem: &Problem<O>, config: &Config<O>) -> Option<Longest>
-        ensures refuted { IfSome result (λ longest. IsRefutedWith (posed O.after O.State.eq O.Reply.eq problem.now) config.now.lifted config.now.state longest) }
+        ensures refuted { IfSome result (λ longest. IsRefutedWith (problem_of O.after O.State.eq O.Reply.eq problem.now) config.now.lifted config.now.state longest) }
         ensures held { IfSome result (λ longest. Holds O.State.eq self.new.pairs config.now.lifted config.now.state) }
         ensures only { (set : List Bool) (s : O.State) → Holds O.State.eq self.new.pairs set s → Holds O.State.eq self.old.pairs set s }
         ensures changes { IsGrown self.old self.new }
@@ -129,7 +129,7 @@ impl<'p, O: SeqObject> Memo<O> for OwnMemo<'p, O> {
         state: O::State,
         longest: Longest,
     ) -> Noted
-        requires { IsRefutedWith (posed O.after O.State.eq O.Reply.eq problem.now) lifted state longest }
+        requires { IsRefutedWith (problem_of O.after O.State.eq O.Reply.eq problem.now) lifted state longest }
         ensures held { IsKept result → Holds O.State.eq self.new.pairs lifted state }
         ensures exact { IsNoted O.State.eq (SameProblem O.eq O.State.eq O.Op.eq O.Reply.eq self.old.problem problem.now) self.old.pairs self.new.pairs (record { lifted = lifted; state = state }) longest result }
         ensures only { (set : List Bool) (s : O.State) → Holds O.State.eq self.new.pairs set s → Holds O.State.eq self.old.pairs set s ⊎ ((result ≡ New) × (set ≡ lifted) × (O.State.eq s state ≡ true)) }
@@ -151,7 +151,7 @@ impl<'p, O: SeqObject> Memo<O> for OwnMemo<'p, O> {
 
     fn look_here(&mut self, problem: &Problem<O>, config: &Config<O>) -> Option<Longest>
         requires { SameProblem O.eq O.State.eq O.Op.eq O.Reply.eq self.old.problem problem.now }
-        ensures refuted { IfSome result (λ longest. IsRefutedWith (posed O.after O.State.eq O.Reply.eq problem.now) config.now.lifted config.now.state longest) }
+        ensures refuted { IfSome result (λ longest. IsRefutedWith (problem_of O.after O.State.eq O.Reply.eq problem.now) config.now.lifted config.now.state longest) }
         ensures held { IfSome result (λ longest. Holds O.State.eq self.new.pairs config.now.lifted config.now.state) }
         ensures only { (set : List Bool) (s : O.State) → Holds O.State.eq self.new.pairs set s → Holds O.State.eq self.old.pairs set s }
         ensures changes { IsGrown self.old self.new }
@@ -170,7 +170,7 @@ impl<'p, O: SeqObject> Memo<O> for OwnMemo<'p, O> {
         longest: Longest,
     ) -> Noted
         requires here { SameProblem O.eq O.State.eq O.Op.eq O.Reply.eq self.old.problem problem.now }
-        requires refuted { IsRefutedWith (posed O.after O.State.eq O.Reply.eq problem.now) lifted state longest }
+        requires refuted { IsRefutedWith (problem_of O.after O.State.eq O.Reply.eq problem.now) lifted state longest }
         ensures held { IsKept result → Holds O.State.eq self.new.pairs lifted state }
         ensures exact { IsNoted O.State.eq (SameProblem O.eq O.State.eq O.Op.eq O.Reply.eq self.old.problem problem.now) self.old.pairs self.new.pairs (record { lifted = lifted; state = state }) longest result }
         ensures only { (set : List Bool) (s : O.State) → Holds O.State.eq self.new.pairs set s → Holds O.State.eq self.old.pairs set s ⊎ ((result ≡ New) × (set ≡ lifted) × (O.State.eq s state ≡ true)) }

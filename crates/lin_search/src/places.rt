@@ -1,6 +1,6 @@
 ghost use Rattle.std.specs.Prelude.{◌≡◌, ℕ, ◌<◌, ◌^◌, Some, length, slice_get, slice_index, IfOk};
-ghost use Rattle.lin_history.specs.declared.timeline.ProblemEvent.{ProblemEvent as Event};
-ghost use Rattle.lin_history.specs.declared.timeline.ProblemEvent.TheVariants.{Call, Return};
+ghost use Rattle.lin_history.specs.declared.problems.timeline.ProblemEvent.{ProblemEvent as Event};
+ghost use Rattle.lin_history.specs.declared.problems.timeline.ProblemEvent.TheVariants.{Call, Return};
 ghost use Rattle.lin_search.specs.Places.{ArePlaces};
 
 use lin_history::ProblemEvent;

@@ -1,6 +1,6 @@
 ghost use Rattle.std.specs.Prelude.{IfOk};
-ghost use Rattle.lin_history.specs.Posed.{posed};
-ghost use Rattle.lin_history.specs.Configurations.{IsReachable};
+ghost use Rattle.lin_history.specs.Problems.Problem.{problem_of};
+ghost use Rattle.lin_history.specs.Problems.Configurations.{IsReachable};
 ghost use Rattle.lin_search.specs.Answer.{IsDecision};
 
 use crate::config::Config;
@@ -20,8 +20,8 @@ pub fn search_plain<O: SeqObject>(
     problem: &Problem<O>,
     config: &Config<O>,
 ) -> Result<Outcome, AllocError>
-    requires { IsReachable (posed O.after O.State.eq O.Reply.eq problem.now) config.now.lifted config.now.state }
-    ensures { IfOk result (IsDecision (posed O.after O.State.eq O.Reply.eq problem.now) config.now.lifted config.now.state) }
+    requires { IsReachable (problem_of O.after O.State.eq O.Reply.eq problem.now) config.now.lifted config.now.state }
+    ensures { IfOk result (IsDecision (problem_of O.after O.State.eq O.Reply.eq problem.now) config.now.lifted config.now.state) }
 {
     if config.is_complete(problem) {
         return Ok(Outcome::Found(Order::new(Vec::new(alloc))));

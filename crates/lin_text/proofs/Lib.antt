@@ -1,6 +1,6 @@
-pub mod Causes
-pub mod Json
-pub mod Lines
-pub mod Walk
-pub mod Wholes
-pub mod Operations
+pub mod CauseLemmas
+pub mod JsonLemmas
+pub mod LineLemmas
+pub mod TextLemmas
+pub mod WholeNumberLemmas
+pub mod OperationLemmas

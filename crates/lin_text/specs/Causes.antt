@@ -1,6 +1,6 @@
 -- What a refusal of the builder says of a text.
-use Rattle.lin_history.specs.declared.fault.BuildFault.{BuildFault}
-use Rattle.lin_history.specs.declared.fault.BuildFault.TheVariants as faults
+use Rattle.lin_history.specs.declared.recorder.fault.BuildFault.{BuildFault}
+use Rattle.lin_history.specs.declared.recorder.fault.BuildFault.TheVariants as faults
 use Rattle.lin_text.specs.declared.cause.Cause.{Cause}
 use Rattle.lin_text.specs.declared.cause.Cause.TheVariants as causes
 

@@ -2,77 +2,86 @@
 use Rattle.std.specs.Prelude.{ℕ, ◌^◌, ℤ, pos, negsuc, Bool, List, [], ◌∷◌, codes, bytes_eq, nat_lt, Option, Some, None, option_map, option_and_then, ok_or, Result, Err, if◌then◌else◌}
 use Rattle.serde_json.specs.Data.{Data, null, boolean, number, string, array, object, Items, no_items, item}
 use Rattle.serde_json.specs.Find.{get, as_str, as_number, as_i64, as_array}
-use Rattle.lin_object.specs.Words.{beside, kinds, operations}
+use Rattle.lin_object.specs.Names.{beside}
+use Rattle.lin_object.specs.Kinds.{kind_names, starts_with_number, operations}
 use Rattle.lin_object.specs.declared.kind.Kind.{Kind}
-use Rattle.lin_object.specs.declared.kind.Kind.TheVariants.{Register, Counter}
 use Rattle.lin_object.specs.declared.op.Op.{Op}
 use Rattle.lin_object.specs.declared.reply.Reply.{Reply}
 use Rattle.lin_object.specs.declared.reply.Reply.TheVariants.{Okay, Int, Flag, Empty}
-use Rattle.lin_history.specs.Names.{is_name}
-use Rattle.lin_text.specs.declared.line.What.{What}
-use Rattle.lin_text.specs.declared.line.What.TheVariants.{Declaration, Call, Return}
+use Rattle.lin_history.specs.Recorder.Names.{is_name}
+use Rattle.lin_text.specs.declared.line.EventKind.{EventKind}
+use Rattle.lin_text.specs.declared.line.EventKind.TheVariants.{Declaration, Call, Return}
 use Rattle.lin_text.specs.declared.cause.Cause.{Cause}
 use Rattle.lin_text.specs.declared.cause.Cause.TheVariants as causes
 
 -- ---- the parts of a line's value: None where a part is absent or no such part
 
+-- The value, where it passes a test.
 abbrev pub when : {A : Type 0} → (A → Bool) → A → Option A
 when p x = if p x then Some x else None
 
+-- The text at a key.
 abbrev pub text_at : List ℕ → Data → Option (List ℕ)
 text_at key d = option_and_then as_str (get key d)
 
--- a whole number
+-- A whole number of 64 bits.
 abbrev pub whole : Data → Option ℤ
 whole d = option_and_then as_i64 (as_number d)
 
+-- A process's number, below 2^32.
 abbrev pub process_number : ℤ → Option ℕ
 process_number (pos n) = if nat_lt n (2 ^ 32) then Some n else None
 process_number (negsuc n) = None
 
 -- The events by their words.
-abbrev pub events : List (List ℕ × What)
+abbrev pub events : List (List ℕ × EventKind)
 events = (codes "object", Declaration) ∷ (codes "call", Call) ∷ (codes "return", Return) ∷ []
 
--- Which event the line is.
-unfoldable pub what_in : Data → Option What
-what_in d = option_and_then (beside events) (text_at (codes "event") d)
+-- Which kind of event the line is, by its word at `event`.
+unfoldable pub event_kind_in : Data → Option EventKind
+event_kind_in d = option_and_then (beside events) (text_at (codes "event") d)
 
+-- The number at `process`.
 unfoldable pub process_in : Data → Option ℕ
 process_in d = option_and_then process_number (option_and_then whole (get (codes "process") d))
 
+-- The name at `object`.
 unfoldable pub name_in : Data → Option (List ℕ)
 name_in d = option_and_then (when is_name) (text_at (codes "object") d)
 
+-- The kind of object at `kind`.
 unfoldable pub kind_in : Data → Option Kind
-kind_in d = option_and_then (beside kinds) (text_at (codes "kind") d)
+kind_in d = option_and_then (beside kind_names) (text_at (codes "kind") d)
 
--- absent, it is 0; it may stand only at a kind that starts with a number
-abbrev pub start_of : Kind → Option Data → Option ℤ
-start_of kind None = Some (pos 0)
-start_of Register (Some d) = whole d
-start_of Counter (Some d) = whole d
-start_of kind (Some d) = None
+-- The number that an object of the kind starts with: 0 where the declaration gives none. It may give one only at a kind
+-- that starts with a number.
+abbrev pub start_from : Kind → Option Data → Option ℤ
+start_from kind None = Some (pos 0)
+start_from kind (Some d) = if starts_with_number kind then whole d else None
 
+-- The number at `start`.
 unfoldable pub start_at : Kind → Data → Option ℤ
-start_at kind d = start_of kind (get (codes "start") d)
+start_at kind d = start_from kind (get (codes "start") d)
 
--- what makes the operation of its arguments
+-- What makes the operation of its arguments, by the word at `op`.
 unfoldable pub maker_at : Kind → Data → Option (List ℤ → Option Op)
 maker_at kind d = option_and_then (beside (operations kind)) (text_at (codes "op") d)
 
+-- The whole numbers of an array, where all its items are.
 abbrev pub wholes : Items → Option (List ℤ)
 wholes no_items = Some []
 wholes (item d ds) = option_and_then (λ x. option_map (λ xs. x ∷ xs) (wholes ds)) (whole d)
 
--- absent, there are none
+-- The arguments: absent, there are none.
 abbrev pub arguments_of : Option Data → Option (List ℤ)
 arguments_of None = Some []
 arguments_of (Some d) = option_and_then wholes (as_array d)
 
+-- The whole numbers at `args`.
 unfoldable pub arguments_in : Data → Option (List ℤ)
 arguments_in d = arguments_of (get (codes "args") d)
 
+-- A reply: `"ok"`, a whole number, a truth value or null.
 abbrev pub reply_of : Data → Option Reply
 reply_of null = Some Empty
 reply_of (boolean b) = Some (Flag b)
@@ -81,28 +90,33 @@ reply_of (string s) = if bytes_eq s (codes "ok") then Some Okay else None
 reply_of (array ds) = None
 reply_of (object ms) = None
 
+-- The reply at `result`.
 unfoldable pub reply_in : Data → Option Reply
 reply_in d = option_and_then reply_of (get (codes "result") d)
 
--- what a part is that needs a part before it
+-- ---- parts that need a part before them
 
+-- The number that a declared object starts with.
 abbrev pub start_in : Data → Option ℤ
 start_in d = option_and_then (λ kind. start_at kind d) (kind_in d)
 
--- the kind of the object, declared before
+-- The kind of the object that the line names, which is declared before.
 abbrev pub declared_kind : (List ℕ → Option Kind) → Data → Option Kind
 declared_kind known d = option_and_then known (name_in d)
 
+-- What makes the operation of a call line, by the kind of its object.
 abbrev pub maker_in : (List ℕ → Option Kind) → Data → Option (List ℤ → Option Op)
 maker_in known d = option_and_then (λ kind. maker_at kind d) (declared_kind known d)
 
+-- The operation of a call line with its arguments.
 abbrev pub op_in : (List ℕ → Option Kind) → Data → Option Op
 op_in known d = option_and_then (λ make. option_and_then make (arguments_in d)) (maker_in known d)
 
--- the operation of a call line on an object of the kind, or what is wrong with it
+-- The operation that is made of the arguments, or what is wrong with them.
 abbrev pub op_from : Option (List ℤ → Option Op) → Option (List ℤ) → Result Op Cause
 op_from None args = Err causes.BadOp
 op_from (Some make) args = ok_or (option_and_then make args) causes.BadArgs
 
+-- The operation of a call line on an object of the kind, or what is wrong with it.
 abbrev pub op_at : Kind → Data → Result Op Cause
 op_at kind d = op_from (maker_at kind d) (arguments_in d)

@@ -1,14 +1,15 @@
 -- How a refusal is printed (this project's own).
 use Rattle.std.specs.Prelude.{◌++◌, ℕ, List, codes}
 use Rattle.std.specs.Fmt.{decimal}
+use Rattle.lin_text.specs.declared.text.TheConstants.{MAX_INPUT_BYTES, MAX_LINE_BYTES}
 use Rattle.lin_text.specs.declared.cause.Cause.{Cause}
 use Rattle.lin_text.specs.declared.cause.Cause.TheVariants as causes
 use Rattle.lin_text.specs.declared.cause.TextFault.{TextFault}
 
 -- The words of each cause.
 abbrev pub words : Cause → List ℕ
-words causes.InputTooLong = codes "input is longer than 67108864 bytes"
-words causes.LineTooLong = codes "line is longer than 65536 bytes"
+words causes.InputTooLong = codes "input is longer than " ++ decimal MAX_INPUT_BYTES ++ codes " bytes"
+words causes.LineTooLong = codes "line is longer than " ++ decimal MAX_LINE_BYTES ++ codes " bytes"
 words causes.NotJson = codes "not JSON"
 words causes.NotObject = codes "not a JSON object"
 words causes.BadEvent = codes "bad event"

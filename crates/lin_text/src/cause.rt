@@ -1,7 +1,10 @@
+//! The causes for which a text is refused, and the line that tells a fault.
+
 ghost use Rattle.std.specs.Prelude.{◌≡◌, ◌≢◌, ◌++◌, OnOk, OnErr};
 ghost use Rattle.lin_text.specs.Causes.{cause_of};
 ghost use Rattle.lin_text.specs.Words.{fault_line};
 
+use crate::text::{MAX_INPUT_BYTES, MAX_LINE_BYTES};
 use lin_history::BuildFault;
 use std::alloc::{AllocError, Global};
 use std::fmt;
@@ -10,9 +13,9 @@ use thiserror::Error;
 /// Why a text is refused, at a line or as a whole. It is shown in the words that a refusal prints.
 #[derive(Clone, Copy, PartialEq, Eq, Debug, Error)]
 pub enum Cause {
-    /// The text has more than 67,108,864 bytes.
+    /// The text has more bytes than `MAX_INPUT_BYTES`.
     InputTooLong,
-    /// The line has more than 65,536 bytes, without its line feed.
+    /// The line has more bytes than `MAX_LINE_BYTES`, without its line feed.
     LineTooLong,
     /// The line is no JSON value, not UTF-8, or nested deeper than the reader goes.
     NotJson,
@@ -60,8 +63,8 @@ impl fmt::Display for Cause {
 
     fn fmt<W: fmt::Write>(&self, f: &mut fmt::Formatter<W>) -> fmt::Result {
         match self {
-            Cause::InputTooLong => write!(f, "input is longer than 67108864 bytes"),
-            Cause::LineTooLong => write!(f, "line is longer than 65536 bytes"),
+            Cause::InputTooLong => write!(f, "input is longer than {MAX_INPUT_BYTES} bytes"),
+            Cause::LineTooLong => write!(f, "line is longer than {MAX_LINE_BYTES} bytes"),
             Cause::NotJson => write!(f, "not JSON"),
             Cause::NotObject => write!(f, "not a JSON object"),
             Cause::BadEvent => write!(f, "bad event"),

@@ -1,28 +1,33 @@
+//! The fields of a line's JSON value.
+
 ghost use Rattle.std.specs.Prelude.{◌≡◌, ◌≢◌, option_map, is_some, IfOk, IfErr, Ok, Err};
 ghost use Rattle.serde_json.specs.View.{view, items_view};
-ghost use Rattle.lin_object.specs.Words.{beside, operations};
-ghost use Rattle.lin_text.specs.Fields.{what_in, process_in, name_in, kind_in, start_at, reply_in, arguments_in, op_at, wholes};
+ghost use Rattle.lin_object.specs.Names.{beside};
+ghost use Rattle.lin_object.specs.Kinds.{operations};
+ghost use Rattle.lin_text.specs.Fields.{event_kind_in, process_in, name_in, kind_in, start_at, reply_in, arguments_in, op_at, wholes};
 
 use crate::cause::Cause;
-use crate::line::What;
+use crate::line::EventKind;
 use lin_history::is_name;
 use lin_object::{Kind, Op, OpFault, Reply, is_op, kind_of_name, read_op};
 use serde_json::Value;
 use std::alloc::{AllocError, Global};
 
-#[tactic(auto, unfolding(crate::specs::Fields::what_in))]
-pub(crate) fn what_of(value: &Value) -> Option<What>
-    ensures { result ≡ what_in (view value.now) }
+/// Which kind of event the line is.
+#[tactic(auto, unfolding(crate::specs::Fields::event_kind_in))]
+pub(crate) fn event_kind_of(value: &Value) -> Option<EventKind>
+    ensures { result ≡ event_kind_in (view value.now) }
 {
     let word = value.get("event").and_then(Value::as_str)?;
     match word {
-        "object" => Some(What::Declaration),
-        "call" => Some(What::Call),
-        "return" => Some(What::Return),
+        "object" => Some(EventKind::Declaration),
+        "call" => Some(EventKind::Call),
+        "return" => Some(EventKind::Return),
         _ => None,
     }
 }
 
+/// The process's number.
 #[tactic(auto, unfolding(crate::specs::Fields::process_in))]
 pub(crate) fn process_of(value: &Value) -> Option<u32>
     ensures { result ≡ process_in (view value.now) }
@@ -31,6 +36,7 @@ pub(crate) fn process_of(value: &Value) -> Option<u32>
     u32::try_from(number).ok()
 }
 
+/// The name of the object.
 #[tactic(auto, unfolding(crate::specs::Fields::name_in))]
 pub(crate) fn name_of(value: &Value) -> Option<&str>
     ensures { option_map (λ name. name.now) result ≡ name_in (view value.now) }
@@ -39,6 +45,7 @@ pub(crate) fn name_of(value: &Value) -> Option<&str>
     if is_name(name) { Some(name) } else { None }
 }
 
+/// The kind of a declared object.
 #[tactic(auto, unfolding(crate::specs::Fields::kind_in))]
 pub(crate) fn kind_of(value: &Value) -> Option<Kind>
     ensures { result ≡ kind_in (view value.now) }
@@ -47,19 +54,19 @@ pub(crate) fn kind_of(value: &Value) -> Option<Kind>
     kind_of_name(word)
 }
 
+/// The number that a declared object starts with; 0 where none is given.
 #[tactic(auto, unfolding(crate::specs::Fields::start_at))]
 pub(crate) fn start_of(kind: Kind, value: &Value) -> Option<i64>
     ensures { result ≡ start_at kind (view value.now) }
 {
     match value.get("start") {
         None => Some(0),
-        Some(start) => match kind {
-            Kind::Register | Kind::Counter => start.as_i64(),
-            Kind::Queue | Kind::Stack | Kind::Set | Kind::Mutex => None,
-        },
+        Some(start) if kind.starts_with_number() => start.as_i64(),
+        Some(_) => None,
     }
 }
 
+/// The reply of a return.
 #[tactic(auto, unfolding(crate::specs::Fields::reply_in))]
 pub(crate) fn reply_of(value: &Value) -> Option<Reply>
     ensures { result ≡ reply_in (view value.now) }
@@ -84,7 +91,8 @@ pub(crate) fn reply_of(value: &Value) -> Option<Reply>
 
 /// The whole numbers of a list, or none where an item is something else.
 fn wholes_of(alloc: Global, list: &[Value]) -> Result<Option<Vec<i64>>, AllocError>
-    ensures { IfOk result (λ found. option_map (λ v. v.items) found ≡ wholes (items_view list.now)) }
+    ensures { IfOk result (λ found. option_map (λ v. v.items) found
+        ≡ wholes (items_view list.now)) }
 {
     let mut found = Vec::with_capacity(alloc, list.len())?;
     for item in list {
@@ -96,9 +104,11 @@ fn wholes_of(alloc: Global, list: &[Value]) -> Result<Option<Vec<i64>>, AllocErr
     Ok(Some(found))
 }
 
+/// The arguments of a call; `None` where they are no whole numbers.
 #[tactic(auto, unfolding(crate::specs::Fields::arguments_in))]
 fn arguments_of(alloc: Global, value: &Value) -> Result<Option<Vec<i64>>, AllocError>
-    ensures { IfOk result (λ found. option_map (λ v. v.items) found ≡ arguments_in (view value.now)) }
+    ensures { IfOk result (λ found. option_map (λ v. v.items) found
+        ≡ arguments_in (view value.now)) }
 {
     match value.get("args") {
         None => Ok(Some(Vec::new(alloc))),
@@ -109,10 +119,12 @@ fn arguments_of(alloc: Global, value: &Value) -> Result<Option<Vec<i64>>, AllocE
     }
 }
 
+/// The operation of a call on an object of the kind, or what is wrong with it.
 #[tactic(auto, unfolding(crate::specs::Fields::maker_at))]
 pub(crate) fn op_of(alloc: Global, kind: Kind, value: &Value) -> Result<Op, Cause>
     ensures ok { IfOk result (λ op. op_at kind (view value.now) ≡ Ok op) }
-    ensures err { IfErr result (λ cause. cause ≢ Cause.OutOfMemory → op_at kind (view value.now) ≡ Err cause) }
+    ensures err { IfErr result (λ cause. cause ≢ Cause.OutOfMemory
+        → op_at kind (view value.now) ≡ Err cause) }
 {
     let Some(word) = value.get("op").and_then(Value::as_str) else {
         return Err(Cause::BadOp);

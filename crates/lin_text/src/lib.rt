@@ -8,4 +8,4 @@ mod reading;
 mod text;
 
 pub use cause::{Cause, TextFault, write_cause};
-pub use text::read_history;
+pub use text::{MAX_INPUT_BYTES, MAX_LINE_BYTES, read_history};

@@ -1,8 +1,10 @@
+//! What a line may be.
+
 use lin_object::{Kind, Op, Reply};
 
 /// Which of the three events a line is.
 #[derive(Clone, Copy, PartialEq, Eq, Debug)]
-pub(crate) enum What {
+pub(crate) enum EventKind {
     Declaration,
     Call,
     Return,

@@ -1,20 +1,23 @@
+//! From a line's JSON value to its event, or its first cause.
+
 ghost use Rattle.std.specs.Prelude.{◌≡◌, ◌≢◌, ◌≤◌, length, is_some, true, Some, Ok, Err, IfOk, IfErr, OnErr, MatchResult};
 ghost use Rattle.serde_json.specs.Find.{as_object};
 ghost use Rattle.serde_json.specs.View.{view};
-ghost use Rattle.lin_history.specs.Recorded.{kind_named};
-ghost use Rattle.lin_text.specs.Fields.{what_in};
+ghost use Rattle.lin_history.specs.Recorder.RecordedHistory.{kind_named};
+ghost use Rattle.lin_text.specs.Fields.{event_kind_in};
 ghost use Rattle.lin_text.specs.Line.{Tells};
 
 use crate::cause::Cause;
-use crate::fields::{kind_of, name_of, op_of, process_of, reply_of, start_of, what_of};
-use crate::line::{Line, What};
+use crate::fields::{event_kind_of, kind_of, name_of, op_of, process_of, reply_of, start_of};
+use crate::line::{EventKind, Line};
 use lin_history::Builder;
 use serde_json::Value;
 use std::alloc::Global;
 
+// The declaration that a value is, or its first cause.
 fn declaration_of<'v>(builder: &Builder, value: &'v Value) -> Result<Line<'v>, Cause>
     requires object { is_some (as_object (view value.now)) ≡ true }
-    requires what { what_in (view value.now) ≡ Some What.Declaration }
+    requires kind { event_kind_in (view value.now) ≡ Some EventKind.Declaration }
     ensures { Tells (kind_named builder.now) (view value.now) result }
 {
     let Some(name) = name_of(value) else {
@@ -29,9 +32,10 @@ fn declaration_of<'v>(builder: &Builder, value: &'v Value) -> Result<Line<'v>, C
     Ok(Line::Declare(name, kind, start))
 }
 
+// The call that a value is, or its first cause.
 fn call_of<'v>(alloc: Global, builder: &Builder, value: &'v Value) -> Result<Line<'v>, Cause>
     requires object { is_some (as_object (view value.now)) ≡ true }
-    requires what { what_in (view value.now) ≡ Some What.Call }
+    requires kind { event_kind_in (view value.now) ≡ Some EventKind.Call }
     ensures { Tells (kind_named builder.now) (view value.now) result }
 {
     let Some(process) = process_of(value) else {
@@ -49,9 +53,10 @@ fn call_of<'v>(alloc: Global, builder: &Builder, value: &'v Value) -> Result<Lin
     }
 }
 
+// The return that a value is, or its first cause.
 fn return_of<'v>(builder: &Builder, value: &'v Value) -> Result<Line<'v>, Cause>
     requires object { is_some (as_object (view value.now)) ≡ true }
-    requires what { what_in (view value.now) ≡ Some What.Return }
+    requires kind { event_kind_in (view value.now) ≡ Some EventKind.Return }
     ensures { Tells (kind_named builder.now) (view value.now) result }
 {
     let Some(process) = process_of(value) else {
@@ -76,12 +81,12 @@ pub fn read_value<'v>(alloc: Global, builder: &Builder, value: &'v Value) -> Res
     if !value.is_object() {
         return Err(Cause::NotObject);
     }
-    let Some(what) = what_of(value) else {
+    let Some(kind) = event_kind_of(value) else {
         return Err(Cause::BadEvent);
     };
-    match what {
-        What::Declaration => declaration_of(builder, value),
-        What::Call => call_of(alloc, builder, value),
-        What::Return => return_of(builder, value),
+    match kind {
+        EventKind::Declaration => declaration_of(builder, value),
+        EventKind::Call => call_of(alloc, builder, value),
+        EventKind::Return => return_of(builder, value),
     }
 }

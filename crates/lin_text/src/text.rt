@@ -1,9 +1,12 @@
+//! A text, line by line: the history that it means, or its first fault.
+
 ghost use Rattle.std.specs.Prelude.{position, IfSome, ◌≡◌, ◌≢◌, ◌<◌, ◌≤◌, ◌∷◌, length, Some, None, Ok, Err, IfOk, IfErr, OnOk, OnErr};
 ghost use Rattle.std.specs.List.{list_all};
 ghost use Rattle.serde_json.specs.View.{view};
 ghost use Rattle.lin_text.specs.Line.{json, seen};
-ghost use Rattle.lin_history.specs.Recorded.{nothing_recorded};
-ghost use Rattle.lin_text.specs.Text.{is_newline, lines, is_blank, is_blank_byte, max_line, max_input, refusals, taken, HasCause, Leads, MeansHistory, MeansFault, RanOutAt};
+ghost use Rattle.lin_history.specs.Recorder.RecordedHistory.{no_event};
+ghost use Rattle.lin_text.specs.Events.{TextEvents, IsHistoryTold, told_with};
+ghost use Rattle.lin_text.specs.Text.{is_newline, lines, is_blank, is_blank_byte, refusals, HasCause, IsToldBy, MeansHistory, MeansFault, RanOutAt};
 ghost use Rattle.lin_history.specs.Refusals.{first_that_holds};
 
 use crate::cause::{Cause, TextFault, cause_of};
@@ -13,10 +16,13 @@ use lin_history::{BuildFault, Builder, History};
 use serde_json::{Category, Value};
 use std::alloc::Global;
 
-const MAX_LINE: usize = 65536;
+/// The most bytes of a line, without its line feed.
+pub const MAX_LINE_BYTES: usize = 65_536;
 
-const MAX_INPUT: usize = 67108864;
+/// The most bytes of a text.
+pub const MAX_INPUT_BYTES: usize = 67_108_864;
 
+// Whether a line has nothing but spaces, tabs and carriage returns.
 fn is_blank(line: &[u8]) -> bool
     ensures { result ≡ is_blank line.now }
 {
@@ -42,9 +48,12 @@ fn json_of(alloc: Global, line: &[u8]) -> Result<Value, Cause>
 
 // Gives an event to the builder. An `Err` changes nothing.
 fn take_event(alloc: Global, builder: &mut Builder, event: Line<'_>) -> Result<(), BuildFault>
-    ensures sound { OnOk result (first_that_holds (refusals builder.old (seen event.entry)) ≡ None) }
-    ensures ok { OnOk result (builder.new ≡ taken builder.old (seen event.entry)) }
-    ensures err { IfErr result (λ fault. fault ≢ BuildFault.OutOfMemory → first_that_holds (refusals builder.old (seen event.entry)) ≡ Some fault) }
+    ensures sound { OnOk result (first_that_holds (refusals builder.old (seen event.entry))
+        ≡ None) }
+    ensures history { OnOk result ((told : TextEvents) → IsHistoryTold told builder.old
+        → IsHistoryTold (told_with told (seen event.entry)) builder.new) }
+    ensures err { IfErr result (λ fault. fault ≢ BuildFault.OutOfMemory
+        → first_that_holds (refusals builder.old (seen event.entry)) ≡ Some fault) }
     ensures same { OnErr result (builder.new ≡ builder.old) }
 {
     match event {
@@ -56,12 +65,15 @@ fn take_event(alloc: Global, builder: &mut Builder, event: Line<'_>) -> Result<(
 
 // Takes the event of a line. An `Err` changes nothing.
 fn take_line(alloc: Global, builder: &mut Builder, line: &[u8]) -> Result<(), Cause>
-    ensures ok { OnOk result (Leads builder.old line.now builder.new) }
-    ensures err { IfErr result (λ cause. cause ≢ Cause.OutOfMemory → HasCause builder.old line.now cause) }
-    ensures memory { IfErr result (λ cause. cause ≡ Cause.OutOfMemory → length line.now ≤ max_line) }
+    ensures ok { OnOk result ((told : TextEvents) → IsHistoryTold told builder.old
+        → (more : TextEvents) × IsToldBy told line.now more × IsHistoryTold more builder.new) }
+    ensures err { IfErr result (λ cause. cause ≢ Cause.OutOfMemory
+        → HasCause builder.old line.now cause) }
+    ensures memory { IfErr result (λ cause. cause ≡ Cause.OutOfMemory
+        → length line.now ≤ MAX_LINE_BYTES) }
     ensures same { OnErr result (builder.new ≡ builder.old) }
 {
-    if line.len() > MAX_LINE {
+    if line.len() > MAX_LINE_BYTES {
         return Err(Cause::LineTooLong);
     }
     if is_blank(line) {
@@ -81,6 +93,7 @@ fn take_line(alloc: Global, builder: &mut Builder, line: &[u8]) -> Result<(), Ca
     }
 }
 
+// Where the first line feed is.
 fn newline_in(text: &[u8]) -> Option<usize>
     ensures value { result ≡ position is_newline text.now }
     ensures within { IfSome result (λ end. end < length text.now) }
@@ -102,11 +115,13 @@ fn first_line(text: &[u8]) -> (&[u8], &[u8])
 
 // Takes the events of a text, line by line.
 fn read_lines(alloc: Global, builder: &mut Builder, text: &[u8]) -> Result<(), TextFault>
-    requires start { builder.old ≡ nothing_recorded }
-    requires short { length text.now ≤ max_input }
+    requires start { builder.old ≡ no_event }
+    requires short { length text.now ≤ MAX_INPUT_BYTES }
     ensures history { OnOk result (MeansHistory text.now builder.new) }
-    ensures fault { IfErr result (λ fault. fault.cause ≢ Cause.OutOfMemory → MeansFault text.now fault.line fault.cause) }
-    ensures memory { IfErr result (λ fault. fault.cause ≡ Cause.OutOfMemory → RanOutAt text.now fault.line) }
+    ensures fault { IfErr result (λ fault. fault.cause ≢ Cause.OutOfMemory
+        → MeansFault text.now fault.line fault.cause) }
+    ensures memory { IfErr result (λ fault. fault.cause ≡ Cause.OutOfMemory
+        → RanOutAt text.now fault.line) }
 {
     let mut rest = text;
     let mut number = 0u64;
@@ -130,10 +145,12 @@ fn read_lines(alloc: Global, builder: &mut Builder, text: &[u8]) -> Result<(), T
 /// causes, the length of the line apart.
 pub fn read_history(alloc: Global, text: &[u8]) -> Result<History, TextFault>
     ensures history { IfOk result (MeansHistory text.now) }
-    ensures fault { IfErr result (λ fault. fault.cause ≢ Cause.OutOfMemory → MeansFault text.now fault.line fault.cause) }
-    ensures memory { IfErr result (λ fault. fault.cause ≡ Cause.OutOfMemory → RanOutAt text.now fault.line) }
+    ensures fault { IfErr result (λ fault. fault.cause ≢ Cause.OutOfMemory
+        → MeansFault text.now fault.line fault.cause) }
+    ensures memory { IfErr result (λ fault. fault.cause ≡ Cause.OutOfMemory
+        → RanOutAt text.now fault.line) }
 {
-    if text.len() > MAX_INPUT {
+    if text.len() > MAX_INPUT_BYTES {
         return Err(TextFault {
             line: 0,
             cause: Cause::InputTooLong,

@@ -10,45 +10,45 @@ use Rattle.lin_object.specs.declared.state.ObjState.{ObjState}
 use Rattle.lin_object.specs.declared.kind.Kind.TheVariants.{Register}
 use Rattle.lin_object.specs.contracts.reply.ReplyPartialEq.TheImpl.{eq-value as reply_eq}
 use Rattle.lin_object.specs.contracts.state.ObjStatePartialEq.TheImpl.{eq-value as state_eq}
-use Rattle.lin_object.specs.Object.{after, state_at_start}
-use Rattle.lin_history.specs.declared.placed.Placed.{Placed}
-use Rattle.lin_history.specs.declared.problem.ProblemCall.{ProblemCall}
-use Rattle.lin_history.specs.Lists.{IsLeast}
-use Rattle.lin_history.specs.Posed.{Posed}
-use Rattle.lin_history.specs.Linearizations.{IsLinearization}
-use Rattle.lin_history.specs.Recorded.{ObjectSeen, Recorded}
-use Rattle.lin_history.specs.Parts.{start_of, part_calls}
-use Rattle.lin_history.specs.Whole.{IsLinearizationOfWhole}
-use Rattle.lin_history.specs.Joined.{IsJoined}
-use Rattle.lin_history.specs.WholeOf.{start_at, whole_of, part_of}
-use Rattle.lin_history.specs.LocalityLemmas.{none_of_whole}
+use Rattle.lin_object.specs.Kinds.{after, state_at_start}
+use Rattle.lin_history.specs.declared.locality.placed.Placed.{Placed}
+use Rattle.lin_history.specs.declared.problems.problem.ProblemCall.{ProblemCall}
+use Rattle.lin_history.specs.Problems.Lists.{IsLeast}
+use Rattle.lin_history.specs.Problems.Problem.{Problem}
+use Rattle.lin_history.specs.Problems.Linearizations.{IsLinearization}
+use Rattle.lin_history.specs.Recorder.RecordedHistory.{DeclaredObject, RecordedHistory}
+use Rattle.lin_history.specs.Recorder.Parts.{start_of, part_calls}
+use Rattle.lin_history.specs.Locality.Whole.{IsLinearizationOfWhole}
+use Rattle.lin_history.specs.Locality.JoinedOrder.{IsJoined}
+use Rattle.lin_history.specs.Locality.RecordedWhole.{start_at, whole_of, part_of}
+use Rattle.lin_history.specs.Locality.LocalityLemmas.{none_of_whole}
 use Rattle.lincheck.specs.declared.verdict.Verdict.TheVariants.{Yes, No}
 use Rattle.lincheck.specs.Verdict.{AreLeastOf, IsLongestRunOf, IsVerdict}
 
--- the problem of an object, as the search is posed it
-abbrev pub searched : List (ProblemCall Op Reply) → ObjState → Posed ObjState Op Reply
+-- the problem of an object, as the search is problem_of it
+abbrev pub searched : List (ProblemCall Op Reply) → ObjState → Problem ObjState Op Reply
 searched calls start = record { after = after; same_state = state_eq.it; same_reply = reply_eq.it; start = start; calls = calls }
 
 -- it is the part of the history
-pub record IsPart (h : Recorded) (object : ℕ) (calls : List (ProblemCall Op Reply)) (start : ObjState) : Type 0 where
+pub record IsPart (h : RecordedHistory) (object : ℕ) (calls : List (ProblemCall Op Reply)) (start : ObjState) : Type 0 where
   pub calls_are : calls ≡ part_calls h object
   pub start_is : option_map start_of (slice_get h.objects object) ≡ Some start
 
-start_there : (o : Option ObjectSeen) (start : ObjState) → option_map start_of o ≡ Some start → start ≡ option_map_or start_of o (state_at_start Register (pos 0))
+start_there : (o : Option DeclaredObject) (start : ObjState) → option_map start_of o ≡ Some start → start ≡ option_map_or start_of o (state_at_start Register (pos 0))
 start_there None start e = absurd (cc)
 start_there (Some o) start e = cc
 
-start_known : (h : Recorded) (object : ℕ) (calls : List (ProblemCall Op Reply)) (start : ObjState) → IsPart h object calls start → start ≡ start_at h object
+start_known : (h : RecordedHistory) (object : ℕ) (calls : List (ProblemCall Op Reply)) (start : ObjState) → IsPart h object calls start → start ≡ start_at h object
 start_known h object calls start p = start_there (slice_get h.objects object) start p.start_is
 
-posed_same : (h : Recorded) (object : ℕ) (calls : List (ProblemCall Op Reply)) (start : ObjState) → IsPart h object calls start → searched calls start ≡ part_of h object
+posed_same : (h : RecordedHistory) (object : ℕ) (calls : List (ProblemCall Op Reply)) (start : ObjState) → IsPart h object calls start → searched calls start ≡ part_of h object
 posed_same h object calls start p = rw (start_known h object calls start p, p.calls_are) refl
 
 -- what holds of the problem holds of the part
-pub at_part : (h : Recorded) (object : ℕ) (calls : List (ProblemCall Op Reply)) (start : ObjState) → IsPart h object calls start → (P : Posed ObjState Op Reply → Type 0) → P (searched calls start) → P (part_of h object)
+pub at_part : (h : RecordedHistory) (object : ℕ) (calls : List (ProblemCall Op Reply)) (start : ObjState) → IsPart h object calls start → (P : Problem ObjState Op Reply → Type 0) → P (searched calls start) → P (part_of h object)
 at_part h object calls start part P holds = subst P (posed_same h object calls start part) holds
 
-pub least_none : (h : Recorded) → AreLeastOf h 0 []
+pub least_none : (h : RecordedHistory) → AreLeastOf h 0 []
 least_none h = record { count = refl; each = λ object order e. absurd (cc) }
 
 last_is : (orders : List (List ℕ)) (order : List ℕ) (object : ℕ) (o : List ℕ) → slice_get (orders ++ order ∷ []) object ≡ Some o → (slice_get orders object ≡ Some o) ⊎ ((object ≡ length orders) × (order ≡ o))
@@ -57,7 +57,7 @@ last_is [] order (suc object) o e = absurd (cc)
 last_is (x ∷ xs) order zero o e = inl e
 last_is (x ∷ xs) order (suc object) o e = elim (last_is xs order object o e) [ inl f ↦ inl f | inr f ↦ inr (omega (arith, f.0), f.1) ]
 
-pub least_more : (h : Recorded) (orders : List (List ℕ)) (order : List ℕ) (n : ℕ) → AreLeastOf h n orders → IsLeast (IsLinearization (part_of h n)) order → AreLeastOf h (n + 1) (orders ++ order ∷ [])
+pub least_more : (h : RecordedHistory) (orders : List (List ℕ)) (order : List ℕ) (n : ℕ) → AreLeastOf h n orders → IsLeast (IsLinearization (part_of h n)) order → AreLeastOf h (n + 1) (orders ++ order ∷ [])
 least_more h orders order n so_far least = record {
   count = length-append orders (order ∷ []) ∙ ap (λ (k : ℕ). k + 1) so_far.count;
   each = λ object o e. at_place object o (last_is orders order object o e);
@@ -70,10 +70,10 @@ least_more h orders order n so_far least = record {
         subst (λ (k : ℕ). IsLeast (IsLinearization (part_of h k)) o) (sym same) (subst (IsLeast (IsLinearization (part_of h n))) e.1 least)
 
 -- each of the orders is a linearization
-pub linearizations : (h : Recorded) (orders : List (List ℕ)) (n : ℕ) → AreLeastOf h n orders → (object : ℕ) (order : List ℕ) → slice_get orders object ≡ Some order → IsLinearization (part_of h object) order
+pub linearizations : (h : RecordedHistory) (orders : List (List ℕ)) (n : ℕ) → AreLeastOf h n orders → (object : ℕ) (order : List ℕ) → slice_get orders object ≡ Some order → IsLinearization (part_of h object) order
 linearizations h orders n so_far object order e = (so_far.each object order e).0
 
-pub verdict_yes : (h : Recorded) (orders : List (List ℕ)) (n : ℕ) (l : List (Placed Reply)) → n ≡ length h.objects → AreLeastOf h n orders → IsJoined (whole_of h) orders l → IsLinearizationOfWhole (whole_of h) l → IsVerdict h (Yes l)
+pub verdict_yes : (h : RecordedHistory) (orders : List (List ℕ)) (n : ℕ) (l : List (Placed Reply)) → n ≡ length h.objects → AreLeastOf h n orders → IsJoined (whole_of h) orders l → IsLinearizationOfWhole (whole_of h) l → IsVerdict h (Yes l)
 verdict_yes h orders n l all so_far joined whole = ((orders, subst (λ (k : ℕ). AreLeastOf h k orders) all so_far, joined), whole)
 
 order_there : (orders : List (List ℕ)) (i : ℕ) → i < length orders → (order : List ℕ) × (slice_get orders i ≡ Some order)
@@ -81,7 +81,7 @@ order_there [] i within = absurd (omega (arith, within))
 order_there (x ∷ xs) zero within = (x, refl)
 order_there (x ∷ xs) (suc i) within = order_there xs i (omega (arith, within))
 
-pub verdict_no : (h : Recorded) (orders : List (List ℕ)) (object : ℕ) (run : Vec (Placed Reply) Global) → object < length h.objects → AreLeastOf h object orders → ((l : List ℕ) → IsLinearization (part_of h object) l → ⊥) × IsLongestRunOf h object run.items → IsVerdict h (No object run)
+pub verdict_no : (h : RecordedHistory) (orders : List (List ℕ)) (object : ℕ) (run : Vec (Placed Reply) Global) → object < length h.objects → AreLeastOf h object orders → ((l : List ℕ) → IsLinearization (part_of h object) l → ⊥) × IsLongestRunOf h object run.items → IsVerdict h (No object run)
 verdict_no h orders object run declared so_far none =
     ((record { declared = declared; none = none.0; earlier = earlier }, none.1), none_of_whole state_eq.it (whole_of h) object none.0)
   where

@@ -3,11 +3,11 @@ use Rattle.std.proofs.Common.{◌≡◌, ℕ, ◌+◌, List, [], ◌∷◌, leng
 use Rattle.std.proofs.lemmas.Option.{slice_get_within}
 use Rattle.lin_object.specs.declared.reply.Reply.{Reply}
 use Rattle.lin_object.specs.declared.state.ObjState.{ObjState}
-use Rattle.lin_history.specs.declared.placed.Placed.{Placed}
-use Rattle.lin_history.specs.Recorded.{Recorded}
-use Rattle.lin_history.specs.Whole.{Replays, with_state}
-use Rattle.lin_history.specs.Joined.{Places}
-use Rattle.lin_history.specs.WholeOf.{whole_of, start_at}
+use Rattle.lin_history.specs.declared.locality.placed.Placed.{Placed}
+use Rattle.lin_history.specs.Recorder.RecordedHistory.{RecordedHistory}
+use Rattle.lin_history.specs.Locality.Whole.{Replays, with_state}
+use Rattle.lin_history.specs.Locality.JoinedOrder.{Places}
+use Rattle.lin_history.specs.Locality.RecordedWhole.{whole_of, start_at}
 use Rattle.lin_text.specs.declared.cause.Cause.{Cause}
 use Rattle.lin_text.specs.Text.{MeansHistory, MeansFault}
 use Rattle.lincheck.specs.declared.status.Status.{Status}
@@ -21,7 +21,7 @@ use Rattle.lincheck.specs.declared.fault.RunFault.TheVariants.{Write}
 use Rattle.lincheck.specs.Prints.{Prints}
 use Rattle.lincheck.specs.Ran.{Ran}
 
-means_history : (text read : List ℕ) (h : Recorded) → IsReadOf text read → MeansHistory read h → MeansHistory text h
+means_history : (text read : List ℕ) (h : RecordedHistory) → IsReadOf text read → MeansHistory read h → MeansHistory text h
 means_history text read h (inl same) m = subst (λ (t : List ℕ). MeansHistory t h) (sym same) m
 means_history text read h (inr long) m = absurd (let s = m.short in let l = long.0 in omega (arith, s, l))
 
@@ -34,25 +34,26 @@ means_fault text read line cause (inr long) (inl m) =
 means_fault text read line cause (inr long) (inr m) = absurd (let s = m.2.short in let l = long.0 in omega (arith, s, l))
 
 pub prints_read : (text read : List ℕ) (status : Status) (printed : List ℕ) → IsReadOf text read → Prints read status printed → Prints text status printed
-prints_read text read Yes printed r p = (p.0, means_history text read p.0 r p.1, p.2, p.3)
+prints_read text read Yes printed r p = (p.0, means_history text read p.0 r p.1, p.2)
 prints_read text read No printed r p = (p.0, means_history text read p.0 r p.1, p.2, p.3)
 prints_read text read Undecided printed r p = absurd p
 prints_read text read Refused printed r p = (p.0, means_fault text read p.0.line p.0.cause r p.1, p.2)
 
-replayed_calls : (h : Recorded) (states : ℕ → ObjState) (l : List (Placed Reply)) → Replays (whole_of h) states l → AreCalls (length h.calls) l
+replayed_calls : (h : RecordedHistory) (states : ℕ → ObjState) (l : List (Placed Reply)) → Replays (whole_of h) states l → AreCalls (length h.calls) l
 replayed_calls h states [] r = tt
 replayed_calls h states (x ∷ xs) r = (slice_get_within h.calls x.call r.0 r.2.call, replayed_calls h (with_state (whole_of h) states r.0.object r.1) xs r.3)
 
-placed_calls : (h : Recorded) (object : ℕ) (s : ObjState) (order : List ℕ) (l : List (Placed Reply)) → Places (whole_of h) object s order l → AreCalls (length h.calls) l
+placed_calls : (h : RecordedHistory) (object : ℕ) (s : ObjState) (order : List ℕ) (l : List (Placed Reply)) → Places (whole_of h) object s order l → AreCalls (length h.calls) l
 placed_calls h object s [] [] p = tt
 placed_calls h object s (c ∷ cs) (x ∷ xs) p = (slice_get_within h.calls x.call p.1.0 p.1.2.call, placed_calls h object p.1.1 cs xs p.1.3)
 placed_calls h object s [] (x ∷ xs) p = absurd p
 placed_calls h object s (c ∷ cs) [] p = absurd p
 
 -- a right verdict names calls and objects of the history
-pub verdict_of : (h : Recorded) (v : Verdict) → IsVerdict h v → IsOf h v
+pub verdict_of : (h : RecordedHistory) (v : Verdict) → IsVerdict h v → IsOf h v
 verdict_of h (verdicts.Yes l) v = replayed_calls h (start_at h) l v.1.legal
 verdict_of h (verdicts.No object run) v = (v.0.0.declared, placed_calls h object (start_at h object) v.0.1.order run.items v.0.1.placed)
+verdict_of h (verdicts.Undecided object) v = absurd v
 
 -- ---- a run on what was read
 

@@ -1,11 +1,11 @@
 -- What a text prints.
 use Rattle.std.specs.Prelude.{◌≡◌, ℕ, List}
 use Rattle.lin_object.specs.declared.reply.Reply.{Reply}
-use Rattle.lin_history.specs.declared.placed.Placed.{Placed}
-use Rattle.lin_history.specs.Recorded.{Recorded}
-use Rattle.lin_history.specs.Whole.{IsLinearizationOfWhole}
-use Rattle.lin_history.specs.Joined.{IsJoined}
-use Rattle.lin_history.specs.WholeOf.{whole_of}
+use Rattle.lin_history.specs.declared.locality.placed.Placed.{Placed}
+use Rattle.lin_history.specs.Recorder.RecordedHistory.{RecordedHistory}
+use Rattle.lin_history.specs.Locality.Whole.{IsLinearizationOfWhole}
+use Rattle.lin_history.specs.Locality.JoinedOrder.{IsJoined}
+use Rattle.lin_history.specs.Locality.RecordedWhole.{whole_of}
 use Rattle.lin_text.specs.declared.cause.TextFault.{TextFault}
 use Rattle.lin_text.specs.Text.{MeansHistory, MeansFault}
 use Rattle.lin_text.specs.Words.{fault_line}
@@ -18,17 +18,18 @@ use Rattle.lincheck.specs.Report.{yes_report, no_report}
 abbrev pub PrintsRefused : List ℕ → List ℕ → Type 0
 PrintsRefused text printed = (fault : TextFault) × MeansFault text fault.line fault.cause × (printed ≡ fault_line fault)
 
--- A text that means a history prints the least linearizations of its objects, joined, where each object has one.
-abbrev pub PrintsYes : Recorded → List ℕ → Type 0
-PrintsYes h printed = (orders : List (List ℕ)) × (l : List (Placed Reply)) × AreLeast h orders × IsJoined (whole_of h) orders l × (printed ≡ yes_report h l)
+-- A text that means a history prints the least linearizations of its objects, joined, where each object has one: what is
+-- printed is a linearization of the whole.
+abbrev pub PrintsYes : RecordedHistory → List ℕ → Type 0
+PrintsYes h printed = (orders : List (List ℕ)) × (l : List (Placed Reply)) × AreLeast h orders × IsJoined (whole_of h) orders l × IsLinearizationOfWhole (whole_of h) l × (printed ≡ yes_report h l)
 
 -- Otherwise it prints the first object that has none, with its longest run.
-abbrev pub PrintsNo : Recorded → List ℕ → Type 0
+abbrev pub PrintsNo : RecordedHistory → List ℕ → Type 0
 PrintsNo h printed = (object : ℕ) × (run : List (Placed Reply)) × IsFirstWithout h object × IsLongestRunOf h object run × (printed ≡ no_report h object run)
 
 -- What the text prints, with each status.
 abbrev pub Prints : List ℕ → Status → List ℕ → Type 0
-Prints text Yes printed = (h : Recorded) × MeansHistory text h × PrintsYes h printed × ((l : List (Placed Reply)) × IsLinearizationOfWhole (whole_of h) l)
-Prints text No printed = (h : Recorded) × MeansHistory text h × PrintsNo h printed × ((l : List (Placed Reply)) → IsLinearizationOfWhole (whole_of h) l → ⊥)
+Prints text Yes printed = (h : RecordedHistory) × MeansHistory text h × PrintsYes h printed
+Prints text No printed = (h : RecordedHistory) × MeansHistory text h × PrintsNo h printed × ((l : List (Placed Reply)) → IsLinearizationOfWhole (whole_of h) l → ⊥)
 Prints text Undecided printed = ⊥
 Prints text Refused printed = PrintsRefused text printed

@@ -1,52 +1,54 @@
 -- What a verdict says of a history, and what is reported of it.
 use Rattle.std.specs.Prelude.{◌≡◌, ℕ, ◌<◌, Some, List, [], ◌∷◌, length, slice_get}
 use Rattle.lin_object.specs.declared.reply.Reply.{Reply}
-use Rattle.lin_history.specs.declared.placed.Placed.{Placed}
-use Rattle.lin_history.specs.Lists.{IsLeast}
-use Rattle.lin_history.specs.Linearizations.{IsRun, IsLinearization}
-use Rattle.lin_history.specs.Recorded.{Recorded}
-use Rattle.lin_history.specs.Whole.{IsLinearizationOfWhole}
-use Rattle.lin_history.specs.Joined.{Places, IsJoined}
-use Rattle.lin_history.specs.WholeOf.{start_at, whole_of, part_of}
+use Rattle.lin_history.specs.declared.locality.placed.Placed.{Placed}
+use Rattle.lin_history.specs.Problems.Lists.{IsLeast}
+use Rattle.lin_history.specs.Problems.Linearizations.{IsRun, IsLinearization}
+use Rattle.lin_history.specs.Recorder.RecordedHistory.{RecordedHistory}
+use Rattle.lin_history.specs.Locality.Whole.{IsLinearizationOfWhole}
+use Rattle.lin_history.specs.Locality.JoinedOrder.{Places, IsJoined}
+use Rattle.lin_history.specs.Locality.RecordedWhole.{start_at, whole_of, part_of}
 use Rattle.lin_search.specs.LongestRun.{IsFirstLongest}
 use Rattle.lincheck.specs.declared.verdict.Verdict.{Verdict}
-use Rattle.lincheck.specs.declared.verdict.Verdict.TheVariants.{Yes, No}
+use Rattle.lincheck.specs.declared.verdict.Verdict.TheVariants.{Yes, No, Undecided}
 use Rattle.lincheck.specs.declared.verdict.ObjectVerdict.{ObjectVerdict}
 use Rattle.lincheck.specs.declared.verdict.ObjectVerdict.TheVariants as objects
-use Rattle.lincheck.specs.Report.{yes_report, no_report}
+use Rattle.lincheck.specs.Report.{yes_report, no_report, undecided_report}
 
 -- One order for each of the first n objects, in the order of declaration, each the least linearization of its object.
-pub record AreLeastOf (h : Recorded) (n : ℕ) (orders : List (List ℕ)) : Type 0 where
+pub record AreLeastOf (h : RecordedHistory) (n : ℕ) (orders : List (List ℕ)) : Type 0 where
   pub count : length orders ≡ n
   pub each : (object : ℕ) (order : List ℕ) → slice_get orders object ≡ Some order → IsLeast (IsLinearization (part_of h object)) order
 
 -- The same of all objects.
-abbrev pub AreLeast : Recorded → List (List ℕ) → Type 0
+abbrev pub AreLeast : RecordedHistory → List (List ℕ) → Type 0
 AreLeast h orders = AreLeastOf h (length h.objects) orders
 
 -- The object is the first, in the order of declaration, that has no linearization.
-pub record IsFirstWithout (h : Recorded) (object : ℕ) : Type 0 where
+pub record IsFirstWithout (h : RecordedHistory) (object : ℕ) : Type 0 where
   pub declared : object < length h.objects
   pub none : (l : List ℕ) → IsLinearization (part_of h object) l → ⊥
   pub earlier : (i : ℕ) → i < object → (l : List ℕ) × IsLinearization (part_of h i) l
 
 -- The list is the longest run of the object, of these the first in lexicographic order, each call with the reply of its
 -- step.
-pub record IsLongestRunOf (h : Recorded) (object : ℕ) (run : List (Placed Reply)) : Type 0 where
+pub record IsLongestRunOf (h : RecordedHistory) (object : ℕ) (run : List (Placed Reply)) : Type 0 where
   pub order : List ℕ
   pub longest : IsFirstLongest (IsRun (part_of h object)) order
   pub placed : Places (whole_of h) object (start_at h object) order run
 
 -- The verdict on one object is right: yes, with the least linearization; or no, where there is none, with the longest run.
-abbrev pub IsObjectVerdict : Recorded → ℕ → ObjectVerdict → Type 0
+abbrev pub IsObjectVerdict : RecordedHistory → ℕ → ObjectVerdict → Type 0
 IsObjectVerdict h object (objects.Yes order) = IsLeast (IsLinearization (part_of h object)) order
 IsObjectVerdict h object (objects.No run) = ((l : List ℕ) → IsLinearization (part_of h object) l → ⊥) × IsLongestRunOf h object run.items
 
 -- The verdict is right: yes, with the least linearizations of the objects joined, which is a linearization of the whole;
--- or no, with the first object that has none and its longest run, and then the whole has none.
-abbrev pub IsVerdict : Recorded → Verdict → Type 0
+-- or no, with the first object that has none and its longest run, and then the whole has none. A check without a limit is
+-- never undecided.
+abbrev pub IsVerdict : RecordedHistory → Verdict → Type 0
 IsVerdict h (Yes l) = ((orders : List (List ℕ)) × AreLeast h orders × IsJoined (whole_of h) orders l) × IsLinearizationOfWhole (whole_of h) l
 IsVerdict h (No object run) = (IsFirstWithout h object × IsLongestRunOf h object run.items) × ((l : List (Placed Reply)) → IsLinearizationOfWhole (whole_of h) l → ⊥)
+IsVerdict h (Undecided object) = ⊥
 
 -- Each of the calls is one of the first n.
 abbrev pub AreCalls : ℕ → List (Placed Reply) → Type 0
@@ -54,11 +56,13 @@ AreCalls n [] = Unit {0}
 AreCalls n (x ∷ xs) = (x.call < n) × AreCalls n xs
 
 -- What the verdict names are calls and objects of the history.
-abbrev pub IsOf : Recorded → Verdict → Type 0
+abbrev pub IsOf : RecordedHistory → Verdict → Type 0
 IsOf h (Yes l) = AreCalls (length h.calls) l
 IsOf h (No object run) = (object < length h.objects) × AreCalls (length h.calls) run.items
+IsOf h (Undecided object) = object < length h.objects
 
 -- The report of the verdict.
-abbrev pub report_of : Recorded → Verdict → List ℕ
+abbrev pub report_of : RecordedHistory → Verdict → List ℕ
 report_of h (Yes l) = yes_report h l
 report_of h (No object run) = no_report h object run.items
+report_of h (Undecided object) = undecided_report h object

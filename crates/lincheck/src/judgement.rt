@@ -1,7 +1,7 @@
 //! The verdict on a history: its objects are searched one after another.
 
 ghost use Rattle.std.specs.Prelude.{◌≡◌, ◌<◌, Some, length, option_map, slice_get, IfOk};
-ghost use Rattle.lin_history.specs.Parts.{start_of, part_calls};
+ghost use Rattle.lin_history.specs.Recorder.Parts.{start_of, part_calls};
 ghost use Rattle.lincheck.specs.Verdict.{IsObjectVerdict, IsVerdict};
 
 use crate::verdict::{ObjectVerdict, Verdict};
@@ -18,7 +18,8 @@ fn judge_object(
     problem: &Problem<AnyObject>,
 ) -> Result<ObjectVerdict, AllocError>
     requires object { object < length history.now.objects }
-    requires start { option_map start_of (slice_get history.now.objects object) ≡ Some problem.now.start }
+    requires start { option_map start_of (slice_get history.now.objects object)
+        ≡ Some problem.now.start }
     requires calls { problem.now.calls ≡ part_calls history.now object }
     ensures { IfOk result (IsObjectVerdict history.now object) }
 {

@@ -3,9 +3,9 @@
 ghost use Rattle.std.specs.Prelude.{◌≡◌, ℕ, ◌<◌, ◌++◌, length, slice_get, slice_index_or, vec_len, string_bytes, false, IfOk, OnOk, Some};
 ghost use Rattle.lin_object.specs.declared.op.Op.{Op};
 ghost use Rattle.lin_object.specs.declared.reply.Reply.{Reply};
-ghost use Rattle.lin_history.specs.Events.{Call};
-ghost use Rattle.lin_history.specs.Recorded.{calls_on};
-ghost use Rattle.lincheck.specs.Report.{mark_of, call_line, call_lines, dropped_line, dropped_lines, is_placed, name_line, length_line, yes_report, no_report};
+ghost use Rattle.lin_history.specs.Recorder.Events.{Call};
+ghost use Rattle.lin_history.specs.Recorder.RecordedHistory.{calls_on};
+ghost use Rattle.lincheck.specs.Report.{mark_of, call_line, call_lines, dropped_line, dropped_lines, is_placed, name_line, length_line, yes_report, no_report, undecided_report};
 ghost use Rattle.lincheck.specs.Verdict.{AreCalls, IsOf, report_of};
 
 use crate::verdict::Verdict;
@@ -28,7 +28,9 @@ fn write_call(
     placed: &Placed,
 ) -> Result<(), AllocError>
     requires { placed.now.call < length history.now.calls }
-    ensures { OnOk result (string_bytes out.new ≡ string_bytes out.old ++ call_line history.now place placed.now.reply (slice_get history.now.calls placed.now.call)) }
+    ensures { OnOk result (string_bytes out.new
+        ≡ string_bytes out.old ++ call_line history.now place placed.now.reply
+        (slice_get history.now.calls placed.now.call)) }
 {
     let call = history.call(placed.call);
     let object = history.object(call.object);
@@ -43,7 +45,8 @@ fn write_call(
 // Appends the line of a call that is not in the order.
 fn write_dropped(out: &mut String, history: &History, index: usize) -> Result<(), AllocError>
     requires { index < length history.now.calls }
-    ensures { OnOk result ((c : Call Op Reply) → slice_get history.now.calls index ≡ Some c → string_bytes out.new ≡ string_bytes out.old ++ dropped_line history.now c) }
+    ensures { OnOk result ((c : Call Op Reply) → slice_get history.now.calls index ≡ Some c
+        → string_bytes out.new ≡ string_bytes out.old ++ dropped_line history.now c) }
 {
     let call = history.call(index);
     let object = history.object(call.object);
@@ -56,7 +59,8 @@ fn write_dropped(out: &mut String, history: &History, index: usize) -> Result<()
 // Appends the lines of the calls of an order.
 fn write_calls(out: &mut String, history: &History, order: &[Placed]) -> Result<(), AllocError>
     requires { AreCalls (length history.now.calls) order.now }
-    ensures { OnOk result (string_bytes out.new ≡ string_bytes out.old ++ call_lines history.now 1 order.now) }
+    ensures { OnOk result (string_bytes out.new
+        ≡ string_bytes out.old ++ call_lines history.now 1 order.now) }
 {
     for (index, placed) in order.iter().enumerate() {
         write_call(out, history, index + 1, placed)?;
@@ -68,7 +72,8 @@ fn write_calls(out: &mut String, history: &History, order: &[Placed]) -> Result<
 fn placed_flags(alloc: Global, calls: usize, order: &[Placed]) -> Result<Vec<bool>, AllocError>
     requires { AreCalls calls order.now }
     ensures count { IfOk result (λ flags. vec_len flags ≡ calls) }
-    ensures flags { IfOk result (λ flags. (a : ℕ) → a < calls → slice_index_or flags.items a false ≡ is_placed order.now a) }
+    ensures flags { IfOk result (λ flags. (a : ℕ) → a < calls
+        → slice_index_or flags.items a false ≡ is_placed order.now a) }
 {
     let mut flags = vec![in alloc; false; calls]?;
     for placed in order {
@@ -85,7 +90,8 @@ fn write_drops(
     order: &[Placed],
 ) -> Result<(), AllocError>
     requires { AreCalls (length history.now.calls) order.now }
-    ensures { OnOk result (string_bytes out.new ≡ string_bytes out.old ++ dropped_lines history.now order.now 0 history.now.calls) }
+    ensures { OnOk result (string_bytes out.new
+        ≡ string_bytes out.old ++ dropped_lines history.now order.now 0 history.now.calls) }
 {
     let flags = placed_flags(alloc, history.call_count(), order)?;
     for index in 0..history.call_count() {
@@ -104,7 +110,8 @@ fn write_yes(
     order: &[Placed],
 ) -> Result<(), AllocError>
     requires { AreCalls (length history.now.calls) order.now }
-    ensures { OnOk result (string_bytes out.new ≡ string_bytes out.old ++ yes_report history.now order.now) }
+    ensures { OnOk result (string_bytes out.new
+        ≡ string_bytes out.old ++ yes_report history.now order.now) }
 {
     out.push_str("linearizable\n")?;
     write_calls(out, history, order)?;
@@ -127,7 +134,8 @@ fn calls_on(history: &History, object: usize) -> usize
 // Appends the line that names an object without a linearization.
 fn write_name(out: &mut String, history: &History, object: usize) -> Result<(), AllocError>
     requires { object < length history.now.objects }
-    ensures { OnOk result (string_bytes out.new ≡ string_bytes out.old ++ name_line history.now object) }
+    ensures { OnOk result (string_bytes out.new
+        ≡ string_bytes out.old ++ name_line history.now object) }
 {
     let name = history.object(object).name;
     write!(out, "not linearizable: {name}\n")
@@ -140,7 +148,8 @@ fn write_length(
     object: usize,
     run: &[Placed],
 ) -> Result<(), AllocError>
-    ensures { OnOk result (string_bytes out.new ≡ string_bytes out.old ++ length_line history.now object run.now) }
+    ensures { OnOk result (string_bytes out.new
+        ≡ string_bytes out.old ++ length_line history.now object run.now) }
 {
     let length = run.len();
     let calls = calls_on(history, object);
@@ -156,11 +165,22 @@ fn write_no(
 ) -> Result<(), AllocError>
     requires object { object < length history.now.objects }
     requires run { AreCalls (length history.now.calls) run.now }
-    ensures { OnOk result (string_bytes out.new ≡ string_bytes out.old ++ no_report history.now object run.now) }
+    ensures { OnOk result (string_bytes out.new
+        ≡ string_bytes out.old ++ no_report history.now object run.now) }
 {
     write_name(out, history, object)?;
     write_length(out, history, object, run)?;
     write_calls(out, history, run)
+}
+
+// Appends the report of an object that is not decided.
+fn write_undecided(out: &mut String, history: &History, object: usize) -> Result<(), AllocError>
+    requires { object < length history.now.objects }
+    ensures { OnOk result (string_bytes out.new
+        ≡ string_bytes out.old ++ undecided_report history.now object) }
+{
+    let name = history.object(object).name;
+    write!(out, "undecided: {name}\n")
 }
 
 /// The report of a verdict on a history. `AllocError` where memory was refused.
@@ -174,6 +194,7 @@ pub fn report(alloc: Global, history: &History, verdict: &Verdict) -> Result<Vec
     match verdict {
         Verdict::Yes(order) => write_yes(alloc, &mut out, history, order.placed())?,
         Verdict::No { object, run } => write_no(&mut out, history, *object, run.as_slice())?,
+        Verdict::Undecided { object } => write_undecided(&mut out, history, *object)?,
     }
     Ok(out.into_bytes())
 }

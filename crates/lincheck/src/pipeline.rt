@@ -14,11 +14,11 @@ use crate::lines::report;
 use crate::options::Options;
 use crate::status::Status;
 use crate::verdict::Verdict;
-use lin_text::{Cause, TextFault, read_history, write_cause};
+use lin_text::{Cause, MAX_INPUT_BYTES, TextFault, read_history, write_cause};
 use std::alloc::{AllocError, Global};
 
 // The most bytes of a text, and one more: where so many stand, the text is too long and is read no further.
-const ENOUGH: usize = 67_108_865;
+const ENOUGH: usize = MAX_INPUT_BYTES + 1;
 
 // How many bytes one read asks for.
 const PIECE: usize = 65536;
@@ -26,7 +26,8 @@ const PIECE: usize = 65536;
 // Reads the source to its end, or until `ENOUGH` bytes stand, in at most so many reads.
 fn read_text<S: Source>(alloc: Global, source: &mut S) -> Result<Vec<u8>, RunFault>
     requires { S.failed source.old ≡ false }
-    ensures text { IfOk result (λ read. IfSome (S.remaining source.old) (λ text. IsReadOf text read.items)) }
+    ensures text { IfOk result (λ read. IfSome (S.remaining source.old)
+        (λ text. IsReadOf text read.items)) }
     ensures fault { IfErr result (λ fault. fault ≢ RunFault.Write) }
     ensures read { IfErr result (λ fault. fault ≡ RunFault.Read → S.failed source.new ≡ true) }
 {
@@ -49,7 +50,8 @@ fn read_text<S: Source>(alloc: Global, source: &mut S) -> Result<Vec<u8>, RunFau
 
 // The answer to a text that is no history.
 fn refused(alloc: Global, fault: &TextFault) -> Result<(Status, Vec<u8>), AllocError>
-    ensures { IfOk result (λ answer. (fault.now.cause ≢ Cause.OutOfMemory) × (answer.0 ≡ Status.Refused) × (answer.1.items ≡ fault_line fault.now)) }
+    ensures { IfOk result (λ answer. (fault.now.cause ≢ Cause.OutOfMemory)
+        × (answer.0 ≡ Status.Refused) × (answer.1.items ≡ fault_line fault.now)) }
 {
     if fault.cause == Cause::OutOfMemory {
         return Err(AllocError);
@@ -72,6 +74,7 @@ fn answer(alloc: Global, text: &[u8]) -> Result<(Status, Vec<u8>), AllocError>
     let status = match verdict {
         Verdict::Yes(_) => Status::Yes,
         Verdict::No { .. } => Status::No,
+        Verdict::Undecided { .. } => Status::Undecided,
     };
     Ok((status, printed))
 }
@@ -80,7 +83,8 @@ fn answer(alloc: Global, text: &[u8]) -> Result<(Status, Vec<u8>), AllocError>
 fn write_answer<W: Sink>(sink: &mut W, answer: &[u8]) -> Result<(), RunFault>
     ensures ok { OnOk result (Appends (W.contents sink.old) (W.contents sink.new) answer.now) }
     ensures write { IfErr result (λ fault. (fault ≡ RunFault.Write) × (W.failed sink.new ≡ true)) }
-    ensures prefix { IfErr result (λ fault. (n : ℕ) × Appends (W.contents sink.old) (W.contents sink.new) (take n answer.now)) }
+    ensures prefix { IfErr result (λ fault. (n : ℕ)
+        × Appends (W.contents sink.old) (W.contents sink.new) (take n answer.now)) }
 {
     let mut rest = answer;
     'pieces: while !rest.is_empty() {
@@ -111,7 +115,8 @@ pub fn run<R: AllocGlobal, S: Source, W: Sink>(
     requires source { S.failed source.old ≡ false }
     requires sink { W.failed sink.old ≡ false }
     requires stats { options.now.stats ≡ false }
-    ensures ran { IfSome (S.remaining source.old) (λ text. Ran text (W.contents sink.old) (W.contents sink.new) result) }
+    ensures ran { IfSome (S.remaining source.old)
+        (λ text. Ran text (W.contents sink.old) (W.contents sink.new) result) }
     ensures read { IfErr result (λ fault. fault ≡ RunFault.Read → S.failed source.new ≡ true) }
     ensures write { IfErr result (λ fault. fault ≡ RunFault.Write → W.failed sink.new ≡ true) }
 {

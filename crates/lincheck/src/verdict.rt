@@ -14,6 +14,11 @@ pub enum Verdict {
         /// Its longest run, the first of those of the greatest length.
         run: Vec<Placed>,
     },
+    /// The search of the object of this index met its limit before an answer.
+    Undecided {
+        /// The index of the object.
+        object: usize,
+    },
 }
 
 /// What a search found of one object.

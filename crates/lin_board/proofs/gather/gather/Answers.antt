@@ -3,8 +3,8 @@ use Rattle.std.proofs.lemmas.List.Elements.{All-pop}
 use Rattle.lin_board.specs.Facts.{SeatFacts}
 use Rattle.lin_board.specs.Gather.{Gathered}
 use Rattle.lin_board.specs.declared.rule.View.{View}
-use Rattle.lin_board.proofs.Gathers.{begins, gathers}
-use Rattle.lin_board.proofs.Allows.{join_allowed}
+use Rattle.lin_board.proofs.GatherLemmas.{begins, gathers}
+use Rattle.lin_board.proofs.StepLemmas.{join_allowed}
 use Rattle.lin_board.proofs.gather.gather.Goals as goal
 
 pub loop-seat-init : goal.loop-seat-init

@@ -1,10 +1,8 @@
 use Rattle.lin_search.specs.AlikeLemmas.{alike_answer}
 use Rattle.lin_search.specs.SameLemmas.{alike_itself}
-use Rattle.lin_search.proofs.SizeLemmas.{answer_of}
 use Rattle.lin_search.proofs.depth_first.search.Goals as goal
 
 pub returns-clause-answer : goal.returns-clause-answer
 returns-clause-answer g c =
-    let told = c.in_ok-ended.ensures in
     alike_answer (alike_itself c.lawful.ensures c.args.problem.now) _ c.in_ok-copy.copy.state c.args.config.now.state c.args.limit _ c.in_ok-copy.ensures.state c.in_ok-ended.ended.outcome
-    (rw c.in_ok-copy.ensures.lifted at (answer_of _ _ _ c.args.limit _ _ c.in_ok-ended.ended.outcome told.answer told.size told.told))
+    (rw c.in_ok-copy.ensures.lifted at c.in_ok-ended.ensures.answer)

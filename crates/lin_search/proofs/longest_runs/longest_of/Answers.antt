@@ -12,8 +12,8 @@ returns-clause-longest g c =
     let refuted = rw (c.in-Refuted.is, c.in_ok-copy.ensures.lifted) at c.in_ok-ended.ensures.answer in
     alike_longest (alike_itself c.lawful.ensures c.args.problem.now) _ c.in_ok-copy.copy.state c.args.config.now.state _ _ c.in_ok-copy.ensures.state refuted.1
 
-pub search_from-requires-clause-here : goal.search_from-requires-clause-here
-search_from-requires-clause-here g c = λ h. g.met.M.Memo.keeps_problem _ _ c.look_at.ensures.changes _ (c.requires.here h)
+pub search_from-requires-clause-of : goal.search_from-requires-clause-of
+search_from-requires-clause-of g c = λ h. g.met.M.Memo.keeps_problem _ _ c.look_at.ensures.changes _ (c.requires.of h)
 
 pub returns-in_err-ended-clause-memo : goal.returns-in_err-ended-clause-memo
 returns-in_err-ended-clause-memo g c = g.met.M.Memo.chained _ _ _ c.look_at.ensures.changes c.search_from.ensures.memo

@@ -1,11 +1,11 @@
-use Rattle.lin_history.specs.Posed.{posed}
-use Rattle.lin_history.specs.Linearizations.{IsRun}
+use Rattle.lin_history.specs.Problems.Problem.{problem_of}
+use Rattle.lin_history.specs.Problems.Linearizations.{IsRun}
 use Rattle.lin_search.specs.LongestRun.{IsFirstLongest}
 use Rattle.lin_search.specs.FirstCallLemmas.{none_continues}
 use Rattle.lin_search.specs.AlikeLemmas.{like_completion}
 use Rattle.lin_search.specs.SameLemmas.{alike_itself}
-use Rattle.lin_search.proofs.Tried.{leads_down}
-use Rattle.lin_search.proofs.FrameLemmas.{next_minimal}
+use Rattle.lin_search.proofs.ProgressLemmas.{leads_down}
+use Rattle.lin_search.proofs.PathLemmas.{next_minimal}
 use Rattle.lin_search.proofs.RunLemmas.{none_left, first_next, longest_step, none_after, alike_first, rest_next, rest_none}
 use Rattle.lin_search.proofs.longest_runs.longest_run.Goals as goal
 
@@ -52,15 +52,15 @@ loop-longest-preserved g c =
       reachable = rw c.in-Some-2.is at c.in_ok-child.ensures.reachable;
       none = λ l k. none_after _ _ _ c.loop-longest.invariant.reachable.flags _ _ child.1 c.loop-longest.invariant.none l (rw (child.0) at k);
       longest = c.in_ok-longest-2.ensures.longest;
-      rest = λ m k. rest_next (IsFirstLongest (IsRun (posed g.O.SeqObject.after g.O.State.PartialEq.eq g.O.Reply.PartialEq.eq c.args.problem.now))) c.loop-longest.calls.items _ m c.in-Some.call c.in_ok-push.ensures.items
+      rest = λ m k. rest_next (IsFirstLongest (IsRun (problem_of g.O.SeqObject.after g.O.State.PartialEq.eq g.O.Reply.PartialEq.eq c.args.problem.now))) c.loop-longest.calls.items _ m c.in-Some.call c.in_ok-push.ensures.items
           (c.loop-longest.invariant.rest _ (longest_step _ _ _ c.loop-longest.invariant.reachable.flags _ _ child.1 _ (rw c.in-Some.is at c.loop-longest.invariant.longest) m (rw (child.0) at k)));
       memo = g.met.M.Memo.chained _ _ _ c.loop-longest.invariant.memo c.longest_of-in-Some.ensures.memo;
     }
 
 pub returns-clause-run : goal.returns-clause-run
 returns-clause-run g c =
-    rw c.new.ensures (rest_none (IsFirstLongest (IsRun (posed g.O.SeqObject.after g.O.State.PartialEq.eq g.O.Reply.PartialEq.eq c.args.problem.now))) c.loop-longest.calls.items
+    rw c.new.ensures (rest_none (IsFirstLongest (IsRun (problem_of g.O.SeqObject.after g.O.State.PartialEq.eq g.O.Reply.PartialEq.eq c.args.problem.now))) c.loop-longest.calls.items
     (c.loop-longest.invariant.rest _ (none_left _ _ (none_continues _ _ _) (rw c.in_default.is at c.loop-longest.invariant.longest))))
 
-pub longest_of-requires-in-Some-clause-here : goal.longest_of-requires-in-Some-clause-here
-longest_of-requires-in-Some-clause-here g c = λ h. g.met.M.Memo.keeps_problem _ _ c.loop-longest.invariant.memo _ (c.is_for-here.ensures h)
+pub longest_of-requires-in-Some-clause-of : goal.longest_of-requires-in-Some-clause-of
+longest_of-requires-in-Some-clause-of g c = λ h. g.met.M.Memo.keeps_problem _ _ c.loop-longest.invariant.memo _ (c.is_for-is_for_problem.ensures h)

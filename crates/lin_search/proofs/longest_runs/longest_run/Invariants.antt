@@ -1,11 +1,11 @@
 use Rattle.std.proofs.Common.{ℕ, List, ◌++◌}
-use Rattle.lin_history.specs.Posed.{posed}
-use Rattle.lin_history.specs.Lists.{IsLongest}
-use Rattle.lin_history.specs.Continuations.{IsCompletion, IsContinuation}
-use Rattle.lin_history.specs.Linearizations.{IsRun}
-use Rattle.lin_history.specs.Configurations.{IsReachable}
+use Rattle.lin_history.specs.Problems.Problem.{problem_of}
+use Rattle.lin_history.specs.Problems.Lists.{IsLongest}
+use Rattle.lin_history.specs.Problems.Continuations.{IsCompletion, IsContinuation}
+use Rattle.lin_history.specs.Problems.Linearizations.{IsRun}
+use Rattle.lin_history.specs.Problems.Configurations.{IsReachable}
 use Rattle.lin_search.specs.LongestRun.{IsFirstLongest}
-use Rattle.lin_search.proofs.Tried.{free}
+use Rattle.lin_search.specs.Progress.{free}
 use Rattle.lin_search.proofs.longest_runs.longest_run.Given as goal
 
 abbrev pub decreases-loop-longest : goal.decreases-loop-longest
@@ -13,9 +13,9 @@ decreases-loop-longest g l = free l.config.lifted
 
 abbrev pub invariant-loop-longest : goal.invariant-loop-longest
 invariant-loop-longest g l = record {
-  reachable : IsReachable (posed g.O.SeqObject.after g.O.State.PartialEq.eq g.O.Reply.PartialEq.eq l.problem) l.config.lifted l.config.state;
-  none : (m : List ℕ) → IsCompletion (posed g.O.SeqObject.after g.O.State.PartialEq.eq g.O.Reply.PartialEq.eq l.problem) l.config.lifted l.config.state m → ⊥;
-  longest : IsLongest (IsContinuation (posed g.O.SeqObject.after g.O.State.PartialEq.eq g.O.Reply.PartialEq.eq l.problem) l.config.lifted l.config.state) l.longest.more l.longest.first;
-  rest : (m : List ℕ) → IsFirstLongest (IsContinuation (posed g.O.SeqObject.after g.O.State.PartialEq.eq g.O.Reply.PartialEq.eq l.problem) l.config.lifted l.config.state) m → IsFirstLongest (IsRun (posed g.O.SeqObject.after g.O.State.PartialEq.eq g.O.Reply.PartialEq.eq l.problem)) (l.calls.items ++ m);
+  reachable : IsReachable (problem_of g.O.SeqObject.after g.O.State.PartialEq.eq g.O.Reply.PartialEq.eq l.problem) l.config.lifted l.config.state;
+  none : (m : List ℕ) → IsCompletion (problem_of g.O.SeqObject.after g.O.State.PartialEq.eq g.O.Reply.PartialEq.eq l.problem) l.config.lifted l.config.state m → ⊥;
+  longest : IsLongest (IsContinuation (problem_of g.O.SeqObject.after g.O.State.PartialEq.eq g.O.Reply.PartialEq.eq l.problem) l.config.lifted l.config.state) l.longest.more l.longest.first;
+  rest : (m : List ℕ) → IsFirstLongest (IsContinuation (problem_of g.O.SeqObject.after g.O.State.PartialEq.eq g.O.Reply.PartialEq.eq l.problem) l.config.lifted l.config.state) m → IsFirstLongest (IsRun (problem_of g.O.SeqObject.after g.O.State.PartialEq.eq g.O.Reply.PartialEq.eq l.problem)) (l.calls.items ++ m);
   memo : g.M.Memo.changes l.fn.memo l.memo;
 }

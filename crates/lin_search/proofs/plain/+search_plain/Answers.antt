@@ -1,5 +1,6 @@
 use Rattle.std.proofs.Common.{rules, arith, ap, List, ◌∷◌, ℕ, ◌<◌, ◌∙◌}
-use Rattle.lin_search.proofs.Tried.{free, least_none, tried_start, tried_skip, tried_longer, tried_no_longer, tried_all, found_least, leads_down, room}
+use Rattle.lin_search.specs.Progress.{free}
+use Rattle.lin_search.proofs.ProgressLemmas.{least_none, searched_start, searched_skip, searched_longer, searched_no_longer, searched_all, found_least, leads_down, room}
 use Rattle.lin_search.proofs.plain.+search_plain.Goals as goal
 use Rattle.lin_search.proofs.plain.+search_plain.Goals.{then-longest-below, else-longest-below}
 
@@ -7,10 +8,10 @@ pub returns-then-is_complete : goal.returns-then-is_complete
 returns-then-is_complete g t c = rw (c.new-then-is_complete.ensures ∙ c.new.ensures.items) (least_none _ _ _ (c.is_complete.ensures.0 c.if-is_complete.true))
 
 pub loop-call-init : goal.loop-call-init
-loop-call-init g t c = tried_start _ _ _ (λ h. let e = c.is_complete.ensures.1 h in let f = c.if-is_complete.false in cc)
+loop-call-init g t c = searched_start _ _ _ (λ h. let e = c.is_complete.ensures.1 h in let f = c.if-is_complete.false in cc)
 
 pub loop-call-preserved-in_default : goal.loop-call-preserved-in_default
-loop-call-preserved-in_default g t c = tried_skip _ _ _ _ _ _ c.requires.flags c.loop-call.invariant (rw c.in_default.is at c.in_ok-child.ensures.none)
+loop-call-preserved-in_default g t c = searched_skip _ _ _ _ _ _ c.requires.flags c.loop-call.invariant (rw c.in_default.is at c.in_ok-child.ensures.none)
 
 pub search_plain-requires : goal.search_plain-requires
 search_plain-requires g t c κs within =
@@ -45,9 +46,9 @@ loop-call-preserved g t c =
     let child = rw c.in-Some.is at c.in_ok-child.ensures.some in
     let refuted = rw (child.0) at (rw c.in-Refuted.is at c.in_ok-order.ensures) in
     elim c.if-longest-below.branch [
-      | then-longest-below w ↦ rw w.longest-is (tried_longer _ _ _ _ _ _ _ c.requires.flags child.1 refuted.0 refuted.1 _ _ c.loop-call.invariant w.if-longest-below.true)
-      | else-longest-below w ↦ rw w.longest-is (tried_no_longer _ _ _ _ _ _ _ c.requires.flags child.1 refuted.0 refuted.1 _ _ c.loop-call.invariant w.if-longest-below.false)
+      | then-longest-below w ↦ rw w.longest-is (searched_longer _ _ _ _ _ _ _ c.requires.flags child.1 refuted.0 refuted.1 _ _ c.loop-call.invariant w.if-longest-below.true)
+      | else-longest-below w ↦ rw w.longest-is (searched_no_longer _ _ _ _ _ _ _ c.requires.flags child.1 refuted.0 refuted.1 _ _ c.loop-call.invariant w.if-longest-below.false)
     ]
 
 pub returns : goal.returns
-returns g t c = tried_all _ _ _ _ _ _ (omega (arith, c.len-call-end.ensures)) c.requires.flags c.loop-call.invariant
+returns g t c = searched_all _ _ _ _ _ _ (omega (arith, c.len-call-end.ensures)) c.requires.flags c.loop-call.invariant

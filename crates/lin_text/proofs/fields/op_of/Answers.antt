@@ -1,9 +1,9 @@
 use Rattle.std.proofs.Common.{◌≡◌, Some, Ok, rules}
 use Rattle.std.specs.Prelude.{codes}
 use Rattle.serde_json.specs.View.{view}
-use Rattle.lin_object.specs.Words.{op_read}
+use Rattle.lin_object.specs.Kinds.{op_read}
 use Rattle.lin_text.specs.Fields.{text_at, arguments_in}
-use Rattle.lin_text.proofs.Operations.{op_there}
+use Rattle.lin_text.proofs.OperationLemmas.{op_there}
 use Rattle.lin_text.proofs.fields.op_of.Goals as goal
 
 pub returns-in-Ok-read_op-clause-ok : goal.returns-in-Ok-read_op-clause-ok

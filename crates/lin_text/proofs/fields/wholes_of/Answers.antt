@@ -1,7 +1,7 @@
 use Rattle.std.proofs.Common.{◌≡◌, ◌<◌, Some, length, ◌++◌, ◌∷◌, [], sym, ◌∙◌, add-one, arith, rules}
 use Rattle.serde_json.specs.View.{view}
 use Rattle.lin_text.specs.Fields.{whole}
-use Rattle.lin_text.proofs.Wholes.{goes_on}
+use Rattle.lin_text.proofs.WholeNumberLemmas.{goes_on}
 use Rattle.lin_text.proofs.fields.wholes_of.Goals as goal
 
 pub loop-item-preserved : goal.loop-item-preserved

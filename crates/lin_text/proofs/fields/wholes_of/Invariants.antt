@@ -1,7 +1,7 @@
 use Rattle.std.proofs.Common.{◌≡◌, drop}
 use Rattle.serde_json.specs.View.{items_view}
 use Rattle.lin_text.specs.Fields.{wholes}
-use Rattle.lin_text.proofs.Wholes.{with_front}
+use Rattle.lin_text.proofs.WholeNumberLemmas.{with_front}
 use Rattle.lin_text.proofs.fields.wholes_of.Given as goal
 
 abbrev pub invariant-loop-item : goal.invariant-loop-item

@@ -1,6 +1,6 @@
 use Rattle.std.proofs.Common.{◌≡◌, ◌+◌, ◌-◌, length, take, drop, sym, add-one, arith}
 use Rattle.std.proofs.lemmas.Grind.{common_steps}
-use Rattle.lin_text.proofs.Lines.{lines_at, lines_whole}
+use Rattle.lin_text.proofs.LineLemmas.{lines_at, lines_whole}
 use Rattle.lin_text.proofs.text.first_line.Goals as goal
 
 pub returns-in-Some-clause-lines : goal.returns-in-Some-clause-lines

@@ -1,4 +1,4 @@
-use Rattle.lin_text.proofs.Json.{json_some, json_none}
+use Rattle.lin_text.proofs.JsonLemmas.{json_some, json_none}
 use Rattle.lin_text.proofs.text.json_of.Goals as goal
 
 pub returns-in-Ok-clause-ok : goal.returns-in-Ok-clause-ok

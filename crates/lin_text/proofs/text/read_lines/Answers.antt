@@ -1,6 +1,6 @@
 use Rattle.std.proofs.Common.{◌≡◌, length, arith}
 use Rattle.std.proofs.lemmas.Bool.Decides.{nat_tests}
-use Rattle.lin_text.proofs.Walk.{goes_on, ends}
+use Rattle.lin_text.proofs.TextLemmas.{goes_on, ends}
 use Rattle.lin_text.proofs.text.read_lines.Goals as goal
 
 pub lines-preserved : goal.lines-preserved

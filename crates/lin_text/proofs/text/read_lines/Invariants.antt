@@ -1,5 +1,5 @@
 use Rattle.std.proofs.Common.{length}
-use Rattle.lin_text.proofs.Walk.{IsMidway}
+use Rattle.lin_text.proofs.TextLemmas.{IsMidway}
 use Rattle.lin_text.proofs.text.read_lines.Given as goal
 
 abbrev pub invariant-lines : goal.invariant-lines

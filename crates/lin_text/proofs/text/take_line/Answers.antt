@@ -1,9 +1,9 @@
 use Rattle.std.proofs.Common.{ap, ◌∙◌, arith}
 use Rattle.serde_json.specs.View.{view}
-use Rattle.lin_history.specs.Recorded.{kind_named}
+use Rattle.lin_history.specs.Recorder.RecordedHistory.{kind_named}
 use Rattle.lin_text.specs.Causes.{cause_of}
 use Rattle.lin_text.specs.Line.{seen, IsLineEventIn}
-use Rattle.lin_text.proofs.Causes.{IsRead, refused_value, refused_event, leads_by}
+use Rattle.lin_text.proofs.CauseLemmas.{IsRead, refused_value, refused_event, told_by_event, told_by_blank}
 use Rattle.lin_text.proofs.text.take_line.Goals as goal
 
 pub returns-in-Err-read_value-clause-err : goal.returns-in-Err-read_value-clause-err
@@ -17,7 +17,7 @@ returns-in-Ok-take_event-clause-ok c =
     let read : IsRead c.args.builder.now c.args.line.now (view c.in-Ok.value) =
     record { short = omega arith; there = cc (c.is_blank.ensures, c.if-is_blank.false); value = c.in-Ok.ensures.ok } in
     let event : IsLineEventIn (kind_named c.args.builder.now) (view c.in-Ok.value) (seen c.in-Ok-read_value.event) = c.in-Ok-read_value.ensures in
-    leads_by _ _ _ _ _ read event c.in-Ok-take_event.ensures.sound c.in-Ok-take_event.ensures.ok
+    λ told is. told_by_event told _ _ _ _ _ is read event c.in-Ok-take_event.ensures.sound (c.in-Ok-take_event.ensures.history told is)
 
 pub returns-clause-err : goal.returns-clause-err
 returns-clause-err c =

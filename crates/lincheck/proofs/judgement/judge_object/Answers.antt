@@ -1,6 +1,6 @@
 use Rattle.std.proofs.Common.{ℕ, List}
-use Rattle.lin_history.specs.Lists.{IsLeast}
-use Rattle.lin_history.specs.Linearizations.{IsLinearization, IsRun}
+use Rattle.lin_history.specs.Problems.Lists.{IsLeast}
+use Rattle.lin_history.specs.Problems.Linearizations.{IsLinearization, IsRun}
 use Rattle.lin_search.specs.LongestRun.{IsFirstLongest}
 use Rattle.lincheck.specs.Verdict.{IsLongestRunOf}
 use Rattle.lincheck.proofs.JudgeLemmas.{IsPart, at_part}

@@ -3,7 +3,7 @@ use Rattle.std.specs.List.{slice_get}
 use Rattle.std.proofs.lemmas.Option.{slice_get-get_or}
 use Rattle.lin_object.specs.declared.reply.Reply.TheVariants.{Okay}
 use Rattle.lin_object.specs.declared.reply.Reply.{Reply}
-use Rattle.lin_history.specs.declared.placed.Placed.{Placed}
+use Rattle.lin_history.specs.declared.locality.placed.Placed.{Placed}
 use Rattle.lincheck.proofs.ReportLemmas.{call_within}
 use Rattle.lincheck.proofs.lines.write_calls.Goals as goal
 

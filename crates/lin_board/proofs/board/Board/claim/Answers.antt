@@ -1,8 +1,8 @@
 use Rattle.std.proofs.Common.{sym, ap, ◌∙◌, arith}
-use Rattle.lin_lists.specs.Totals.{one_if}
+use Rattle.lin_board.specs.Lists.Totals.{one_if}
 use Rattle.lin_board.specs.Facts.{BoardFacts, SeatFacts}
-use Rattle.lin_board.proofs.Allows.{claim_allowed}
-use Rattle.lin_board.proofs.Seats.{claimed_seat, ended_seat}
+use Rattle.lin_board.proofs.StepLemmas.{claim_allowed}
+use Rattle.lin_board.proofs.SeatLemmas.{claimed_seat, ended_seat}
 use Rattle.lin_board.proofs.board.Board.claim.Goals as goal
 
 pub fetch_add-task-requires : goal.fetch_add-task-requires

@@ -3,7 +3,7 @@ use Rattle.std.proofs.lemmas.List.Elements.{All-pop, All-weaker}
 use Rattle.lin_board.specs.declared.rule.Plan.{Plan}
 use Rattle.lin_board.specs.Facts.{BoardFacts, SeatFacts}
 use Rattle.lin_board.specs.Board.{IsSeatOf}
-use Rattle.lin_board.proofs.Settles.{closes}
+use Rattle.lin_board.proofs.EndLemmas.{closes}
 use Rattle.lin_board.proofs.board.Board.close.Goals as goal
 
 pub returns-clause-tally : goal.returns-clause-tally

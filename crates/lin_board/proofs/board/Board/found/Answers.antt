@@ -1,7 +1,7 @@
 use Rattle.std.proofs.Common.{ℕ, List, sym, ap, ◌∙◌, subst, arith, Contains}
 use Rattle.lin_board.specs.Facts.{SeatFacts}
-use Rattle.lin_board.proofs.Allows.{found_allowed}
-use Rattle.lin_board.proofs.Seats.{found_seat}
+use Rattle.lin_board.proofs.StepLemmas.{found_allowed}
+use Rattle.lin_board.proofs.SeatLemmas.{found_seat}
 use Rattle.lin_board.proofs.board.Board.found.Goals as goal
 
 pub fetch_min-requires : goal.fetch_min-requires

@@ -1,7 +1,7 @@
 use Rattle.std.proofs.Common.{sym, ap, ◌∙◌, arith}
 use Rattle.lin_board.specs.Facts.{SeatFacts}
-use Rattle.lin_board.proofs.Allows.{least_allowed}
-use Rattle.lin_board.proofs.Seats.{looked_seat}
+use Rattle.lin_board.proofs.StepLemmas.{least_allowed}
+use Rattle.lin_board.proofs.SeatLemmas.{looked_seat}
 use Rattle.lin_board.proofs.board.Board.least.Goals as goal
 
 pub load-task-requires : goal.load-task-requires

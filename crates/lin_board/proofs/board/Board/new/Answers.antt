@@ -5,7 +5,7 @@ use Rattle.lin_board.specs.Rule.{plan_of, view}
 use Rattle.lin_board.specs.Steps.{Holder, one_part_less, one_part}
 use Rattle.lin_board.specs.Facts.{SeatFacts}
 use Rattle.lin_board.specs.Seat.{facts_of}
-use Rattle.lin_board.proofs.Allows.{split_allowed}
+use Rattle.lin_board.proofs.StepLemmas.{split_allowed}
 use Rattle.lin_board.proofs.board.Board.new.Goals as goal
 
 pub loop-init : goal.loop-init

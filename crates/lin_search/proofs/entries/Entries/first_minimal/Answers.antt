@@ -1,19 +1,19 @@
-use Rattle.lin_history.specs.Posed.{posed}
+use Rattle.lin_history.specs.Problems.Problem.{problem_of}
 use Rattle.lin_search.proofs.EntriesLemmas.{first_inside, first_above, first_least}
 use Rattle.lin_search.proofs.entries.Entries.first_minimal.Goals as goal
 
 pub next-requires : goal.next-requires
 next-requires g c =
     let i = c.self.inside in
-    first_inside (posed g.O.SeqObject.after g.O.State.PartialEq.eq g.O.Reply.PartialEq.eq i.problem.now) i.events.items i.places i.links i.lifted.items i.lifted.cap i.left c.self.invariant
+    first_inside (problem_of g.O.SeqObject.after g.O.State.PartialEq.eq g.O.Reply.PartialEq.eq i.problem.now) i.events.items i.places i.links i.lifted.items i.lifted.cap i.left c.self.invariant
 
 pub call_at-requires : goal.call_at-requires
 call_at-requires g c =
     let i = c.self.inside in
-    rw c.next.ensures (first_above (posed g.O.SeqObject.after g.O.State.PartialEq.eq g.O.Reply.PartialEq.eq i.problem.now) i.events.items i.places i.links i.lifted.items i.lifted.cap i.left c.self.invariant)
+    rw c.next.ensures (first_above (problem_of g.O.SeqObject.after g.O.State.PartialEq.eq g.O.Reply.PartialEq.eq i.problem.now) i.events.items i.places i.links i.lifted.items i.lifted.cap i.left c.self.invariant)
 
 pub returns : goal.returns
 returns g c =
     let i = c.self.inside in
     rw (← c.self.view_is, c.call_at.ensures, c.as_slice.ensures.value, c.next.ensures)
-    (first_least (posed g.O.SeqObject.after g.O.State.PartialEq.eq g.O.Reply.PartialEq.eq i.problem.now) i.events.items i.places i.links i.lifted.items i.lifted.cap i.left c.self.invariant)
+    (first_least (problem_of g.O.SeqObject.after g.O.State.PartialEq.eq g.O.Reply.PartialEq.eq i.problem.now) i.events.items i.places i.links i.lifted.items i.lifted.cap i.left c.self.invariant)

@@ -1,16 +1,16 @@
 use Rattle.std.proofs.Common.{arith}
-use Rattle.lin_history.specs.Posed.{posed}
+use Rattle.lin_history.specs.Problems.Problem.{problem_of}
 use Rattle.lin_search.proofs.EntriesLemmas.{entries_start, completed_within}
 use Rattle.lin_search.proofs.entries.Entries.new.Goals as goal
 
 pub of-requires-clause-returned : goal.of-requires-clause-returned
 of-requires-clause-returned g c =
-    let p = posed g.O.SeqObject.after g.O.State.PartialEq.eq g.O.Reply.PartialEq.eq c.args.problem.now in
+    let p = problem_of g.O.SeqObject.after g.O.State.PartialEq.eq g.O.Reply.PartialEq.eq c.args.problem.now in
     rw (c.as_slice.ensures.value, c.len.ensures) (λ i a e. completed_within p a (c.in_ok-events.ensures.of_return i a e))
 
 pub invariant_of-result : goal.invariant_of-result
 invariant_of-result g c =
-    let p = posed g.O.SeqObject.after g.O.State.PartialEq.eq g.O.Reply.PartialEq.eq c.args.problem.now in
+    let p = problem_of g.O.SeqObject.after g.O.State.PartialEq.eq g.O.Reply.PartialEq.eq c.args.problem.now in
     entries_start p c.in_ok-events.events.items c.in_ok-places.places c.in_ok-links.links c.in_ok-lifted.lifted.items c.in_ok-lifted.lifted.cap c.completed_calls.result
     c.in_ok-events.ensures
     (rw (c.as_slice.ensures.value, c.len.ensures) at c.in_ok-places.ensures)

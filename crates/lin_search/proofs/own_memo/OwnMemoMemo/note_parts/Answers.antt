@@ -1,4 +1,4 @@
-use Rattle.lin_history.specs.Same.{SameProblem}
+use Rattle.lin_history.specs.Problems.SameProblem.{SameProblem}
 use Rattle.lin_search.specs.AlikeLemmas.{alike_refuted}
 use Rattle.lin_search.specs.SameLemmas.{alike_of_same, same_back}
 use Rattle.lin_search.proofs.LookupLemmas.{noted_held, noted_only, noted_ours}

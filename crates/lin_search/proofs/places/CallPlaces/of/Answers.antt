@@ -1,7 +1,7 @@
 use Rattle.std.proofs.Common.{arith, ap, ◌∙◌, Some}
 use Rattle.std.proofs.lemmas.Option.{slice_get-get_or}
-use Rattle.lin_history.specs.declared.timeline.ProblemEvent.{ProblemEvent}
-use Rattle.lin_history.specs.declared.timeline.ProblemEvent.TheVariants.{Call}
+use Rattle.lin_history.specs.declared.problems.timeline.ProblemEvent.{ProblemEvent}
+use Rattle.lin_history.specs.declared.problems.timeline.ProblemEvent.TheVariants.{Call}
 use Rattle.lin_search.proofs.PlacesLemmas.{places_called, places_returned, places_all}
 use Rattle.lin_search.proofs.places.CallPlaces.of.Goals as goal
 use Rattle.lin_search.proofs.places.CallPlaces.of.Goals.{in-Call, in-Return}

@@ -1,0 +1,5 @@
+-- Lemmas on problems, and worked histories that check the definitions.
+pub mod NumberLemmas
+pub mod EventNumberLemmas
+pub mod TimelineLemmas
+pub mod Rows

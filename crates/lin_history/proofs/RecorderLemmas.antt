@@ -1,0 +1,8 @@
+-- Lemmas on events, and on what the builder keeps.
+pub mod EventLemmas
+pub mod OutcomeLemmas
+pub mod ObjectLemmas
+pub mod NextEventLemmas
+pub mod BuilderLemmas
+pub mod IndexLemmas
+pub mod PartCallsLemmas

@@ -1,7 +1,0 @@
-use Rattle.std.proofs.Common.{take}
-use Rattle.lin_history.specs.Points.{AreOrders}
-use Rattle.lin_history.specs.WholeOf.{whole_of}
-use Rattle.lin_history.proofs.joining.add_orders.Given as goal
-
-abbrev pub invariant-loop-object : goal.invariant-loop-object
-invariant-loop-object l = AreOrders (whole_of l.history) (take l.object l.orders) l.pointed.items

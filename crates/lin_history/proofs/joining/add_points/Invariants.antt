@@ -1,7 +1,0 @@
-use Rattle.std.proofs.Common.{◌≡◌, ◌++◌, drop}
-use Rattle.lin_history.specs.Points.{with_points}
-use Rattle.lin_history.specs.WholeOf.{whole_of}
-use Rattle.lin_history.proofs.joining.add_points.Given as goal
-
-abbrev pub invariant-loop-one : goal.invariant-loop-one
-invariant-loop-one l = l.pointed.items ++ with_points (whole_of l.history) l.point (drop l.one-index l.placed) ≡ l.fn.pointed.items ++ with_points (whole_of l.history) 0 l.placed

@@ -1,8 +1,0 @@
-use Rattle.std.proofs.Common.{drop}
-use Rattle.lin_object.specs.contracts.state.ObjStatePartialEq.TheImpl.{eq-value as state_eq}
-use Rattle.lin_history.specs.WholeOf.{whole_of, start_at}
-use Rattle.lin_history.proofs.PlacingLemmas.{IsPlacing}
-use Rattle.lin_history.proofs.placing.place_at.Given as goal
-
-abbrev pub invariant-loop-number : goal.invariant-loop-number
-invariant-loop-number l = IsPlacing state_eq.it (whole_of l.history) l.object (start_at l.history l.object) l.calls l.placed.items l.state (drop l.number-index l.calls)

@@ -1,7 +1,0 @@
-use Rattle.std.proofs.Common.{drop}
-use Rattle.lin_history.specs.WholeOf.{whole_of}
-use Rattle.lin_history.proofs.VerifyingLemmas.{IsMarking}
-use Rattle.lin_history.proofs.verifying.flags_of.Given as goal
-
-abbrev pub invariant-loop-one : goal.invariant-loop-one
-invariant-loop-one l = IsMarking (whole_of l.history) l.flags.items l.placed (drop l.one-index l.placed)

@@ -1,0 +1,357 @@
+//! The builder: it accepts exactly the events with which a history stays well-formed.
+
+ghost use Rattle.std.specs.Prelude.{◌≡◌, ◌≢◌, ℕ, ◌<◌, ◌+◌, ◌^◌, ◌++◌, ◌∷◌, [], ◌||◌, nat_le, Some, None, nat_eq, length, map, option_map, option_and_then, find, position, bytes_eq, slice_get, slice_set, is_some, true, false, OnOk, OnErr, IfOk, IfErr, IfSome, IfNone, IsTrue, IsFalse, IsSomeAnd};
+ghost use Rattle.indexmap.specs.IndexMap.{get};
+ghost use Rattle.lin_history.specs.Refusals.{first_that_holds};
+ghost use Rattle.lin_history.specs.Recorder.Events.{calls, returns_};
+ghost use Rattle.lin_history.specs.Recorder.Names.{is_name};
+ghost use Rattle.lin_history.specs.Recorder.RecordedHistory.{is_pending_of, index_named, kind_named};
+ghost use Rattle.lin_history.specs.Recorder.Views.{object_view, call_view, count_on};
+ghost use Rattle.lin_history.specs.Recorder.BuilderState.{recorded, name_refusals, KnowsPending, AreCounts};
+
+use crate::limits::{MAX_CALLS, MAX_CALLS_ON_OBJECT, MAX_OBJECTS};
+use crate::recorder::fault::BuildFault;
+use crate::recorder::history::{CallInfo, Declaration, History};
+use crate::recorder::name::is_name;
+use indexmap::IndexMap;
+use lin_object::{Kind, Op, Reply};
+use std::alloc::{AllocError, Global};
+use std::marker::Model;
+
+/// Builds a history from its events, one after another. It accepts exactly the events with which the
+/// history stays well-formed, as long as there is room: a process has at most one pending call, and
+/// a return is of the pending call of its process, on the same object.
+#[derive(Drop)]
+pub struct Builder {
+    objects: IndexMap<String, Declaration>,
+    calls: Vec<CallInfo>,
+    // how many calls and returns were accepted
+    events: u32,
+    // how many calls each object has
+    counts: Vec<usize>,
+    // the index of the last call of each process: where a call of it is pending, it is this one
+    last: IndexMap<u32, usize>,
+}
+
+// Contracts see the history so far; the rest says which call of a process is pending, and how many calls
+// each object has.
+impl Model for Builder {
+    ghost use Rattle.std.specs.Prelude.{map, nat_eq};
+    ghost use Rattle.indexmap.specs.IndexMap.{get};
+    ghost use Rattle.lin_history.specs.Recorder.RecordedHistory.{RecordedHistory};
+    ghost use Rattle.lin_history.specs.Recorder.Views.{object_view};
+    ghost use Rattle.lin_history.specs.Recorder.BuilderState.{IsBuilderState, recorded};
+
+    ghost Value = { RecordedHistory };
+
+    ghost view = { λ b. recorded (map object_view b.objects.entries) b.calls.items b.events };
+
+    ghost invariant = { λ b. IsBuilderState (map object_view b.objects.entries) b.calls.items
+        b.events (get nat_eq b.last) b.counts.items };
+}
+
+// The index of the object of this name.
+fn index_in(objects: &IndexMap<String, Declaration>, name: &str) -> Option<usize>
+    ensures { result ≡ index_named (recorded (map object_view objects.now.entries) [] 0) name.now }
+{
+    objects.get_index_of(name)
+}
+
+// The index of the object of this name, or why an event may not name it.
+fn find_object(objects: &IndexMap<String, Declaration>, name: &str) -> Result<usize, BuildFault>
+    ensures named { IfOk result (λ object. index_named
+        (recorded (map object_view objects.now.entries) [] 0) name.now ≡ Some object) }
+    ensures valid { OnOk result (is_name name.now ≡ true) }
+    ensures err { IfErr result (λ fault. first_that_holds
+        (name_refusals (recorded (map object_view objects.now.entries) [] 0) name.now)
+        ≡ Some fault) }
+{
+    if is_name(name) {
+        index_in(objects, name).ok_or(BuildFault::UnknownObject)
+    } else {
+        Err(BuildFault::BadName)
+    }
+}
+
+// The kind of the object of this name.
+fn kind_in(objects: &IndexMap<String, Declaration>, name: &str) -> Option<Kind>
+    ensures { result ≡ kind_named (recorded (map object_view objects.now.entries) [] 0) name.now }
+{
+    match index_in(objects, name) {
+        Some(object) => match objects.get_index(object) {
+            Some((_, declaration)) => Some(declaration.kind()),
+            None => None,
+        },
+        None => None,
+    }
+}
+
+// Whether the call of this index is there, is the process's, and is pending.
+fn is_pending_at(calls: &[CallInfo], call: usize, process: u32) -> bool
+    ensures pending { IsTrue result → IsSomeAnd (slice_get calls.now call)
+        (λ c. is_pending_of process (call_view c) ≡ true) }
+    ensures not_pending { IsFalse result → IfSome (slice_get calls.now call)
+        (λ c. is_pending_of process (call_view c) ≡ false) }
+{
+    match calls.get(call) {
+        Some(call) => call.process == process && call.returned.is_none(),
+        None => false,
+    }
+}
+
+// The index of the pending call of the process.
+fn pending_in(calls: &[CallInfo], last: &IndexMap<u32, usize>, process: u32) -> Option<usize>
+    requires { KnowsPending (get nat_eq last.now) calls.now }
+    ensures none { IfNone result (find (is_pending_of process) (map call_view calls.now) ≡ None) }
+    ensures some { IfSome result (λ call. IsSomeAnd (slice_get calls.now call)
+        (λ c. is_pending_of process (call_view c) ≡ true)) }
+    ensures within { IfSome result (λ call. call < length calls.now) }
+    ensures busy { is_some result ≡ is_some (find (is_pending_of process)
+        (map call_view calls.now)) }
+    ensures found { IfSome result (λ call. find (is_pending_of process) (map call_view calls.now)
+        ≡ option_map call_view (slice_get calls.now call)) }
+{
+    match last.get(&process) {
+        Some(call) if is_pending_at(calls, *call, process) => Some(*call),
+        _ => None,
+    }
+}
+
+// Whether there is no room for one call more on the object.
+fn is_full(calls: &[CallInfo], counts: &[usize], object: usize) -> bool
+    requires within { object < length counts.now }
+    requires counted { AreCounts counts.now calls.now }
+    ensures full { result ≡ (nat_le MAX_CALLS (length (map call_view calls.now)) || nat_le
+        MAX_CALLS_ON_OBJECT (count_on object (map call_view calls.now))) }
+    ensures room { IsFalse result → length calls.now < MAX_CALLS }
+    ensures room_on { IsFalse result → IfSome (slice_get counts.now object)
+        (λ count. count < MAX_CALLS_ON_OBJECT) }
+{
+    calls.len() >= MAX_CALLS || counts[object] >= MAX_CALLS_ON_OBJECT
+}
+
+// Puts one object more in. After an error nothing has changed.
+fn put(
+    alloc: Global,
+    objects: &mut IndexMap<String, Declaration>,
+    counts: &mut Vec<usize>,
+    name: &str,
+    declaration: Declaration,
+) -> Result<(), AllocError>
+    requires { index_named (recorded (map object_view objects.old.entries) [] 0) name.now ≡ None }
+    ensures objects { OnOk result (map object_view objects.new.entries
+        ≡ map object_view objects.old.entries
+        ++ (record { name = name.now; kind = declaration.kind; start = declaration.start }) ∷ []) }
+    ensures counts { OnOk result (counts.new.items ≡ counts.old.items ++ 0 ∷ []) }
+    ensures same_objects { OnErr result (objects.new.entries ≡ objects.old.entries) }
+    ensures same_counts { OnErr result (counts.new.items ≡ counts.old.items) }
+{
+    let key = String::from_str(alloc, name)?;
+    counts.push(0)?;
+    if objects.insert(key, declaration).is_err() {
+        counts.pop();
+        return Err(AllocError);
+    }
+    Ok(())
+}
+
+// Adds one call. After an error nothing has changed but what is kept as the last call of the process, which
+// is then no call that is there.
+fn add(
+    calls: &mut Vec<CallInfo>,
+    last: &mut IndexMap<u32, usize>,
+    counts: &mut Vec<usize>,
+    events: &mut u32,
+    call: CallInfo,
+) -> Result<(), AllocError>
+    requires within { call.object < length counts.old.items }
+    requires room { call.number < MAX_CALLS_ON_OBJECT }
+    ensures calls { OnOk result (calls.new.items ≡ calls.old.items ++ call ∷ []) }
+    ensures counts { OnOk result (counts.new.items
+        ≡ slice_set counts.old.items call.object (call.number + 1)) }
+    ensures events { OnOk result (events.new ≡ call.called) }
+    ensures own { OnOk result (get nat_eq last.new call.process ≡ Some (length calls.old.items)) }
+    ensures others { (process : ℕ) → process ≢ call.process
+        → get nat_eq last.new process ≡ get nat_eq last.old process }
+    ensures same { OnErr result (calls.new.items ≡ calls.old.items) }
+    ensures same_counts { OnErr result (counts.new.items ≡ counts.old.items) }
+    ensures same_events { OnErr result (events.new ≡ events.old) }
+{
+    // Before the push: where that fails, the process has no pending call and this names none.
+    last.insert(call.process, calls.len())?;
+    calls.push(call)?;
+    counts[call.object] = call.number + 1;
+    *events = call.called;
+    Ok(())
+}
+
+// Completes the pending call of this index: the next event is its return.
+fn complete(calls: &mut Vec<CallInfo>, events: &mut u32, call: usize, reply: Reply)
+    requires within { call < length calls.old.items }
+    requires few { events.old + 1 < 2 ^ 32 }
+    ensures calls { IfSome (slice_get calls.old.items call)
+        (λ c. calls.new.items ≡ slice_set calls.old.items call
+        (record c { returned = Some (events.old + 1, reply) })) }
+    ensures events { events.new ≡ events.old + 1 }
+{
+    let number = *events + 1;
+    calls[call].returned = Some((number, reply));
+    *events = number;
+}
+
+impl Builder {
+    ghost use Rattle.lin_history.specs.Recorder.RecordedHistory.{IsHistory, no_event, declaration_refusals, call_refusals, return_refusals, with_object, with_call, with_return};
+    ghost use Rattle.lin_history.specs.Recorder.NextEvents.{Adds, AddsNone, CannotFollow};
+
+    /// The builder of the history of no event. It takes no memory.
+    pub fn new(alloc: Global) -> Self
+        ensures { result ≡ no_event }
+    {
+        Builder {
+            objects: IndexMap::new(alloc),
+            calls: Vec::new(alloc),
+            events: 0,
+            counts: Vec::new(alloc),
+            last: IndexMap::new(alloc),
+        }
+    }
+
+    /// Declares an object. `start` is the value of a register and the sum of a counter at the start.
+    /// Refusals, in order: `BadName` where the name is not 1 to 64 bytes out of `A-Z a-z 0-9 _ . / : -`,
+    /// `Declared` where an object of that name is declared, `TooManyObjects` where there is no room for
+    /// one more, `OutOfMemory`. After a refusal nothing has changed.
+    pub fn declare(
+        &mut self,
+        alloc: Global,
+        name: &str,
+        kind: Kind,
+        start: i64,
+    ) -> Result<(), BuildFault>
+        ensures sound { OnOk result (first_that_holds (declaration_refusals self.old name.now)
+            ≡ None) }
+        ensures ok { OnOk result (self.new ≡ with_object self.old name.now kind start) }
+        ensures history { OnOk result (AddsNone self.old self.new) }
+        ensures err { IfErr result (λ fault. fault ≢ BuildFault.OutOfMemory
+            → first_that_holds (declaration_refusals self.old name.now) ≡ Some fault) }
+        ensures memory { IfErr result (λ fault. fault ≡ BuildFault.OutOfMemory
+            → first_that_holds (declaration_refusals self.old name.now) ≡ None) }
+        ensures same { OnErr result (self.new ≡ self.old) }
+    {
+        if !is_name(name) {
+            return Err(BuildFault::BadName);
+        }
+        if index_in(&self.objects, name).is_some() {
+            return Err(BuildFault::Declared);
+        }
+        if self.objects.len() >= MAX_OBJECTS {
+            return Err(BuildFault::TooManyObjects);
+        }
+        let declaration = Declaration::new(kind, start);
+        if put(
+            alloc,
+            &mut self.objects,
+            &mut self.counts,
+            name,
+            declaration,
+        )
+        .is_err()
+        {
+            return Err(BuildFault::OutOfMemory);
+        }
+        Ok(())
+    }
+
+    /// Records the call of an operation of the named object by a process. Refusals, in order: `BadName`
+    /// as above, `UnknownObject` where no object of that name is declared, `Busy` where the process has
+    /// a pending call, `TooManyCalls` where 65,536 calls are there or 4,096 on this object,
+    /// `OutOfMemory`. After a refusal nothing has changed.
+    pub fn call(&mut self, process: u32, name: &str, op: Op) -> Result<(), BuildFault>
+        ensures sound { OnOk result (first_that_holds (call_refusals self.old process name.now)
+            ≡ None) }
+        ensures ok { OnOk result (IsSomeAnd (index_named self.old name.now)
+            (λ object. self.new ≡ with_call self.old process object op)) }
+        ensures history { OnOk result (IsSomeAnd (index_named self.old name.now)
+            (λ object. Adds self.old (calls process object op) self.new)) }
+        ensures err { IfErr result (λ fault. fault ≢ BuildFault.OutOfMemory
+            → first_that_holds (call_refusals self.old process name.now) ≡ Some fault) }
+        ensures memory { IfErr result (λ fault. fault ≡ BuildFault.OutOfMemory
+            → first_that_holds (call_refusals self.old process name.now) ≡ None) }
+        ensures busy { IfErr result (λ fault. fault ≡ BuildFault.Busy process → (object : ℕ)
+            → CannotFollow self.old (calls process object op)) }
+        ensures same { OnErr result (self.new ≡ self.old) }
+    {
+        let object = find_object(&self.objects, name)?;
+        if pending_in(self.calls.as_slice(), &self.last, process).is_some() {
+            return Err(BuildFault::Busy(process));
+        }
+        if is_full(self.calls.as_slice(), self.counts.as_slice(), object) {
+            return Err(BuildFault::TooManyCalls);
+        }
+        let number = self.counts[object];
+        let call = CallInfo {
+            process,
+            object,
+            number,
+            op,
+            called: self.events + 1,
+            returned: None,
+        };
+        if add(
+            &mut self.calls,
+            &mut self.last,
+            &mut self.counts,
+            &mut self.events,
+            call,
+        )
+        .is_err()
+        {
+            return Err(BuildFault::OutOfMemory);
+        }
+        Ok(())
+    }
+
+    /// Records the return of the pending call of a process from the named object, with its reply.
+    /// Refusals, in order: `BadName` and `UnknownObject` as above, `NoCall` where the process has no
+    /// pending call, `OtherObject` where its pending call is on another object. After a refusal nothing
+    /// has changed. It takes no memory.
+    pub fn ret(&mut self, process: u32, name: &str, reply: Reply) -> Result<(), BuildFault>
+        ensures sound { OnOk result (first_that_holds (return_refusals self.old process name.now)
+            ≡ None) }
+        ensures ok { OnOk result (self.new ≡ with_return self.old process reply) }
+        ensures history { OnOk result (IsSomeAnd (index_named self.old name.now)
+            (λ object. Adds self.old (returns_ process object reply) self.new)) }
+        ensures err { IfErr result (λ fault. first_that_holds
+            (return_refusals self.old process name.now) ≡ Some fault) }
+        ensures no_call { IfErr result (λ fault. fault ≡ BuildFault.NoCall process → (object : ℕ)
+            → CannotFollow self.old (returns_ process object reply)) }
+        ensures other_object { IfErr result (λ fault. fault ≡ BuildFault.OtherObject process
+            → IsSomeAnd (index_named self.old name.now)
+            (λ object. CannotFollow self.old (returns_ process object reply))) }
+        ensures same { OnErr result (self.new ≡ self.old) }
+    {
+        let object = find_object(&self.objects, name)?;
+        let Some(pending) = pending_in(self.calls.as_slice(), &self.last, process) else {
+            return Err(BuildFault::NoCall(process));
+        };
+        if self.calls[pending].object != object {
+            return Err(BuildFault::OtherObject(process));
+        }
+        complete(&mut self.calls, &mut self.events, pending, reply);
+        Ok(())
+    }
+
+    /// The kind of the declared object of this name; `None` where no object of that name is declared.
+    pub fn kind_of(&self, name: &str) -> Option<Kind>
+        ensures { result ≡ kind_named self.now name.now }
+    {
+        kind_in(&self.objects, name)
+    }
+
+    /// The history of the events that were accepted. It takes no memory.
+    pub fn finish(self) -> History
+        ensures value { result ≡ self }
+        ensures history { IsHistory result }
+    {
+        History::new(self.objects, self.calls, self.events)
+    }
+}

@@ -1,5 +1,0 @@
-pub mod Totals
-pub mod TotalLemmas
-pub mod Division
-pub mod DivisionLemmas
-pub mod PlaceLemmas

@@ -1,0 +1,6 @@
+mod CounterLemmas
+mod MutexLemmas
+mod QueueLemmas
+mod RegisterLemmas
+mod SetLemmas
+mod StackLemmas

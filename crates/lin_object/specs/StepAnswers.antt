@@ -1,0 +1,19 @@
+-- What the answer of a step tells.
+use Rattle.std.specs.Prelude.{◌≡◌, Bool, true, Option, Some, None, if◌then◌else◌}
+
+-- Two answers of a step are alike: both have none, or both have a state and a reply, equal by the types' own `Eq`.
+abbrev pub SameStep : {S R : Type 0} → (S → S → Bool) → (R → R → Bool) → Option (S × R) → Option (S × R) → Type 0
+SameStep same_state same_reply None None = Unit {0}
+SameStep same_state same_reply (Some a) (Some b) = (same_state a.0 b.0 ≡ true) × (same_reply a.1 b.1 ≡ true)
+SameStep same_state same_reply None (Some b) = ⊥
+SameStep same_state same_reply (Some a) None = ⊥
+
+-- The reply of a step's answer, where there is one.
+abbrev pub step_reply : {S R : Type 0} → Option (S × R) → Option R
+step_reply None = None
+step_reply (Some answer) = Some answer.1
+
+-- The state of a step's answer, where its reply equals this one.
+abbrev pub state_with : {S R : Type 0} → (R → R → Bool) → R → Option (S × R) → Option S
+state_with same reply None = None
+state_with same reply (Some answer) = if same answer.1 reply then Some answer.0 else None
