@@ -1,4 +1,4 @@
-use Rattle.std.proofs.Common.{◌≡◌, ℕ, List, sym, ap, subst, Contains}
+use Rattle.std.proofs.Common.{ℕ, List, sym, ap, subst, Contains}
 use Rattle.std.specs.Option.{option_to_list}
 use Rattle.std.proofs.lemmas.List.Elements.{Contains-append_left}
 use Rattle.lin_board.specs.Facts.{SeatFacts}
