@@ -12,13 +12,14 @@ use Rattle.lin_history.specs.Problems.Precedence.{Before, IsCompleted}
 use Rattle.lin_history.specs.Problems.Timeline.{IsTimeline}
 use Rattle.lin_history.specs.Problems.Continuations.{has, no_calls}
 use Rattle.lin_search.specs.CallSet.{with_call, with_calls, lifted_set}
-use Rattle.lin_search.specs.CallSetLemmas.{same_or_not, true_or_false, has_same, has_other}
-use Rattle.lin_search.specs.Next.{HasEveryCompleted}
+use Rattle.lin_search.specs.CallSetLemmas.{length_calls, no_calls_has, same_or_not, true_or_false, has_same, has_other}
+use Rattle.lin_search.specs.NextCall.{HasEveryCompleted}
 use Rattle.lin_search.specs.Links.{Linked, without, with_entry, HasLinks, IsRow}
-use Rattle.lin_search.specs.Places.{Places, ArePlaces, without_return, without_call, with_return, with_call_entries, without_calls}
+use Rattle.lin_search.specs.CallEntries.{CallEntries, AreCallEntries, without_return, without_call, with_return, with_call_entries, without_calls}
 use Rattle.lin_search.specs.Entries.{IsMinimal, IsLeastMinimal}
-use Rattle.lin_search.specs.Entered.{one_completed, count_completed, one_left, count_left, called_at, CanTakeOut, CanPutBack, AreLifted, AreEntries}
+use Rattle.lin_search.specs.EntryLinks.{one_completed, count_completed, one_left, count_left, call_of_event, CanTakeOut, CanPutBack, AreLifted, AreEntries}
 use Rattle.lin_search.proofs.LinksLemmas.{IsLinked, linked_same, linked_row, linked_without, has_links, has_links_back, with_without}
+use Rattle.lin_search.proofs.CallEntriesLemmas.{call_of, call_or_return}
 
 -- ---- sets of calls, with one call more
 
@@ -26,18 +27,9 @@ with_calls_last : (set : List Bool) (l : List ℕ) (c : ℕ) → with_calls set 
 with_calls_last set [] c = refl
 with_calls_last set (d ∷ l) c = with_calls_last (with_call set d) l c
 
-without_calls_last : (places : Places) (links : Linked) (l : List ℕ) (c : ℕ) → without_calls places links (l ++ c ∷ []) ≡ without_call places (without_calls places links l) c
+without_calls_last : (places : CallEntries) (links : Linked) (l : List ℕ) (c : ℕ) → without_calls places links (l ++ c ∷ []) ≡ without_call places (without_calls places links l) c
 without_calls_last places links [] c = refl
 without_calls_last places links (d ∷ l) c = without_calls_last places (without_call places links d) l c
-
-length_calls : (set : List Bool) (l : List ℕ) → length (with_calls set l) ≡ length set
-length_calls set [] = refl
-length_calls set (c ∷ l) = length_calls (with_call set c) l ∙ length-set set c true
-
-has_none : (n c : ℕ) → has (replicate n false) c ≡ false
-has_none zero c = refl
-has_none (suc n) zero = refl
-has_none (suc n) (suc c) = has_none n c
 
 true_false : (b : Bool) → b ≡ true → b ≡ false → ⊥
 true_false b e f = cc
@@ -162,10 +154,6 @@ module _ {State Op Reply : Type 0} (p : Problem State Op Reply) (set : List Bool
 -- ---- the entries that are linked
 
 -- the call of an event
-abbrev call_of : ProblemEvent → ℕ
-call_of (Call c) = c
-call_of (Return c) = c
-
 event_of : (v : ProblemEvent) (c : ℕ) → call_of v ≡ c → (v ≡ Call c) ⊎ (v ≡ Return c)
 event_of (Call d) c e = inl (ap Call e)
 event_of (Return d) c e = inr (ap Return e)
@@ -189,7 +177,7 @@ here_start events n e h = elim (same_or_not e 0) [
   | inl q ↦ inl q
   | inr ne ↦ elim (same_or_not e (length events + 1)) [
     | inl q ↦ inr (inl q)
-    | inr more ↦ (let v = there events (e - 1) (omega (arith, h, ne, more)) in inr (inr (e - 1, v.0, omega (arith, ne), v.1, has_none n (call_of v.0))))
+    | inr more ↦ (let v = there events (e - 1) (omega (arith, h, ne, more)) in inr (inr (e - 1, v.0, omega (arith, ne), v.1, no_calls_has n (call_of v.0))))
   ]
 ]
 
@@ -220,14 +208,14 @@ module _ (events : List ProblemEvent) (set : List Bool) (c : ℕ) (within : c < 
       true_false (has (with_call set c) (call_of h.1)) (ap (λ (d : ℕ). has (with_call set c) d) (ap call_of same ∙ k.4) ∙ has_same set c within) h.4
 
 -- the links without a call, and with it again
-pub record IsLiftedOnce (events : List ProblemEvent) (places : Places) (set : List Bool) (l m : Linked) (c a : ℕ) (o : Option (Option ℕ)) : Type 0 where
+pub record IsLiftedOnce (events : List ProblemEvent) (places : CallEntries) (set : List Bool) (l m : Linked) (c a : ℕ) (o : Option (Option ℕ)) : Type 0 where
   pub linked : IsLinked (length events) (Here events (with_call set c)) m
   pub can_take : (e : ℕ) → o ≡ Some (Some e) → HasLinks (without l a) e
   pub can_put : (e : ℕ) → o ≡ Some (Some e) → HasLinks m e
   pub can_put_call : HasLinks (with_return m o) a
   pub back : with_entry (with_return m o) a ≡ l
 
-module _ {State Op Reply : Type 0} (p : Problem State Op Reply) (events : List ProblemEvent) (places : Places) (timeline : IsTimeline p events) (are_places : ArePlaces (length p.calls) events places) (set : List Bool) (n : length set ≡ length p.calls) (l : Linked) (linked : IsLinked (length events) (Here events set) l) (c : ℕ) (within : c < length p.calls) (outside : has set c ≡ false) (i : ℕ) (at : slice_get events i ≡ Some (Call c)) (a : ℕ) (a_is : a ≡ i + 1) where
+module _ {State Op Reply : Type 0} (p : Problem State Op Reply) (events : List ProblemEvent) (places : CallEntries) (timeline : IsTimeline p events) (are_call_entries : AreCallEntries (length p.calls) events places) (set : List Bool) (n : length set ≡ length p.calls) (l : Linked) (linked : IsLinked (length events) (Here events set) l) (c : ℕ) (within : c < length p.calls) (outside : has set c ≡ false) (i : ℕ) (at : slice_get events i ≡ Some (Call c)) (a : ℕ) (a_is : a ≡ i + 1) where
   low : 0 < a
   low = omega (arith, a_is)
 
@@ -336,30 +324,30 @@ module _ {State Op Reply : Type 0} (p : Problem State Op Reply) (events : List P
   not_there e b f = sym e ∙ f
 
   no_return : (o : Option (Option ℕ)) → slice_get places.returned c ≡ o → ((b : ℕ) → o ≡ Some (Some b) → ⊥) → (j : ℕ) → slice_get events j ≡ Some (Return c) → ⊥
-  no_return o e not j r = not (j + 1) (sym e ∙ are_places.returned j c r)
+  no_return o e not j r = not (j + 1) (sym e ∙ are_call_entries.returned j c r)
 
   by_return : (o : Option (Option ℕ)) → slice_get places.returned c ≡ o → IsLiftedOnce events places set l (without_return (without l a) o) c a o
   by_return None e = let not : (b : ℕ) → None ≡ Some (Some b) → ⊥ = λ b q. cc in once_pending (no_return None e not) None not refl refl
   by_return (Some None) e = let not : (b : ℕ) → Some None ≡ Some (Some b) → ⊥ = λ b q. cc in once_pending (no_return (Some None) e not) (Some None) not refl refl
-  by_return (Some (Some b)) e = let k = are_places.only c b e in once_completed k.0 k.2 b k.1
+  by_return (Some (Some b)) e = let k = are_call_entries.only c b e in once_completed k.0 k.2 b k.1
 
 -- the links without one call more
-module _ {State Op Reply : Type 0} (p : Problem State Op Reply) (events : List ProblemEvent) (places : Places) (timeline : IsTimeline p events) (are_places : ArePlaces (length p.calls) events places) where
+module _ {State Op Reply : Type 0} (p : Problem State Op Reply) (events : List ProblemEvent) (places : CallEntries) (timeline : IsTimeline p events) (are_call_entries : AreCallEntries (length p.calls) events places) where
   call_place : (c : ℕ) → c < length p.calls → (i : ℕ) × (slice_get events i ≡ Some (Call c)) × (get_or places.called c 0 ≡ i + 1)
-  call_place c h = let i = timeline.called c h in (i.0, i.1, get_or_from_slice_get places.called c (i.0 + 1) 0 (are_places.called i.0 c i.1))
+  call_place c h = let i = timeline.called c h in (i.0, i.1, get_or_from_slice_get places.called c (i.0 + 1) 0 (are_call_entries.called i.0 c i.1))
 
   lifted_once : (set : List Bool) → length set ≡ length p.calls → (l : Linked) → IsLinked (length events) (Here events set) l → (c : ℕ) → c < length p.calls → has set c ≡ false → IsLiftedOnce events places set l (without_call places l c) c (get_or places.called c 0) (slice_get places.returned c)
   lifted_once set n l linked c within outside =
       let i = call_place c within in
-      by_return p events places timeline are_places set n l linked c within outside i.0 i.1 (get_or places.called c 0) i.2 (slice_get places.returned c) refl
+      by_return p events places timeline are_call_entries set n l linked c within outside i.0 i.1 (get_or places.called c 0) i.2 (slice_get places.returned c) refl
 
   call_links : (set : List Bool) → length set ≡ length p.calls → (l : Linked) → IsLinked (length events) (Here events set) l → (c : ℕ) → c < length p.calls → has set c ≡ false → HasLinks l (get_or places.called c 0)
   call_links set n l linked c within outside =
       let i = call_place c within in
       has_links (length events) (Here events set) l (get_or places.called c 0) linked
-      (here_call p events places timeline are_places set n l linked c within outside i.0 i.1 (get_or places.called c 0) i.2)
-      (low p events places timeline are_places set n l linked c within outside i.0 i.1 (get_or places.called c 0) i.2)
-      (high p events places timeline are_places set n l linked c within outside i.0 i.1 (get_or places.called c 0) i.2)
+      (here_call p events places timeline are_call_entries set n l linked c within outside i.0 i.1 (get_or places.called c 0) i.2)
+      (low p events places timeline are_call_entries set n l linked c within outside i.0 i.1 (get_or places.called c 0) i.2)
+      (high p events places timeline are_call_entries set n l linked c within outside i.0 i.1 (get_or places.called c 0) i.2)
 
   linked_calls : (set : List Bool) → length set ≡ length p.calls → (l : Linked) → IsLinked (length events) (Here events set) l → (lifted : List ℕ) → AreLifted p set lifted → IsLinked (length events) (Here events (with_calls set lifted)) (without_calls places l lifted)
   linked_calls set n l linked [] k = linked
@@ -375,26 +363,26 @@ module _ {State Op Reply : Type 0} (p : Problem State Op Reply) (events : List P
 
 -- ---- the entries, call after call
 
-module _ {State Op Reply : Type 0} (p : Problem State Op Reply) (events : List ProblemEvent) (places : Places) (links : Linked) (lifted : List ℕ) (room left : ℕ) (entries : AreEntries p events places links lifted room left) where
+module _ {State Op Reply : Type 0} (p : Problem State Op Reply) (events : List ProblemEvent) (places : CallEntries) (links : Linked) (lifted : List ℕ) (room left : ℕ) (entries : AreEntries p events places links lifted room left) where
   pub now_linked : IsLinked (length events) (Here events (lifted_set p lifted)) links
   now_linked =
       let k = entries.are_linked in
       let P : Linked → Type 0 = λ l. IsLinked (length events) (Here events (lifted_set p lifted)) l in
-      subst P (sym k.2) (linked_lifted p events places entries.timeline entries.are_places k.0 k.1 lifted entries.are_lifted)
+      subst P (sym k.2) (linked_lifted p events places entries.timeline entries.are_call_entries k.0 k.1 lifted entries.are_lifted)
 
   pub called_within : (c : ℕ) → c < length p.calls → c < length places.called
-  called_within c h = let n = entries.are_places.called_count in omega (arith, n, h)
+  called_within c h = let n = entries.are_call_entries.called_count in omega (arith, n, h)
 
   pub returned_within : (c : ℕ) → c < length p.calls → c < length places.returned
-  returned_within c h = let n = entries.are_places.returned_count in omega (arith, n, h)
+  returned_within c h = let n = entries.are_call_entries.returned_count in omega (arith, n, h)
 
   module _ (c : ℕ) (within : c < length p.calls) (outside : has (lifted_set p lifted) c ≡ false) where
     once_more : IsLiftedOnce events places (lifted_set p lifted) links (without_call places links c) c (get_or places.called c 0) (slice_get places.returned c)
-    once_more = lifted_once p events places entries.timeline entries.are_places (lifted_set p lifted) (set_length p lifted) links now_linked c within outside
+    once_more = lifted_once p events places entries.timeline entries.are_call_entries (lifted_set p lifted) (set_length p lifted) links now_linked c within outside
 
     pub can_take : CanTakeOut places links c
     can_take = record {
-      called = call_links p events places entries.timeline entries.are_places (lifted_set p lifted) (set_length p lifted) links now_linked c within outside;
+      called = call_links p events places entries.timeline entries.are_call_entries (lifted_set p lifted) (set_length p lifted) links now_linked c within outside;
       returned = once_more.can_take;
     }
 
@@ -410,7 +398,7 @@ module _ {State Op Reply : Type 0} (p : Problem State Op Reply) (events : List P
     pub entries_lifted : (x : ProblemCall Op Reply) → slice_get p.calls c ≡ Some x → (links_now : Linked) (lifted_now : List ℕ) (room_now left_now : ℕ) → links_now ≡ without_call places links c → lifted_now ≡ lifted ++ c ∷ [] → room_now ≡ room → left_now + one_completed (is_some x.returned) ≡ left → AreEntries p events places links_now lifted_now room_now left_now
     entries_lifted x there links_now lifted_now room_now left_after e f g h = record {
       timeline = entries.timeline;
-      are_places = entries.are_places;
+      are_call_entries = entries.are_call_entries;
       are_lifted = (let P : List ℕ → Type 0 = λ l. AreLifted p (no_calls p) l in subst P (sym f) (lifted_last p (no_calls p) lifted c entries.are_lifted within outside));
       are_linked = (
           let k = entries.are_linked in
@@ -425,7 +413,7 @@ module _ {State Op Reply : Type 0} (p : Problem State Op Reply) (events : List P
     }
 
 -- the entries after a call is unlifted
-module _ {State Op Reply : Type 0} (p : Problem State Op Reply) (events : List ProblemEvent) (places : Places) (links : Linked) (lifted before : List ℕ) (c room left : ℕ) (last : lifted ≡ before ++ c ∷ []) (entries : AreEntries p events places links lifted room left) where
+module _ {State Op Reply : Type 0} (p : Problem State Op Reply) (events : List ProblemEvent) (places : CallEntries) (links : Linked) (lifted before : List ℕ) (c room left : ℕ) (last : lifted ≡ before ++ c ∷ []) (entries : AreEntries p events places links lifted room left) where
   was_lifted : AreLifted p (no_calls p) before × (c < length p.calls) × (has (lifted_set p before) c ≡ false)
   was_lifted = let P : List ℕ → Type 0 = λ l. AreLifted p (no_calls p) l in lifted_before p (no_calls p) before c (subst P last entries.are_lifted)
 
@@ -437,7 +425,7 @@ module _ {State Op Reply : Type 0} (p : Problem State Op Reply) (events : List P
   links_before = without_calls places entries.are_linked.0 before
 
   linked_before : IsLinked (length events) (Here events (lifted_set p before)) links_before
-  linked_before = linked_lifted p events places entries.timeline entries.are_places entries.are_linked.0 entries.are_linked.1 before was_lifted.0
+  linked_before = linked_lifted p events places entries.timeline entries.are_call_entries entries.are_linked.0 entries.are_linked.1 before was_lifted.0
 
   links_are : links ≡ without_call places links_before c
   links_are = entries.are_linked.2 ∙ ap (λ (l : List ℕ). without_calls places entries.are_linked.0 l) last ∙ without_calls_last places entries.are_linked.0 before c
@@ -445,7 +433,7 @@ module _ {State Op Reply : Type 0} (p : Problem State Op Reply) (events : List P
   once_less : IsLiftedOnce events places (lifted_set p before) links_before links c (get_or places.called c 0) (slice_get places.returned c)
   once_less =
       let P : Linked → Type 0 = λ l. IsLiftedOnce events places (lifted_set p before) links_before l c (get_or places.called c 0) (slice_get places.returned c) in
-      subst P (sym links_are) (lifted_once p events places entries.timeline entries.are_places (lifted_set p before) (set_length p before) links_before linked_before c was_lifted.1 was_lifted.2)
+      subst P (sym links_are) (lifted_once p events places entries.timeline entries.are_call_entries (lifted_set p before) (set_length p before) links_before linked_before c was_lifted.1 was_lifted.2)
 
   pub can_put : CanPutBack places links c
   can_put = record { returned = once_less.can_put; called = once_less.can_put_call }
@@ -463,7 +451,7 @@ module _ {State Op Reply : Type 0} (p : Problem State Op Reply) (events : List P
   pub entries_unlifted : (x : ProblemCall Op Reply) → slice_get p.calls c ≡ Some x → (links_now : Linked) (lifted_now : List ℕ) (room_now left_now : ℕ) → links_now ≡ with_call_entries places links c → lifted_now ≡ before → room_now ≡ room → left_now ≡ left + one_completed (is_some x.returned) → AreEntries p events places links_now lifted_now room_now left_now
   entries_unlifted x there links_now lifted_now room_now left_now e f g h = record {
     timeline = entries.timeline;
-    are_places = entries.are_places;
+    are_call_entries = entries.are_call_entries;
     are_lifted = (let P : List ℕ → Type 0 = λ l. AreLifted p (no_calls p) l in subst P (sym f) was_lifted.0);
     are_linked = (entries.are_linked.0, entries.are_linked.1, e ∙ once_less.back ∙ ap (λ (l : List ℕ). without_calls places entries.are_linked.0 l) (sym f));
     has_room = (let r = entries.has_room in omega (arith, r, g));
@@ -484,10 +472,7 @@ up_to i j = grind arith
 not_same : (i j : ℕ) → i ≤ j → i ≢ j → i < j
 not_same i j h ne = omega (arith, h, ne)
 
-call_or_return : (c d : ℕ) → Call c ≡ Return d → ⊥
-call_or_return c d e = cc
-
-module _ {State Op Reply : Type 0} (p : Problem State Op Reply) (events : List ProblemEvent) (places : Places) (links : Linked) (lifted : List ℕ) (room left : ℕ) (entries : AreEntries p events places links lifted room left) where
+module _ {State Op Reply : Type 0} (p : Problem State Op Reply) (events : List ProblemEvent) (places : CallEntries) (links : Linked) (lifted : List ℕ) (room left : ℕ) (entries : AreEntries p events places links lifted room left) where
   abbrev set : List Bool
   set = lifted_set p lifted
 
@@ -576,15 +561,15 @@ module _ {State Op Reply : Type 0} (p : Problem State Op Reply) (events : List P
       ],
     )
 
-    least_by : (o : Option ProblemEvent) → slice_get events (e - 1) ≡ o → IsLeastMinimal p set bound (called_at o)
+    least_by : (o : Option ProblemEvent) → slice_get events (e - 1) ≡ o → IsLeastMinimal p set bound (call_of_event o)
     least_by None f = none_past f
     least_by (Some (Call c)) f = least_call c f
     least_by (Some (Return a)) f = none_after a f
 
-    least_after : IsLeastMinimal p set bound (called_at (slice_get events (e - 1)))
+    least_after : IsLeastMinimal p set bound (call_of_event (slice_get events (e - 1)))
     least_after = least_by (slice_get events (e - 1)) refl
 
-  pub first_least : IsLeastMinimal p set 0 (called_at (slice_get events (get_or links.next 0 0 - 1)))
+  pub first_least : IsLeastMinimal p set 0 (call_of_event (slice_get events (get_or links.next 0 0 - 1)))
   first_least = least_after 0 0 (inl refl) (omega arith) (λ d j m h f. omega arith) (λ d j f h. omega arith) (λ a i f out h. omega (arith, h))
 
   -- a call whose entry stands after that of the call is of a greater number
@@ -603,9 +588,9 @@ module _ {State Op Reply : Type 0} (p : Problem State Op Reply) (events : List P
       let less : j < i = not_same j i h (λ same. call_or_return c a (same_Some (Call c) (Return a) (sym f ∙ ap (λ (x : ℕ). slice_get events x) (sym same) ∙ g))) in
       true_false (has set a) (m.preceded a ((entries.timeline.precedence a c j i g f).0 less)) out
 
-  pub next_least : (c : ℕ) → IsMinimal p set c → IsLeastMinimal p set (c + 1) (called_at (slice_get events (get_or links.next (get_or places.called c 0) 0 - 1)))
+  pub next_least : (c : ℕ) → IsMinimal p set c → IsLeastMinimal p set (c + 1) (call_of_event (slice_get events (get_or links.next (get_or places.called c 0) 0 - 1)))
   next_least c m =
-      let i = call_place p events places entries.timeline entries.are_places c m.within in
+      let i = call_place p events places entries.timeline entries.are_call_entries c m.within in
       let at = i.2 in
       least_after (get_or places.called c 0) (c + 1)
       (inr (inr (i.0, Call c, i.2, i.1, m.outside)))
@@ -623,22 +608,22 @@ module _ {State Op Reply : Type 0} (p : Problem State Op Reply) (events : List P
 
   pub next_inside : (c : ℕ) → IsMinimal p set c → get_or places.called c 0 < length links.next
   next_inside c m =
-      let i = call_place p events places entries.timeline entries.are_places c m.within in
+      let i = call_place p events places entries.timeline entries.are_call_entries c m.within in
       let at = i.2 in let n = linked.next_count in let w = slice_get_within events i.0 (Call c) i.1 in
       omega (arith, at, n, w)
 
   pub next_above : (c : ℕ) → IsMinimal p set c → 0 < get_or links.next (get_or places.called c 0) 0
   next_above c m =
-      let i = call_place p events places entries.timeline entries.are_places c m.within in
+      let i = call_place p events places entries.timeline entries.are_call_entries c m.within in
       let at = i.2 in let w = slice_get_within events i.0 (Call c) i.1 in
       let k = (linked.forth (get_or places.called c 0) (inr (inr (i.0, Call c, i.2, i.1, m.outside))) (omega (arith, at, w))).0 in
       omega (arith, k)
 
 -- the entries of all calls
-pub entries_start : {State Op Reply : Type 0} (p : Problem State Op Reply) (events : List ProblemEvent) (places : Places) (links : Linked) (lifted : List ℕ) (room left : ℕ) → IsTimeline p events → ArePlaces (length p.calls) events places → IsRow (length events) links → lifted ≡ [] → length p.calls ≤ room → left ≡ count_completed p.calls → AreEntries p events places links lifted room left
-entries_start p events places links lifted room left timeline are_places row none fits count = record {
+pub entries_start : {State Op Reply : Type 0} (p : Problem State Op Reply) (events : List ProblemEvent) (places : CallEntries) (links : Linked) (lifted : List ℕ) (room left : ℕ) → IsTimeline p events → AreCallEntries (length p.calls) events places → IsRow (length events) links → lifted ≡ [] → length p.calls ≤ room → left ≡ count_completed p.calls → AreEntries p events places links lifted room left
+entries_start p events places links lifted room left timeline are_call_entries row none fits count = record {
   timeline = timeline;
-  are_places = are_places;
+  are_call_entries = are_call_entries;
   are_lifted = (let P : List ℕ → Type 0 = λ l. AreLifted p (no_calls p) l in subst P (sym none) tt);
   are_linked = (links, row, ap (λ (l : List ℕ). without_calls places links l) (sym none));
   has_room = fits;

@@ -14,8 +14,8 @@ use Rattle.lin_search.specs.declared.memo.Noted.TheVariants.{New, Known, Busy, N
 use Rattle.lin_search.specs.CallSetLemmas.{flags_same, flags_itself}
 use Rattle.lin_search.specs.Configuration.{Configuration, same_configuration}
 use Rattle.lin_search.specs.ConfigurationLemmas.{both_true}
-use Rattle.lin_search.specs.Refuted.{IsRefutedWith}
-use Rattle.lin_search.specs.Noted.{IsKept}
+use Rattle.lin_search.specs.Refutation.{IsRefutedWith}
+use Rattle.lin_search.specs.Memo.{IsKept}
 use Rattle.lin_search.specs.Count.{AllApart}
 use Rattle.lin_search.specs.Store.{configurations, Holds, AllRefuted, IsStore, IsNoted}
 use Rattle.lin_search.specs.StoreLemmas.{held_last, held_split}

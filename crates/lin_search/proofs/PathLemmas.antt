@@ -1,6 +1,6 @@
 -- The path of a search from its root to where it is: what its frames say, as one is put on or taken off at the end, and its steps.
 use Rattle.std.proofs.Common.{ControlFlow, Continue, Break, Result, Ok, Err, ◌≡◌, ℕ, zero, suc, ◌+◌, ◌-◌, ◌*◌, ◌<◌, ◌≤◌, Bool, true, Option, Some, None, List, [], ◌∷◌, ◌++◌, length, ◌⊎◌, refl, sym, ◌∙◌, ap, subst, arith, append-nil}
-use Rattle.std.specs.Prelude.{IfOk, IfSome, IsSome, IsSomeAnd}
+use Rattle.std.specs.Prelude.{IfOk, IfSome, IsSomeAnd}
 use Rattle.std.proofs.lemmas.Nat.{mul-le}
 use Rattle.lin_history.specs.Problems.Problem.{Problem, problem_of}
 use Rattle.lin_history.specs.Problems.ProblemParts.{ProblemParts}
@@ -10,21 +10,21 @@ use Rattle.lin_history.specs.Problems.Configurations.{IsReachable}
 use Rattle.lin_search.specs.declared.longest.Longest.{Longest}
 use Rattle.lin_search.specs.CallSet.{with_call, with_calls, lifted_set}
 use Rattle.lin_search.specs.CallSetLemmas.{with_append}
-use Rattle.lin_search.specs.Next.{IsNext, HasEveryCompleted}
+use Rattle.lin_search.specs.NextCall.{IsNext, HasEveryCompleted}
 use Rattle.lin_search.specs.Entries.{IsMinimal, IsLeastMinimal}
 use Rattle.lin_search.specs.Configuration.{Configuration}
-use Rattle.lin_search.specs.Refuted.{IsRefutedWith}
-use Rattle.lin_search.specs.Closed.{IsClosed}
+use Rattle.lin_search.specs.Refutation.{IsRefutedWith}
+use Rattle.lin_search.specs.Memo.{IsClosed}
 use Rattle.lin_search.specs.Size.{HasMany, HasMoreThan}
 use Rattle.lin_search.specs.Path.{Frame, Position, calls_of}
-use Rattle.lin_search.specs.Progress.{IsBelow, IsContinuationBelow, IsSearchedTo, IsFrame, IsPath, IsAt, HasLifts, AreLifts, IsLeft, IsTaken, IsProgress, HoldsBelow, HoldsOnPath, HoldsSearched, GoesOn, IsStep, HoldsStep, IsStepBack, IsRefusal, bound, free, power, work, work_on_path}
+use Rattle.lin_search.specs.Progress.{IsContinuationBelow, IsSearchedTo, IsFrame, IsPath, IsAt, HasLifts, AreLifts, IsLeft, IsTaken, IsProgress, HoldsBelow, HoldsOnPath, HoldsSearched, GoesOn, IsStep, HoldsStep, IsStepBack, IsRefusal, bound, free, power, work, work_on_path}
 use Rattle.lin_search.specs.Answer.{IsAnswer, IsRefutation}
 use Rattle.lin_search.specs.declared.outcome.Outcome.{Outcome}
 use Rattle.lin_search.specs.declared.outcome.Outcome.TheVariants.{Found, Refuted, Undecided, Stopped}
 use Rattle.lin_search.specs.AlikeLemmas.{AreAlike}
 use Rattle.lin_search.specs.FirstCallLemmas.{next_within}
 use Rattle.lin_search.proofs.ProgressLemmas.{free_less, searched_start, searched_skip, searched_to, searched_all, searched_after, found_least, least_none, room}
-use Rattle.lin_search.proofs.ClosedLemmas.{followed_to, followed_one, followed_next, followed_start, followed_all, closed_look, closed_more}
+use Rattle.lin_search.proofs.MemoLemmas.{followed_to, followed_one, followed_next, followed_start, followed_all, closed_look, closed_more}
 use Rattle.lin_search.proofs.SizeLemmas.{many_none, many_to, many_step, many_all, many_as}
 
 module _ {State Op Reply : Type 0} (p : Problem State Op Reply) where

@@ -1,13 +1,20 @@
+-- What the calls below one tell of a configuration, as one call more was tried.
 use Rattle.std.proofs.Common.{◌≡◌, ℕ, zero, suc, ◌+◌, ◌<◌, ◌≤◌, Bool, true, false, Option, Some, None, List, [], ◌∷◌, length, set, ◌⊎◌, inl, inr, refl, sym, ◌∙◌, ap, subst, arith}
 use Rattle.std.proofs.lemmas.List.{length-set}
+use Rattle.std.proofs.lemmas.Bool.{cases_lt}
+use Rattle.lin_search.specs.CallSetLemmas.{below_or_last}
 use Rattle.lin_history.specs.Problems.Problem.{Problem}
 use Rattle.lin_history.specs.Problems.Lists.{IsUpTo, IsLeast, IsLongest, first_of}
 use Rattle.lin_history.specs.Problems.Continuations.{has, IsContinuation, IsCompletion}
 use Rattle.lin_search.specs.CallSet.{with_call}
 use Rattle.lin_search.specs.declared.longest.Longest.{Longest}
-use Rattle.lin_search.specs.Next.{IsNext, HasEveryCompleted}
-use Rattle.lin_search.specs.Progress.{IsBelow, IsContinuationBelow, IsSearchedTo, free}
+use Rattle.lin_search.specs.NextCall.{IsNext, HasEveryCompleted}
+use Rattle.lin_search.specs.Progress.{IsBelow, IsSearchedTo, free}
 use Rattle.lin_search.specs.FirstCallLemmas.{continuation_split, continuation_join, completion_split, completion_join, none_continues, none_completes, complete_none, next_one, next_within}
+
+pub below_more : (i : ℕ) (l : List ℕ) → IsBelow i l → IsBelow (i + 1) l
+below_more i [] b = tt
+below_more i (c ∷ cs) b = omega arith
 
 pub free_less : (s : List Bool) (c : ℕ) → c < length s → has s c ≡ false → suc (free (with_call s c)) ≡ free s
 free_less [] c h e = absurd (omega arith)
@@ -56,14 +63,7 @@ module _ {State Op Reply : Type 0} (p : Problem State Op Reply) where
   -- a list whose first call is below i + 1 is below i, or begins with i
   below_cases : (i : ℕ) (l : List ℕ) → IsBelow (i + 1) l → IsBelow i l ⊎ ((cs : List ℕ) × (l ≡ i ∷ cs))
   below_cases i [] b = inl tt
-  below_cases i (c ∷ cs) b = elim (less_or_same c i b) [ inl h ↦ inl h | inr h ↦ inr (cs, rw h refl) ]
-    where
-      less_or_same : (c i : ℕ) → c < i + 1 → (c < i) ⊎ (c ≡ i)
-      less_or_same c i h = grind arith
-
-  below_more : (i : ℕ) (l : List ℕ) → IsBelow i l → IsBelow (i + 1) l
-  below_more i [] b = tt
-  below_more i (c ∷ cs) b = omega arith
+  below_cases i (c ∷ cs) b = elim (below_or_last c i b) [ inl h ↦ inl h | inr h ↦ inr (cs, rw h refl) ]
 
   pub searched_skip : (set : List Bool) (s : State) (i more : ℕ) (first : Option ℕ) → length set ≡ length p.calls → IsSearchedTo p set s i more first → ((t : State) → IsNext p set s i t → ⊥) → IsSearchedTo p set s (i + 1) more first
   searched_skip set s i more first flags searched no_step = record {
@@ -92,12 +92,9 @@ module _ {State Op Reply : Type 0} (p : Problem State Op Reply) where
     };
   }
     where
-      less_or_not : (c i : ℕ) → (c < i) ⊎ (i ≤ c)
-      less_or_not c i = grind arith
-
       below : (l : List ℕ) → IsContinuation p set s l → IsBelow j l → IsBelow i l
       below [] k b = tt
-      below (c ∷ cs) k b = elim (less_or_not c i) [
+      below (c ∷ cs) k b = elim (cases_lt c i) [
         | inl q ↦ q
         | inr q ↦ absurd (let n = continuation_split p set s c cs flags k in none c q b n.0 n.1)
       ]
@@ -180,13 +177,10 @@ module _ {State Op Reply : Type 0} (p : Problem State Op Reply) where
   -- what the calls up to this one tell, once it is known what this one leads to
   pub searched_after : (set : List Bool) (s : State) (i : ℕ) (t : State) (longest deep after : Longest) → length set ≡ length p.calls → IsNext p set s i t → ((l : List ℕ) → IsCompletion p (with_call set i) t l → ⊥) → IsLongest (IsContinuation p (with_call set i) t) deep.more deep.first → IsSearchedTo p set s i longest.more longest.first → (longest.more < deep.more + 1 → after ≡ record { more = deep.more + 1; first = Some i }) → (deep.more + 1 ≤ longest.more → after ≡ longest) → IsSearchedTo p set s (i + 1) after.more after.first
   searched_after set s i t longest deep after flags is_next none is_longest searched longer not_longer =
-      elim (less_or_not longest.more (deep.more + 1)) [
+      elim (cases_lt longest.more (deep.more + 1)) [
         | inl h ↦ rw (longer h) (searched_longer set s i t deep.more deep.first flags is_next none is_longest longest.more longest.first searched h)
         | inr h ↦ rw (not_longer h) (searched_no_longer set s i t deep.more deep.first flags is_next none is_longest longest.more longest.first searched h)
       ]
-    where
-      less_or_not : (a b : ℕ) → (a < b) ⊎ (b ≤ a)
-      less_or_not a b = grind arith
 
   pub searched_all : (set : List Bool) (s : State) (n more : ℕ) (first : Option ℕ) → n ≡ length p.calls → length set ≡ length p.calls → IsSearchedTo p set s n more first → ((l : List ℕ) → IsCompletion p set s l → ⊥) × IsLongest (IsContinuation p set s) more first
   searched_all set s n more first all flags searched = (

@@ -1,9 +1,10 @@
+-- The first of the longest runs, call by call.
 use Rattle.std.proofs.Common.{◌≡◌, ℕ, suc, ◌+◌, ◌<◌, ◌≤◌, Bool, true, Some, None, List, [], ◌∷◌, ◌++◌, length, ◌⊎◌, inl, inr, refl, sym, ap, subst, arith, append_assoc, append-nil}
 use Rattle.lin_history.specs.Problems.Problem.{Problem}
 use Rattle.lin_history.specs.Problems.Lists.{IsLongest, IsUpTo, first_of}
 use Rattle.lin_history.specs.Problems.Continuations.{IsContinuation, IsCompletion}
 use Rattle.lin_search.specs.CallSet.{with_call}
-use Rattle.lin_search.specs.Next.{IsNext}
+use Rattle.lin_search.specs.NextCall.{IsNext}
 use Rattle.lin_search.specs.LongestRun.{IsFirstLongest}
 use Rattle.lin_search.specs.FirstCallLemmas.{continuation_split, continuation_join, completion_join, next_one}
 use Rattle.lin_search.specs.AlikeLemmas.{AreAlike, turned, like_continuation}

@@ -1,12 +1,13 @@
-use Rattle.std.proofs.Common.{◌≡◌, ℕ, suc, ◌+◌, ◌-◌, Option, Some, None, ◌<◌, ◌≤◌, Bool, List, [], ◌∷◌, ◌++◌, length, ◌⊎◌, inl, inr, refl, sym, ◌∙◌, ap, subst, arith, length-append}
-use Rattle.std.specs.Prelude.{IsSomeAnd}
+-- How many continuations a configuration has, as one call more was tried.
+use Rattle.std.proofs.Common.{◌≡◌, ℕ, suc, ◌+◌, ◌<◌, ◌≤◌, Bool, List, [], ◌∷◌, ◌++◌, length, ◌⊎◌, inl, inr, refl, sym, ◌∙◌, ap, subst, arith, length-append}
 use Rattle.lin_history.specs.Problems.Problem.{Problem}
 use Rattle.lin_history.specs.Problems.Continuations.{IsContinuation}
 use Rattle.lin_search.specs.CallSet.{with_call}
-use Rattle.lin_search.specs.Next.{IsNext}
-use Rattle.lin_search.specs.Size.{IsOneOf, AllDifferent, EachOf, HasMany, HasMoreThan}
+use Rattle.lin_search.specs.NextCall.{IsNext}
+use Rattle.lin_search.specs.Size.{IsOneOf, AllDifferent, EachOf, HasMany}
 use Rattle.lin_search.specs.FirstCallLemmas.{continuation_join, none_continues}
 use Rattle.lin_search.specs.Progress.{IsBelow, IsContinuationBelow}
+use Rattle.lin_search.proofs.ProgressLemmas.{below_more}
 
 module _ (P : List ℕ → Type 0) where
   each_append : (xs ys : List (List ℕ)) → EachOf P xs → EachOf P ys → EachOf P (xs ++ ys)
@@ -57,10 +58,6 @@ each_behind : (P Q : List ℕ → Type 0) (i : ℕ) → ((l : List ℕ) → P l 
 each_behind P Q i f [] a = tt
 each_behind P Q i f (x ∷ ls) a = (f x a.0, each_behind P Q i f ls a.1)
 
-below_next : (i : ℕ) (l : List ℕ) → IsBelow i l → IsBelow (i + 1) l
-below_next i [] b = tt
-below_next i (c ∷ cs) b = omega arith
-
 not_below_itself : (i : ℕ) (l m : List ℕ) → l ≡ i ∷ m → IsBelow i l → ⊥
 not_below_itself i l m e b = let h : i < i = subst (λ (x : List ℕ). IsBelow i x) e b in omega (arith, h)
 
@@ -96,7 +93,7 @@ module _ {State Op Reply : Type 0} (p : Problem State Op Reply) (set : List Bool
   many_step i t n k flags is_next a b = record {
     lists = a.lists ++ here;
     different = different_append a.lists here a.different (fresh, different_behind i b.lists b.different) apart;
-    each = each_append Good a.lists here (each_map (λ (l : List ℕ). IsContinuationBelow p set s i l × (l ≡ [] → ⊥)) Good (λ l h. ((h.0.0, below_next i l h.0.1), h.1)) a.lists a.each) (one, each_behind (λ (l : List ℕ). IsContinuation p (with_call set i) t l × (l ≡ [] → ⊥)) Good i (λ l h. ((continuation_join p set s i l t flags is_next h.0, omega arith), not_empty i l)) b.lists b.each);
+    each = each_append Good a.lists here (each_map (λ (l : List ℕ). IsContinuationBelow p set s i l × (l ≡ [] → ⊥)) Good (λ l h. ((h.0.0, below_more i l h.0.1), h.1)) a.lists a.each) (one, each_behind (λ (l : List ℕ). IsContinuation p (with_call set i) t l × (l ≡ [] → ⊥)) Good i (λ l h. ((continuation_join p set s i l t flags is_next h.0, omega arith), not_empty i l)) b.lists b.each);
     count = let x = length-append a.lists here in let y = length_behind i b.lists in let u = a.count in let v = b.count in omega (arith, x, y, u, v);
   }
     where

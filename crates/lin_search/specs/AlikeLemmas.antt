@@ -14,7 +14,7 @@ use Rattle.lin_search.specs.declared.outcome.Outcome.{Outcome}
 use Rattle.lin_search.specs.declared.outcome.Outcome.TheVariants.{Found, Refuted, Undecided, Stopped}
 use Rattle.lin_search.specs.Size.{EachOf, HasMany, HasMoreThan}
 use Rattle.lin_search.specs.Answer.{IsAnswer}
-use Rattle.lin_search.specs.Refuted.{IsRefutedWith}
+use Rattle.lin_search.specs.Refutation.{IsRefutedWith}
 
 -- what the one problem says of equal states, the other says too
 pub record IsLike {State Op Reply : Type 0} (p q : Problem State Op Reply) : Type 0 where

@@ -1,5 +1,6 @@
 -- Sets of calls: the test of equality, and what a set with one call more has.
-use Rattle.std.proofs.Common.{◌≡◌, ◌≢◌, ℕ, ◌<◌, Bool, true, false, List, [], ◌∷◌, ◌++◌, length, ◌⊎◌, inl, inr, refl, sym, ◌∙◌, ap, arith}
+use Rattle.std.proofs.lemmas.List.{length-set}
+use Rattle.std.proofs.Common.{◌≡◌, ◌≢◌, ℕ, zero, suc, ◌+◌, ◌<◌, replicate, Bool, true, false, List, [], ◌∷◌, ◌++◌, length, ◌⊎◌, inl, inr, refl, sym, ◌∙◌, ap, arith}
 use Rattle.std.proofs.lemmas.List.{get_or-set_same, get_or-set_other}
 use lib.Pointwise.{pointwise}
 use mathlib.Core.Bool.{beq}
@@ -20,6 +21,10 @@ pub flags_itself : (xs : List Bool) → pointwise beq xs xs ≡ true
 flags_itself [] = refl
 flags_itself (true ∷ xs) = flags_itself xs
 flags_itself (false ∷ xs) = flags_itself xs
+
+-- below the last, or the last
+pub below_or_last : (a i : ℕ) → a < i + 1 → (a < i) ⊎ (a ≡ i)
+below_or_last a i h = grind arith
 
 -- equal or not
 pub same_or_not : (a b : ℕ) → (a ≡ b) ⊎ (a ≢ b)
@@ -45,3 +50,13 @@ has_with s c a e = elim (same_or_not a c) [ inl q ↦ inl q | inr ne ↦ inr (sy
 pub with_append : (set : List Bool) (l m : List ℕ) → with_calls set (l ++ m) ≡ with_calls (with_calls set l) m
 with_append set [] m = refl
 with_append set (c ∷ cs) m = with_append (with_call set c) cs m
+
+pub length_calls : (set : List Bool) (l : List ℕ) → length (with_calls set l) ≡ length set
+length_calls set [] = refl
+length_calls set (c ∷ l) = length_calls (with_call set c) l ∙ length-set set c true
+
+-- a set with no call
+pub no_calls_has : (n c : ℕ) → has (replicate n false) c ≡ false
+no_calls_has zero c = refl
+no_calls_has (suc n) zero = refl
+no_calls_has (suc n) (suc c) = no_calls_has n c

@@ -6,7 +6,7 @@ use Rattle.lin_history.specs.Problems.Precedence.{Before}
 use Rattle.lin_history.specs.Problems.Continuations.{has}
 
 -- A problem, and its calls that are lifted, in the order in which they were.
-pub record Lifting (Object State Op Reply : Type 0) : Type 0 where
+pub record LiftedCalls (Object State Op Reply : Type 0) : Type 0 where
   pub problem : ProblemParts Object State Op Reply
   pub lifted : List ℕ
 

@@ -8,7 +8,7 @@ use Rattle.lin_history.specs.Problems.Precedence.{Before}
 use Rattle.lin_history.specs.Problems.Continuations.{has, IsContinuation, IsCompletion}
 use Rattle.lin_search.specs.CallSet.{with_call}
 use Rattle.lin_search.specs.CallSetLemmas.{same_or_not, has_same, has_other, has_still, has_with}
-use Rattle.lin_search.specs.Next.{IsNext, HasEveryCompleted}
+use Rattle.lin_search.specs.NextCall.{IsNext, HasEveryCompleted}
 
 -- a part of a list that begins with c
 begins : (c : ℕ) (cs early : List ℕ) (b : ℕ) (late : List ℕ) → c ∷ cs ≡ early ++ b ∷ late → ((early ≡ []) × (b ≡ c)) ⊎ ((rest : List ℕ) × (early ≡ c ∷ rest) × (cs ≡ rest ++ b ∷ late))

@@ -1,5 +1,5 @@
 -- How far a depth-first search has come: what it knows of the calls that it has tried (this project's own).
-use Rattle.std.specs.Prelude.{◌≡◌, ℕ, zero, suc, ◌+◌, ◌-◌, ◌*◌, ◌<◌, ◌⊎◌, Bool, true, false, Option, Some, None, List, [], ◌∷◌, ◌++◌, length, IfSome}
+use Rattle.std.specs.Prelude.{◌≡◌, ℕ, zero, suc, ◌+◌, ◌-◌, ◌*◌, ◌<◌, Bool, true, false, Option, Some, None, List, [], ◌∷◌, ◌++◌, length, IfSome}
 use Rattle.std.proofs.Common.{ControlFlow, Continue, Break}
 use Rattle.lin_history.specs.Problems.Problem.{Problem}
 use Rattle.lin_history.specs.Problems.Lists.{IsLongest}
@@ -10,10 +10,10 @@ use Rattle.lin_search.specs.declared.outcome.Outcome.TheVariants.{Found, Refuted
 use Rattle.lin_search.specs.declared.longest.Longest.{Longest}
 use Rattle.lin_search.specs.Configuration.{Configuration}
 use Rattle.lin_search.specs.CallSet.{with_call, with_calls}
-use Rattle.lin_search.specs.Next.{IsNext}
+use Rattle.lin_search.specs.NextCall.{IsNext}
 use Rattle.lin_search.specs.Entries.{IsMinimal, IsLeastMinimal}
 use Rattle.lin_search.specs.Size.{HasMany}
-use Rattle.lin_search.specs.Closed.{IsClosed}
+use Rattle.lin_search.specs.Memo.{IsClosed}
 use Rattle.lin_search.specs.Answer.{IsAnswer, IsRefutation}
 use Rattle.lin_search.specs.Path.{Frame, Position, calls_of}
 

@@ -1,5 +1,5 @@
 -- The root is reachable, and so is what a call leads to from a reachable configuration.
-use Rattle.std.proofs.Common.{◌≡◌, ℕ, zero, suc, ◌<◌, Bool, true, false, Some, List, [], ◌∷◌, ◌++◌, length, replicate, ◌⊎◌, inl, inr, refl, sym, ◌∙◌, ap, subst, arith}
+use Rattle.std.proofs.Common.{◌≡◌, ℕ, ◌<◌, Bool, true, false, Some, List, [], ◌∷◌, ◌++◌, length, ◌⊎◌, inl, inr, refl, sym, ◌∙◌, ap, subst, arith}
 use Rattle.lin_history.specs.Problems.Problem.{Problem}
 use Rattle.lin_history.specs.Problems.Lists.{In, IsDistinct}
 use Rattle.lin_history.specs.Problems.LegalLists.{next, Legal}
@@ -8,11 +8,11 @@ use Rattle.lin_history.specs.Problems.Continuations.{has, no_calls}
 use Rattle.lin_history.specs.Problems.Linearizations.{IsRun}
 use Rattle.lin_history.specs.Problems.Configurations.{IsReachable}
 use Rattle.lin_search.specs.CallSet.{with_call}
-use Rattle.lin_search.specs.CallSetLemmas.{has_same, has_with, has_still}
-use Rattle.lin_search.specs.Next.{IsNext}
+use Rattle.lin_search.specs.CallSetLemmas.{no_calls_has, has_same, has_with, has_still}
+use Rattle.lin_search.specs.NextCall.{IsNext}
 use Rattle.lin_search.specs.FirstCallLemmas.{next_within, none_continues}
 use Rattle.lin_search.specs.AlikeLemmas.{AreAlike, turned}
-use Rattle.std.proofs.lemmas.List.{length-set}
+use Rattle.std.proofs.lemmas.List.{length-set, length-replicate}
 
 In_end : (l : List ℕ) (c : ℕ) → In c (l ++ c ∷ [])
 In_end [] c = inl refl
@@ -56,19 +56,10 @@ module _ {State Op Reply : Type 0} (p : Problem State Op Reply) where
   legal_end [] s t u c k e = (u, subst (λ (x : State). next p x c ≡ Some u) (sym k) e, refl)
   legal_end (d ∷ l) s t u c k e = (k.0, k.1, legal_end l k.0 t u c k.2 e)
 
-  no_calls_has : (n c : ℕ) → has (replicate n false) c ≡ false
-  no_calls_has zero c = refl
-  no_calls_has (suc n) zero = refl
-  no_calls_has (suc n) (suc c) = no_calls_has n c
-
-  length_none : (n : ℕ) → length (replicate n false) ≡ n
-  length_none zero = refl
-  length_none (suc n) = ap suc (length_none n)
-
   -- the configuration with no call, at a state equal to the start
   pub reachable_root : (s : State) → p.same_state p.start s ≡ true → IsReachable p (no_calls p) s
   reachable_root s same = record {
-    flags = length_none (length p.calls);
+    flags = length-replicate (length p.calls) false;
     run = ([], none_continues p (no_calls p) p.start, λ c. (λ h. absurd (let e = no_calls_has (length p.calls) c in cc), λ h. absurd h), (p.start, refl, same));
   }
 

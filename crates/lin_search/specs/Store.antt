@@ -6,7 +6,7 @@ use Rattle.lin_search.specs.declared.longest.Longest.{Longest}
 use Rattle.lin_search.specs.declared.memo.Noted.{Noted}
 use Rattle.lin_search.specs.declared.memo.Noted.TheVariants.{New, Known, Busy, NoRoom, Stranger}
 use Rattle.lin_search.specs.Configuration.{Configuration}
-use Rattle.lin_search.specs.Refuted.{IsRefutedWith}
+use Rattle.lin_search.specs.Refutation.{IsRefutedWith}
 use Rattle.lin_search.specs.Count.{Among, AllApart}
 
 -- The problem that it names, and the pairs of a configuration and what its longest continuations tell, in order of storing.

@@ -1,3 +1,4 @@
+//! Sets of calls, kept as words of bits.
 ghost use Rattle.std.specs.Prelude.{◌≡◌, ◌≢◌, ℕ, ◌+◌, ◌-◌, ◌*◌, ◌/◌, ◌%◌, ◌^◌, ◌<◌, ◌≤◌, ◌↔◌, Bool, false, max, length, replicate, drop, slice_index, bit_or, IfOk, IsTrue};
 ghost use Rattle.lin_history.specs.Problems.Continuations.{has};
 ghost use Rattle.lin_search.specs.CallSet.{with_call, sum_of, folded, weight_of};
@@ -150,7 +151,8 @@ fn with_word(
 ) -> Result<SmallVec<u64, 4>, AllocError>
     ensures len { IfOk result (λ new. length new.items ≡ max (length words.now) (index + 1)) }
     ensures same { IfOk result (λ new. slice_index new.items index ≡ word) }
-    ensures other { IfOk result (λ new. (i : ℕ) → i ≢ index → slice_index new.items i ≡ slice_index words.now i) }
+    ensures other { IfOk result (λ new. (i : ℕ) → i ≢ index
+        → slice_index new.items i ≡ slice_index words.now i) }
 {
     let mut new = SmallVec::from_slice(alloc, words)?;
     while new.len() <= index {

@@ -1,3 +1,4 @@
+//! Configurations: a set of lifted calls, and the state that they lead to.
 ghost use Rattle.std.specs.Prelude.{◌≡◌, ℕ, ◌<◌, ◌≤◌, ◌↔◌, true, length, IfOk, IfSome, IfNone, IsTrue};
 ghost use Rattle.lin_history.specs.Problems.Problem.{problem_of};
 ghost use Rattle.lin_history.specs.Problems.LegalLists.{next};
@@ -5,7 +6,7 @@ ghost use Rattle.lin_history.specs.Problems.Precedence.{Before};
 ghost use Rattle.lin_history.specs.Problems.Continuations.{has, no_calls};
 ghost use Rattle.lin_history.specs.Problems.Configurations.{IsReachable};
 ghost use Rattle.lin_search.specs.CallSet.{with_call};
-ghost use Rattle.lin_search.specs.Next.{IsNext, HasEveryCompleted};
+ghost use Rattle.lin_search.specs.NextCall.{IsNext, HasEveryCompleted};
 ghost use Rattle.lin_search.specs.Entries.{IsMinimal};
 
 use crate::call_set::CallSet;
@@ -57,7 +58,8 @@ impl<O: SeqObject> Hash for Config<O> {
 
     ghost hash_input = { λ config. fed_set config.lifted ++ O.State.hash_input config.state };
 
-    ghost respects_eq = { λ x y same. same_input O.State.eq O.State.hash_input O.State.Hash.respects_eq x y same };
+    ghost respects_eq = { λ x y same. same_input O.State.eq O.State.hash_input
+        O.State.Hash.respects_eq x y same };
 
     fn hash<H: Hasher>(&self, state: &mut H) {
         self.lifted.hash(state);
@@ -81,7 +83,9 @@ fn before<O: SeqObject>(problem: &Problem<O>, a: usize, b: usize) -> bool
 // asked first: where one is left out, it is most often among these.
 fn follows_earlier<O: SeqObject>(problem: &Problem<O>, set: &CallSet, call: usize) -> bool
     requires { call < length problem.now.calls }
-    ensures { IsTrue result ↔ ((a : ℕ) → a < call → Before (problem_of O.after O.State.eq O.Reply.eq problem.now) a call → has set.now a ≡ true) }
+    ensures { IsTrue result ↔ ((a : ℕ) → a < call
+        → Before (problem_of O.after O.State.eq O.Reply.eq problem.now) a call
+        → has set.now a ≡ true) }
 {
     let mut left = call;
     while left > 0 {
@@ -96,7 +100,9 @@ fn follows_earlier<O: SeqObject>(problem: &Problem<O>, set: &CallSet, call: usiz
 // Whether every call of another number that returned before the call was called is in the set.
 fn follows_later<O: SeqObject>(problem: &Problem<O>, set: &CallSet, call: usize) -> bool
     requires { call < length problem.now.calls }
-    ensures { IsTrue result ↔ ((a : ℕ) → call ≤ a → Before (problem_of O.after O.State.eq O.Reply.eq problem.now) a call → has set.now a ≡ true) }
+    ensures { IsTrue result ↔ ((a : ℕ) → call ≤ a
+        → Before (problem_of O.after O.State.eq O.Reply.eq problem.now) a call
+        → has set.now a ≡ true) }
 {
     for other in call..problem.len() {
         if before(problem, other, call) && !set.has(other) {
@@ -109,7 +115,8 @@ fn follows_later<O: SeqObject>(problem: &Problem<O>, set: &CallSet, call: usize)
 // Whether the call is not in the set while every call that returned before it was called is.
 fn is_minimal<O: SeqObject>(problem: &Problem<O>, set: &CallSet, call: usize) -> bool
     requires { call < length problem.now.calls }
-    ensures { IsTrue result ↔ IsMinimal (problem_of O.after O.State.eq O.Reply.eq problem.now) set.now call }
+    ensures { IsTrue result ↔ IsMinimal (problem_of O.after O.State.eq O.Reply.eq problem.now)
+        set.now call }
 {
     !set.has(call) && follows_earlier(problem, set, call) && follows_later(problem, set, call)
 }
@@ -122,7 +129,8 @@ fn state_after<O: SeqObject>(
     call: usize,
 ) -> Result<Option<O::State>, AllocError>
     requires { call < length problem.now.calls }
-    ensures { IfOk result (λ answer. answer ≡ next (problem_of O.after O.State.eq O.Reply.eq problem.now) state.now call) }
+    ensures { IfOk result (λ answer. answer ≡ next
+        (problem_of O.after O.State.eq O.Reply.eq problem.now) state.now call) }
 {
     let taken = problem.call(call);
     let object = problem.object();
@@ -139,9 +147,11 @@ impl<O: SeqObject> Config<O> {
     /// The configuration in which a search begins: no call is lifted, and the state is the problem's at
     /// the start. `AllocError` where memory was refused.
     pub fn root(alloc: Global, problem: &Problem<O>) -> Result<Config<O>, AllocError>
-        ensures lifted { IfOk result (λ root. root.lifted ≡ no_calls (problem_of O.after O.State.eq O.Reply.eq problem.now)) }
+        ensures lifted { IfOk result (λ root. root.lifted
+            ≡ no_calls (problem_of O.after O.State.eq O.Reply.eq problem.now)) }
         ensures state { IfOk result (λ root. O.State.eq root.state problem.now.start ≡ true) }
-        ensures reachable { IfOk result (λ root. IsReachable (problem_of O.after O.State.eq O.Reply.eq problem.now) root.lifted root.state) }
+        ensures reachable { IfOk result (λ root. IsReachable
+            (problem_of O.after O.State.eq O.Reply.eq problem.now) root.lifted root.state) }
     {
         lawful::<O>();
         Ok(Config {
@@ -161,11 +171,19 @@ impl<O: SeqObject> Config<O> {
         problem: &Problem<O>,
         call: usize,
     ) -> Result<Option<Config<O>>, AllocError>
-        requires reachable { IsReachable (problem_of O.after O.State.eq O.Reply.eq problem.now) self.now.lifted self.now.state }
+        requires reachable { IsReachable (problem_of O.after O.State.eq O.Reply.eq problem.now)
+            self.now.lifted self.now.state }
         requires call { call < length problem.now.calls }
-        ensures some { IfOk result (λ answer. IfSome answer (λ child. (child.lifted ≡ with_call self.now.lifted call) × IsNext (problem_of O.after O.State.eq O.Reply.eq problem.now) self.now.lifted self.now.state call child.state)) }
-        ensures reachable { IfOk result (λ answer. IfSome answer (λ child. IsReachable (problem_of O.after O.State.eq O.Reply.eq problem.now) child.lifted child.state)) }
-        ensures none { IfOk result (λ answer. IfNone answer ((t : O.State) → IsNext (problem_of O.after O.State.eq O.Reply.eq problem.now) self.now.lifted self.now.state call t → ⊥)) }
+        ensures some { IfOk result (λ answer. IfSome answer
+            (λ child. (child.lifted ≡ with_call self.now.lifted call)
+            × IsNext (problem_of O.after O.State.eq O.Reply.eq problem.now) self.now.lifted
+            self.now.state call child.state)) }
+        ensures reachable { IfOk result (λ answer. IfSome answer
+            (λ child. IsReachable (problem_of O.after O.State.eq O.Reply.eq problem.now)
+            child.lifted child.state)) }
+        ensures none { IfOk result (λ answer. IfNone answer
+            ((t : O.State) → IsNext (problem_of O.after O.State.eq O.Reply.eq problem.now)
+            self.now.lifted self.now.state call t → ⊥)) }
     {
         if is_minimal(problem, &self.lifted, call) {
             self.child_of_minimal(alloc, problem, call)
@@ -181,11 +199,20 @@ impl<O: SeqObject> Config<O> {
         problem: &Problem<O>,
         call: usize,
     ) -> Result<Option<Config<O>>, AllocError>
-        requires reachable { IsReachable (problem_of O.after O.State.eq O.Reply.eq problem.now) self.now.lifted self.now.state }
-        requires minimal { IsMinimal (problem_of O.after O.State.eq O.Reply.eq problem.now) self.now.lifted call }
-        ensures some { IfOk result (λ answer. IfSome answer (λ child. (child.lifted ≡ with_call self.now.lifted call) × IsNext (problem_of O.after O.State.eq O.Reply.eq problem.now) self.now.lifted self.now.state call child.state)) }
-        ensures reachable { IfOk result (λ answer. IfSome answer (λ child. IsReachable (problem_of O.after O.State.eq O.Reply.eq problem.now) child.lifted child.state)) }
-        ensures none { IfOk result (λ answer. IfNone answer ((t : O.State) → IsNext (problem_of O.after O.State.eq O.Reply.eq problem.now) self.now.lifted self.now.state call t → ⊥)) }
+        requires reachable { IsReachable (problem_of O.after O.State.eq O.Reply.eq problem.now)
+            self.now.lifted self.now.state }
+        requires minimal { IsMinimal (problem_of O.after O.State.eq O.Reply.eq problem.now)
+            self.now.lifted call }
+        ensures some { IfOk result (λ answer. IfSome answer
+            (λ child. (child.lifted ≡ with_call self.now.lifted call)
+            × IsNext (problem_of O.after O.State.eq O.Reply.eq problem.now) self.now.lifted
+            self.now.state call child.state)) }
+        ensures reachable { IfOk result (λ answer. IfSome answer
+            (λ child. IsReachable (problem_of O.after O.State.eq O.Reply.eq problem.now)
+            child.lifted child.state)) }
+        ensures none { IfOk result (λ answer. IfNone answer
+            ((t : O.State) → IsNext (problem_of O.after O.State.eq O.Reply.eq problem.now)
+            self.now.lifted self.now.state call t → ⊥)) }
     {
         lawful::<O>();
         let Some(state) = state_after(alloc, problem, &self.state, call)? else {
@@ -201,10 +228,12 @@ impl<O: SeqObject> Config<O> {
     ///
     /// Condition: the configuration is reachable in the problem.
     pub fn copy(&self, alloc: Global, problem: &Problem<O>) -> Result<Config<O>, AllocError>
-        requires { IsReachable (problem_of O.after O.State.eq O.Reply.eq problem.now) self.now.lifted self.now.state }
+        requires { IsReachable (problem_of O.after O.State.eq O.Reply.eq problem.now)
+            self.now.lifted self.now.state }
         ensures lifted { IfOk result (λ copy. copy.lifted ≡ self.now.lifted) }
         ensures state { IfOk result (λ copy. O.State.eq copy.state self.now.state ≡ true) }
-        ensures reachable { IfOk result (λ copy. IsReachable (problem_of O.after O.State.eq O.Reply.eq problem.now) copy.lifted copy.state) }
+        ensures reachable { IfOk result (λ copy. IsReachable
+            (problem_of O.after O.State.eq O.Reply.eq problem.now) copy.lifted copy.state) }
     {
         lawful::<O>();
         Ok(Config {
@@ -247,8 +276,10 @@ impl<O: SeqObject> Config<O> {
     ///
     /// Condition: the configuration is reachable in the problem.
     pub fn is_complete(&self, problem: &Problem<O>) -> bool
-        requires { IsReachable (problem_of O.after O.State.eq O.Reply.eq problem.now) self.now.lifted self.now.state }
-        ensures { IsTrue result ↔ HasEveryCompleted (problem_of O.after O.State.eq O.Reply.eq problem.now) self.now.lifted }
+        requires { IsReachable (problem_of O.after O.State.eq O.Reply.eq problem.now)
+            self.now.lifted self.now.state }
+        ensures { IsTrue result ↔ HasEveryCompleted
+            (problem_of O.after O.State.eq O.Reply.eq problem.now) self.now.lifted }
     {
         for call in 0..problem.len() {
             if problem.call(call).returned.is_some() && !self.lifted.has(call) {

@@ -1,13 +1,14 @@
+//! The depth-first search over a memo (Wing and Gong 1993; Lowe 2017), step by step.
 ghost use Rattle.std.specs.Prelude.{◌≡◌, ℕ, ◌⊎◌, Bool, List, Option, Some, None, [], length, true, IfOk, IfSome, IfNone, IsTrue};
 ghost use Rattle.lin_history.specs.Problems.Problem.{problem_of};
 ghost use Rattle.lin_history.specs.Problems.Configurations.{IsReachable};
 ghost use Rattle.lin_search.specs.Answer.{IsAnswer, IsRefutation};
 ghost use Rattle.lin_search.specs.CallSet.{with_call, lifted_set};
-ghost use Rattle.lin_search.specs.Closed.{IsClosed};
+ghost use Rattle.lin_search.specs.Memo.{IsClosed};
 ghost use Rattle.lin_search.specs.Configuration.{Configuration};
-ghost use Rattle.lin_search.specs.Next.{IsNext};
-ghost use Rattle.lin_search.specs.Refuted.{IsRefutedWith};
-ghost use Rattle.lin_search.specs.Noted.{IsKept};
+ghost use Rattle.lin_search.specs.NextCall.{IsNext};
+ghost use Rattle.lin_search.specs.Refutation.{IsRefutedWith};
+ghost use Rattle.lin_search.specs.Memo.{IsKept};
 ghost use Rattle.lin_search.specs.Path.{Frame as PathFrame};
 ghost use Rattle.lin_search.specs.Progress.{IsProgress, IsStep, HoldsSearched, HoldsStep, IsTaken, IsRefusal, bound, work};
 
@@ -38,9 +39,12 @@ pub(crate) fn look_at<O: SeqObject, M: Memo<O>>(
     is_for_problem: bool,
 ) -> Option<Longest>
     requires { IsTrue is_for_problem → M.is_of memo.old problem.now }
-    ensures refuted { IfSome result (λ longest. IsRefutedWith (problem_of O.after O.State.eq O.Reply.eq problem.now) config.now.lifted config.now.state longest) }
+    ensures refuted { IfSome result (λ longest. IsRefutedWith
+        (problem_of O.after O.State.eq O.Reply.eq problem.now) config.now.lifted config.now.state
+        longest) }
     ensures held { IfSome result (λ longest. M.holds memo.new config.now.lifted config.now.state) }
-    ensures only { (set : List Bool) (s : O.State) → M.holds memo.new set s → M.holds memo.old set s }
+    ensures only { (set : List Bool) (s : O.State) → M.holds memo.new set s
+        → M.holds memo.old set s }
     ensures changes { M.changes memo.old memo.new }
 {
     if is_for_problem {
@@ -59,8 +63,12 @@ fn note_at<O: SeqObject, M: Memo<O>>(
     is_for_problem: bool,
 ) -> Noted
     requires of { IsTrue is_for_problem → M.is_of memo.old problem.now }
-    requires refuted { IsRefutedWith (problem_of O.after O.State.eq O.Reply.eq problem.now) config.lifted config.state longest }
-    ensures holds { IsKept result → (frames : List (PathFrame O.State)) → HoldsSearched (problem_of O.after O.State.eq O.Reply.eq problem.now) (M.holds memo.old) frames config None → HoldsSearched (problem_of O.after O.State.eq O.Reply.eq problem.now) (M.holds memo.new) frames config None × M.holds memo.new config.lifted config.state }
+    requires refuted { IsRefutedWith (problem_of O.after O.State.eq O.Reply.eq problem.now)
+        config.lifted config.state longest }
+    ensures holds { IsKept result → (frames : List (PathFrame O.State))
+        → HoldsSearched (problem_of O.after O.State.eq O.Reply.eq problem.now) (M.holds memo.old)
+        frames config None → HoldsSearched (problem_of O.after O.State.eq O.Reply.eq problem.now)
+        (M.holds memo.new) frames config None × M.holds memo.new config.lifted config.state }
     ensures changes { M.changes memo.old memo.new }
 {
     lawful::<O>();
@@ -113,13 +121,30 @@ fn visit<O: SeqObject, M: Memo<O>>(
     is_for_problem: bool,
 ) -> Result<ControlFlow<Outcome, Position<O>>, AllocError>
     requires of { IsTrue is_for_problem → M.is_of memo.old path.old.entries.problem }
-    requires progress { (root : Configuration O.State) × (limit left : Option ℕ) × IsProgress (problem_of O.after O.State.eq O.Reply.eq path.old.entries.problem) root limit path.old.entries.lifted path.old.frames.items left frame.config frame.longest (Some frame.call) }
+    requires progress { (root : Configuration O.State) × (limit left : Option ℕ)
+        × IsProgress (problem_of O.after O.State.eq O.Reply.eq path.old.entries.problem) root limit
+        path.old.entries.lifted path.old.frames.items left frame.config frame.longest
+        (Some frame.call) }
     requires lifted { child.lifted ≡ with_call frame.config.lifted frame.call }
-    requires next { IsNext (problem_of O.after O.State.eq O.Reply.eq path.old.entries.problem) frame.config.lifted frame.config.state frame.call child.state }
-    requires reachable { IsReachable (problem_of O.after O.State.eq O.Reply.eq path.old.entries.problem) child.lifted child.state }
+    requires next { IsNext (problem_of O.after O.State.eq O.Reply.eq path.old.entries.problem)
+        frame.config.lifted frame.config.state frame.call child.state }
+    requires reachable { IsReachable (problem_of O.after O.State.eq O.Reply.eq
+        path.old.entries.problem) child.lifted child.state }
     ensures problem { path.new.entries.problem ≡ path.old.entries.problem }
-    ensures step { IfOk result (λ step. (root : Configuration O.State) (limit left after : Option ℕ) → IsTaken left after → IsProgress (problem_of O.after O.State.eq O.Reply.eq path.old.entries.problem) root limit path.old.entries.lifted path.old.frames.items left frame.config frame.longest (Some frame.call) → IsStep (problem_of O.after O.State.eq O.Reply.eq path.old.entries.problem) root limit path.new.entries.lifted path.new.frames.items after (λ told. ⊥) (work (length path.old.entries.problem.calls) path.old.frames.items frame.config.lifted frame.call) step) }
-    ensures holds { IfOk result (λ step. (root : Configuration O.State) → HoldsSearched (problem_of O.after O.State.eq O.Reply.eq path.old.entries.problem) (M.holds memo.old) path.old.frames.items frame.config (Some frame.call) → HoldsStep (problem_of O.after O.State.eq O.Reply.eq path.old.entries.problem) root (M.holds memo.new) path.new.frames.items step) }
+    ensures step { IfOk result (λ step. (root : Configuration O.State) (limit left after : Option ℕ)
+        → IsTaken left after → IsProgress
+        (problem_of O.after O.State.eq O.Reply.eq path.old.entries.problem) root limit
+        path.old.entries.lifted path.old.frames.items left frame.config frame.longest
+        (Some frame.call)
+        → IsStep (problem_of O.after O.State.eq O.Reply.eq path.old.entries.problem) root limit
+        path.new.entries.lifted path.new.frames.items after (λ told. ⊥)
+        (work (length path.old.entries.problem.calls) path.old.frames.items frame.config.lifted
+        frame.call) step) }
+    ensures holds { IfOk result (λ step. (root : Configuration O.State)
+        → HoldsSearched (problem_of O.after O.State.eq O.Reply.eq path.old.entries.problem)
+        (M.holds memo.old) path.old.frames.items frame.config (Some frame.call)
+        → HoldsStep (problem_of O.after O.State.eq O.Reply.eq path.old.entries.problem) root
+        (M.holds memo.new) path.new.frames.items step) }
     ensures changes { M.changes memo.old memo.new }
 {
     let problem = path.problem();
@@ -147,10 +172,24 @@ fn try_call<O: SeqObject, M: Memo<O>, S: Stop>(
     stop: &mut S,
 ) -> Result<ControlFlow<Outcome, Position<O>>, AllocError>
     requires of { IsTrue is_for_problem → M.is_of memo.old path.old.entries.problem }
-    requires progress { (root : Configuration O.State) × (limit : Option ℕ) × IsProgress (problem_of O.after O.State.eq O.Reply.eq path.old.entries.problem) root limit path.old.entries.lifted path.old.frames.items left.old frame.config frame.longest (Some frame.call) }
+    requires progress { (root : Configuration O.State) × (limit : Option ℕ)
+        × IsProgress (problem_of O.after O.State.eq O.Reply.eq path.old.entries.problem) root limit
+        path.old.entries.lifted path.old.frames.items left.old frame.config frame.longest
+        (Some frame.call) }
     ensures problem { path.new.entries.problem ≡ path.old.entries.problem }
-    ensures step { IfOk result (λ step. (root : Configuration O.State) (limit : Option ℕ) → IsProgress (problem_of O.after O.State.eq O.Reply.eq path.old.entries.problem) root limit path.old.entries.lifted path.old.frames.items left.old frame.config frame.longest (Some frame.call) → IsStep (problem_of O.after O.State.eq O.Reply.eq path.old.entries.problem) root limit path.new.entries.lifted path.new.frames.items left.new (S.tells stop.new) (work (length path.old.entries.problem.calls) path.old.frames.items frame.config.lifted frame.call) step) }
-    ensures holds { IfOk result (λ step. (root : Configuration O.State) → HoldsSearched (problem_of O.after O.State.eq O.Reply.eq path.old.entries.problem) (M.holds memo.old) path.old.frames.items frame.config (Some frame.call) → HoldsStep (problem_of O.after O.State.eq O.Reply.eq path.old.entries.problem) root (M.holds memo.new) path.new.frames.items step) }
+    ensures step { IfOk result (λ step. (root : Configuration O.State) (limit : Option ℕ)
+        → IsProgress (problem_of O.after O.State.eq O.Reply.eq path.old.entries.problem) root limit
+        path.old.entries.lifted path.old.frames.items left.old frame.config frame.longest
+        (Some frame.call)
+        → IsStep (problem_of O.after O.State.eq O.Reply.eq path.old.entries.problem) root limit
+        path.new.entries.lifted path.new.frames.items left.new (S.tells stop.new)
+        (work (length path.old.entries.problem.calls) path.old.frames.items frame.config.lifted
+        frame.call) step) }
+    ensures holds { IfOk result (λ step. (root : Configuration O.State)
+        → HoldsSearched (problem_of O.after O.State.eq O.Reply.eq path.old.entries.problem)
+        (M.holds memo.old) path.old.frames.items frame.config (Some frame.call)
+        → HoldsStep (problem_of O.after O.State.eq O.Reply.eq path.old.entries.problem) root
+        (M.holds memo.new) path.new.frames.items step) }
     ensures changes { M.changes memo.old memo.new }
     ensures stop { S.follows stop.old stop.new }
 {
@@ -172,6 +211,16 @@ struct Tally {
     whole: bool,
 }
 
+impl Tally {
+    // Counts what became of a refutation that was handed to the memo.
+    fn add(&mut self, noted: Noted)
+        ensures left { self.new.left ≡ self.old.left }
+        ensures whole { IsTrue self.new.whole → IsTrue self.old.whole × IsKept noted }
+    {
+        self.whole = self.whole && noted.is_kept();
+    }
+}
+
 // One step of a search: tries the candidate. Where none is left, the configuration is refuted: hands it to the memo,
 // and goes back.
 fn step<O: SeqObject, M: Memo<O>, S: Stop>(
@@ -184,18 +233,37 @@ fn step<O: SeqObject, M: Memo<O>, S: Stop>(
     stop: &mut S,
 ) -> Result<ControlFlow<Outcome, Position<O>>, AllocError>
     requires of { IsTrue is_for_problem → M.is_of memo.old path.old.entries.problem }
-    requires progress { (root : Configuration O.State) × (limit : Option ℕ) × IsProgress (problem_of O.after O.State.eq O.Reply.eq path.old.entries.problem) root limit path.old.entries.lifted path.old.frames.items tally.old.left position.config position.longest position.candidate }
+    requires progress { (root : Configuration O.State) × (limit : Option ℕ)
+        × IsProgress (problem_of O.after O.State.eq O.Reply.eq path.old.entries.problem) root limit
+        path.old.entries.lifted path.old.frames.items tally.old.left position.config
+        position.longest position.candidate }
     ensures problem { path.new.entries.problem ≡ path.old.entries.problem }
-    ensures step { IfOk result (λ step. (root : Configuration O.State) (limit : Option ℕ) → IsProgress (problem_of O.after O.State.eq O.Reply.eq path.old.entries.problem) root limit path.old.entries.lifted path.old.frames.items tally.old.left position.config position.longest position.candidate → IsStep (problem_of O.after O.State.eq O.Reply.eq path.old.entries.problem) root limit path.new.entries.lifted path.new.frames.items tally.new.left (S.tells stop.new) (work (length path.old.entries.problem.calls) path.old.frames.items position.config.lifted (bound (problem_of O.after O.State.eq O.Reply.eq path.old.entries.problem) position.candidate)) step) }
+    ensures step { IfOk result (λ step. (root : Configuration O.State) (limit : Option ℕ)
+        → IsProgress (problem_of O.after O.State.eq O.Reply.eq path.old.entries.problem) root limit
+        path.old.entries.lifted path.old.frames.items tally.old.left position.config
+        position.longest position.candidate
+        → IsStep (problem_of O.after O.State.eq O.Reply.eq path.old.entries.problem) root limit
+        path.new.entries.lifted path.new.frames.items tally.new.left (S.tells stop.new)
+        (work (length path.old.entries.problem.calls) path.old.frames.items position.config.lifted
+        (bound (problem_of O.after O.State.eq O.Reply.eq path.old.entries.problem)
+        position.candidate)) step) }
     ensures whole { IsTrue tally.new.whole → IsTrue tally.old.whole }
-    ensures holds { IfOk result (λ step. IsTrue tally.new.whole → (root : Configuration O.State) (limit : Option ℕ) → IsProgress (problem_of O.after O.State.eq O.Reply.eq path.old.entries.problem) root limit path.old.entries.lifted path.old.frames.items tally.old.left position.config position.longest position.candidate → HoldsSearched (problem_of O.after O.State.eq O.Reply.eq path.old.entries.problem) (M.holds memo.old) path.old.frames.items position.config position.candidate → HoldsStep (problem_of O.after O.State.eq O.Reply.eq path.old.entries.problem) root (M.holds memo.new) path.new.frames.items step) }
+    ensures holds { IfOk result (λ step. IsTrue tally.new.whole
+        → (root : Configuration O.State) (limit : Option ℕ)
+        → IsProgress (problem_of O.after O.State.eq O.Reply.eq path.old.entries.problem) root limit
+        path.old.entries.lifted path.old.frames.items tally.old.left position.config
+        position.longest position.candidate
+        → HoldsSearched (problem_of O.after O.State.eq O.Reply.eq path.old.entries.problem)
+        (M.holds memo.old) path.old.frames.items position.config position.candidate
+        → HoldsStep (problem_of O.after O.State.eq O.Reply.eq path.old.entries.problem) root
+        (M.holds memo.new) path.new.frames.items step) }
     ensures changes { M.changes memo.old memo.new }
     ensures stop { S.follows stop.old stop.new }
 {
     let (config, longest, candidate) = position.into_parts();
     let Some(call) = candidate else {
         let noted = note_at(path.problem(), config, longest, memo, is_for_problem);
-        tally.whole = tally.whole && noted.is_kept();
+        tally.add(noted);
         return Ok(path.backtrack(longest));
     };
     let frame = Frame::new(config, call, longest);
@@ -222,9 +290,17 @@ fn search_on<O: SeqObject, M: Memo<O>, S: Stop>(
 ) -> Result<Ended, AllocError>
     requires of { IsTrue is_for_problem → M.is_of memo.old path.old.entries.problem }
     requires frames { path.old.frames.items ≡ [] }
-    requires progress { IsProgress (problem_of O.after O.State.eq O.Reply.eq path.old.entries.problem) root.config limit path.old.entries.lifted path.old.frames.items limit root.config root.longest root.candidate }
-    ensures answer { IfOk result (λ ended. IsAnswer (problem_of O.after O.State.eq O.Reply.eq path.old.entries.problem) root.config.lifted root.config.state limit (S.tells stop.new) ended.outcome) }
-    ensures closed { IfOk result (λ ended. IsTrue ended.whole → IsRefutation ended.outcome → HoldsSearched (problem_of O.after O.State.eq O.Reply.eq path.old.entries.problem) (M.holds memo.old) [] root.config root.candidate → IsClosed (problem_of O.after O.State.eq O.Reply.eq path.old.entries.problem) (M.holds memo.new) × M.holds memo.new root.config.lifted root.config.state) }
+    requires progress { IsProgress (problem_of O.after O.State.eq O.Reply.eq
+        path.old.entries.problem) root.config limit path.old.entries.lifted path.old.frames.items
+        limit root.config root.longest root.candidate }
+    ensures answer { IfOk result (λ ended. IsAnswer
+        (problem_of O.after O.State.eq O.Reply.eq path.old.entries.problem) root.config.lifted
+        root.config.state limit (S.tells stop.new) ended.outcome) }
+    ensures closed { IfOk result (λ ended. IsTrue ended.whole → IsRefutation ended.outcome
+        → HoldsSearched (problem_of O.after O.State.eq O.Reply.eq path.old.entries.problem)
+        (M.holds memo.old) [] root.config root.candidate
+        → IsClosed (problem_of O.after O.State.eq O.Reply.eq path.old.entries.problem)
+        (M.holds memo.new) × M.holds memo.new root.config.lifted root.config.state) }
     ensures memo { M.changes memo.old memo.new }
     ensures stop { S.follows stop.old stop.new }
 {
@@ -264,12 +340,20 @@ fn search_path<O: SeqObject, M: Memo<O>, S: Stop>(
     limit: Option<u64>,
     stop: &mut S,
 ) -> Result<Ended, AllocError>
-    requires reachable { IsReachable (problem_of O.after O.State.eq O.Reply.eq path.old.entries.problem) config.lifted config.state }
-    requires lifted { lifted_set (problem_of O.after O.State.eq O.Reply.eq path.old.entries.problem) path.old.entries.lifted ≡ config.lifted }
+    requires reachable { IsReachable (problem_of O.after O.State.eq O.Reply.eq
+        path.old.entries.problem) config.lifted config.state }
+    requires lifted { lifted_set (problem_of O.after O.State.eq O.Reply.eq path.old.entries.problem)
+        path.old.entries.lifted ≡ config.lifted }
     requires frames { path.old.frames.items ≡ [] }
     requires of { IsTrue is_for_problem → M.is_of memo.old path.old.entries.problem }
-    ensures answer { IfOk result (λ ended. IsAnswer (problem_of O.after O.State.eq O.Reply.eq path.old.entries.problem) config.lifted config.state limit (S.tells stop.new) ended.outcome) }
-    ensures closed { IfOk result (λ ended. IsTrue ended.whole → IsRefutation ended.outcome → IsClosed (problem_of O.after O.State.eq O.Reply.eq path.old.entries.problem) (M.holds memo.old) → IsClosed (problem_of O.after O.State.eq O.Reply.eq path.old.entries.problem) (M.holds memo.new) × M.holds memo.new config.lifted config.state) }
+    ensures answer { IfOk result (λ ended. IsAnswer
+        (problem_of O.after O.State.eq O.Reply.eq path.old.entries.problem) config.lifted
+        config.state limit (S.tells stop.new) ended.outcome) }
+    ensures closed { IfOk result (λ ended. IsTrue ended.whole → IsRefutation ended.outcome
+        → IsClosed (problem_of O.after O.State.eq O.Reply.eq path.old.entries.problem)
+        (M.holds memo.old)
+        → IsClosed (problem_of O.after O.State.eq O.Reply.eq path.old.entries.problem)
+        (M.holds memo.new) × M.holds memo.new config.lifted config.state) }
     ensures memo { M.changes memo.old memo.new }
     ensures stop { S.follows stop.old stop.new }
 {
@@ -301,10 +385,16 @@ pub(crate) fn search_from<O: SeqObject, M: Memo<O>, S: Stop>(
     limit: Option<u64>,
     stop: &mut S,
 ) -> Result<Ended, AllocError>
-    requires reachable { IsReachable (problem_of O.after O.State.eq O.Reply.eq problem.now) config.lifted config.state }
+    requires reachable { IsReachable (problem_of O.after O.State.eq O.Reply.eq problem.now)
+        config.lifted config.state }
     requires of { IsTrue is_for_problem → M.is_of memo.old problem.now }
-    ensures answer { IfOk result (λ ended. IsAnswer (problem_of O.after O.State.eq O.Reply.eq problem.now) config.lifted config.state limit (S.tells stop.new) ended.outcome) }
-    ensures closed { IfOk result (λ ended. IsTrue ended.whole → IsRefutation ended.outcome → IsClosed (problem_of O.after O.State.eq O.Reply.eq problem.now) (M.holds memo.old) → IsClosed (problem_of O.after O.State.eq O.Reply.eq problem.now) (M.holds memo.new) × M.holds memo.new config.lifted config.state) }
+    ensures answer { IfOk result (λ ended. IsAnswer
+        (problem_of O.after O.State.eq O.Reply.eq problem.now) config.lifted config.state limit
+        (S.tells stop.new) ended.outcome) }
+    ensures closed { IfOk result (λ ended. IsTrue ended.whole → IsRefutation ended.outcome
+        → IsClosed (problem_of O.after O.State.eq O.Reply.eq problem.now) (M.holds memo.old)
+        → IsClosed (problem_of O.after O.State.eq O.Reply.eq problem.now) (M.holds memo.new)
+        × M.holds memo.new config.lifted config.state) }
     ensures memo { M.changes memo.old memo.new }
     ensures stop { S.follows stop.old stop.new }
 {
@@ -331,8 +421,10 @@ pub fn search<O: SeqObject, M: Memo<O>, S: Stop>(
     limit: Option<u64>,
     stop: &mut S,
 ) -> Result<Outcome, AllocError>
-    requires { IsReachable (problem_of O.after O.State.eq O.Reply.eq problem.now) config.now.lifted config.now.state }
-    ensures answer { IfOk result (IsAnswer (problem_of O.after O.State.eq O.Reply.eq problem.now) config.now.lifted config.now.state limit (S.tells stop.new)) }
+    requires { IsReachable (problem_of O.after O.State.eq O.Reply.eq problem.now) config.now.lifted
+        config.now.state }
+    ensures answer { IfOk result (IsAnswer (problem_of O.after O.State.eq O.Reply.eq problem.now)
+        config.now.lifted config.now.state limit (S.tells stop.new)) }
     ensures memo { M.changes memo.old memo.new }
     ensures stop { S.follows stop.old stop.new }
 {

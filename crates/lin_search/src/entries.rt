@@ -1,14 +1,15 @@
+//! The list of call and return entries from which calls are lifted (Wing and Gong 1993).
 ghost use Rattle.std.specs.Prelude.{◌≡◌, ℕ, ◌+◌, ◌-◌, ◌<◌, ◌++◌, ◌∷◌, ◌↔◌, [], List, false, length, slice_get, IfOk, IsTrue};
 ghost use Rattle.lin_history.specs.Problems.Problem.{problem_of};
 ghost use Rattle.lin_history.specs.Problems.Continuations.{has};
 ghost use Rattle.lin_search.specs.CallSet.{lifted_set};
-ghost use Rattle.lin_search.specs.Next.{HasEveryCompleted};
+ghost use Rattle.lin_search.specs.NextCall.{HasEveryCompleted};
 ghost use Rattle.lin_search.specs.Entries.{IsMinimal, IsLeastMinimal};
-ghost use Rattle.lin_search.specs.Places.{without_call, with_call_entries};
-ghost use Rattle.lin_search.specs.Entered.{CanTakeOut, CanPutBack, called_at, count_completed};
+ghost use Rattle.lin_search.specs.CallEntries.{without_call, with_call_entries};
+ghost use Rattle.lin_search.specs.EntryLinks.{CanTakeOut, CanPutBack, call_of_event, count_completed};
 
+use crate::call_entries::CallEntries;
 use crate::links::Links;
-use crate::places::CallPlaces;
 use lin_history::{Problem, ProblemEvent};
 use lin_object::SeqObject;
 use std::alloc::{AllocError, Global};
@@ -24,7 +25,7 @@ use std::marker::Model;
 pub struct Entries<'p, O: SeqObject> {
     problem: &'p Problem<O>,
     events: Vec<ProblemEvent>,
-    places: CallPlaces,
+    places: CallEntries,
     links: Links,
     lifted: Vec<usize>,
     left: usize,
@@ -32,16 +33,17 @@ pub struct Entries<'p, O: SeqObject> {
 
 impl<'p, O: SeqObject> Model for Entries<'p, O> {
     ghost use Rattle.std.specs.Prelude.{vec_capacity};
-    ghost use Rattle.lin_search.specs.Entries.{Lifting};
+    ghost use Rattle.lin_search.specs.Entries.{LiftedCalls};
 
-    ghost Value = { Lifting O O.State O.Op O.Reply };
+    ghost Value = { LiftedCalls O O.State O.Op O.Reply };
 
     ghost use Rattle.lin_history.specs.Problems.Problem.{problem_of};
-    ghost use Rattle.lin_search.specs.Entered.{AreEntries};
+    ghost use Rattle.lin_search.specs.EntryLinks.{AreEntries};
 
     ghost view = { λ e. record { problem = e.problem.now; lifted = e.lifted.items } };
 
-    ghost invariant = { λ e. AreEntries (problem_of O.after O.State.eq O.Reply.eq e.problem.now) e.events.items e.places e.links e.lifted.items (vec_capacity e.lifted) e.left };
+    ghost invariant = { λ e. AreEntries (problem_of O.after O.State.eq O.Reply.eq e.problem.now)
+        e.events.items e.places e.links e.lifted.items (vec_capacity e.lifted) e.left };
 }
 
 // How many calls are completed.
@@ -60,7 +62,7 @@ fn completed_calls<O: SeqObject>(problem: &Problem<O>) -> usize
 // The call of the entry, if it is a call entry.
 fn call_at(events: &[ProblemEvent], entry: usize) -> Option<usize>
     requires { 0 < entry }
-    ensures { result ≡ called_at (slice_get events.now (entry - 1)) }
+    ensures { result ≡ call_of_event (slice_get events.now (entry - 1)) }
 {
     match events.get(entry - 1) {
         Some(ProblemEvent::Call(call)) => Some(*call),
@@ -70,7 +72,7 @@ fn call_at(events: &[ProblemEvent], entry: usize) -> Option<usize>
 }
 
 // Takes the entries of the call out.
-fn take_out(links: &mut Links, places: &CallPlaces, call: usize)
+fn take_out(links: &mut Links, places: &CallEntries, call: usize)
     requires called { call < length places.now.called }
     requires returned { call < length places.now.returned }
     requires links { CanTakeOut places.now links.old call }
@@ -83,7 +85,7 @@ fn take_out(links: &mut Links, places: &CallPlaces, call: usize)
 }
 
 // Puts the entries of the call, which were taken out last, in again.
-fn put_back(links: &mut Links, places: &CallPlaces, call: usize)
+fn put_back(links: &mut Links, places: &CallEntries, call: usize)
     requires called { call < length places.now.called }
     requires returned { call < length places.now.returned }
     requires links { CanPutBack places.now links.old call }
@@ -101,7 +103,7 @@ impl<'p, O: SeqObject> Entries<'p, O> {
         ensures { IfOk result (λ entries. entries ≡ record { problem = problem.now; lifted = [] }) }
     {
         let events = problem.timeline(alloc)?;
-        let places = CallPlaces::of(alloc, problem.len(), events.as_slice())?;
+        let places = CallEntries::of(alloc, problem.len(), events.as_slice())?;
         let links = Links::row(alloc, events.len())?;
         let lifted = Vec::with_capacity(alloc, problem.len())?;
         Ok(Entries {
@@ -125,8 +127,13 @@ impl<'p, O: SeqObject> Entries<'p, O> {
     /// constant time and no memory.
     pub fn lift(&mut self, call: usize)
         requires within { call < length self.old.problem.calls }
-        requires outside { has (lifted_set (problem_of O.after O.State.eq O.Reply.eq self.old.problem) self.old.lifted) call ≡ false }
-        ensures { self.new ≡ record { problem = self.old.problem; lifted = self.old.lifted ++ call ∷ [] } }
+        requires outside { has
+            (lifted_set (problem_of O.after O.State.eq O.Reply.eq self.old.problem) self.old.lifted)
+            call ≡ false }
+        ensures { self.new ≡ record {
+          problem = self.old.problem;
+          lifted = self.old.lifted ++ call ∷ [];
+        } }
     {
         take_out(&mut self.links, &self.places, call);
         if self.problem.call(call).returned.is_some() {
@@ -139,7 +146,8 @@ impl<'p, O: SeqObject> Entries<'p, O> {
     /// constant time and no memory.
     pub fn unlift(&mut self, call: usize)
         requires last { (before : List ℕ) × (self.old.lifted ≡ before ++ call ∷ []) }
-        ensures { (before : List ℕ) → self.old.lifted ≡ before ++ call ∷ [] → self.new ≡ record { problem = self.old.problem; lifted = before } }
+        ensures { (before : List ℕ) → self.old.lifted ≡ before ++ call ∷ []
+            → self.new ≡ record { problem = self.old.problem; lifted = before } }
     {
         put_back(&mut self.links, &self.places, call);
         if self.problem.call(call).returned.is_some() {
@@ -150,15 +158,21 @@ impl<'p, O: SeqObject> Entries<'p, O> {
 
     /// The least minimal call: a call that is not lifted and that no other such call precedes. It takes constant time.
     pub fn first_minimal(&self) -> Option<usize>
-        ensures { IsLeastMinimal (problem_of O.after O.State.eq O.Reply.eq self.now.problem) (lifted_set (problem_of O.after O.State.eq O.Reply.eq self.now.problem) self.now.lifted) 0 result }
+        ensures { IsLeastMinimal (problem_of O.after O.State.eq O.Reply.eq self.now.problem)
+            (lifted_set (problem_of O.after O.State.eq O.Reply.eq self.now.problem) self.now.lifted)
+            0 result }
     {
         call_at(self.events.as_slice(), self.links.next(0))
     }
 
     /// The least minimal call after this one. Condition: this one is minimal. It takes constant time.
     pub fn next_minimal(&self, call: usize) -> Option<usize>
-        requires { IsMinimal (problem_of O.after O.State.eq O.Reply.eq self.now.problem) (lifted_set (problem_of O.after O.State.eq O.Reply.eq self.now.problem) self.now.lifted) call }
-        ensures { IsLeastMinimal (problem_of O.after O.State.eq O.Reply.eq self.now.problem) (lifted_set (problem_of O.after O.State.eq O.Reply.eq self.now.problem) self.now.lifted) (call + 1) result }
+        requires { IsMinimal (problem_of O.after O.State.eq O.Reply.eq self.now.problem)
+            (lifted_set (problem_of O.after O.State.eq O.Reply.eq self.now.problem) self.now.lifted)
+            call }
+        ensures { IsLeastMinimal (problem_of O.after O.State.eq O.Reply.eq self.now.problem)
+            (lifted_set (problem_of O.after O.State.eq O.Reply.eq self.now.problem) self.now.lifted)
+            (call + 1) result }
     {
         let entry = self.places.called(call);
         call_at(self.events.as_slice(), self.links.next(entry))
@@ -166,7 +180,10 @@ impl<'p, O: SeqObject> Entries<'p, O> {
 
     // Whether every completed call is lifted. It takes constant time.
     pub(crate) fn is_complete(&self) -> bool
-        ensures { IsTrue result ↔ HasEveryCompleted (problem_of O.after O.State.eq O.Reply.eq self.now.problem) (lifted_set (problem_of O.after O.State.eq O.Reply.eq self.now.problem) self.now.lifted) }
+        ensures { IsTrue result ↔ HasEveryCompleted
+            (problem_of O.after O.State.eq O.Reply.eq self.now.problem)
+            (lifted_set (problem_of O.after O.State.eq O.Reply.eq self.now.problem)
+            self.now.lifted) }
     {
         self.left == 0
     }

@@ -2,7 +2,7 @@
 //! (Wing and Gong 1993; Lowe 2017).
 #![tactic(auto)]
 
-mod alone;
+mod call_entries;
 mod call_set;
 mod config;
 mod depth_first;
@@ -13,13 +13,12 @@ mod longest_runs;
 mod memo;
 mod outcome;
 mod own_memo;
+mod own_search;
 mod path;
-mod places;
 mod plain;
 mod refutation;
 mod stop;
 
-pub use alone::search_alone;
 pub use call_set::CallSet;
 pub use config::Config;
 pub use depth_first::search;
@@ -29,6 +28,7 @@ pub use longest_runs::longest_run;
 pub use memo::{Memo, Noted};
 pub use outcome::Outcome;
 pub use own_memo::OwnMemo;
+pub use own_search::search_alone;
 pub use plain::search_plain;
 pub use refutation::Refutation;
 pub use stop::{NoStop, Stop};

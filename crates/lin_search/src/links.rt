@@ -1,3 +1,4 @@
+//! The links of a list both ways, by index.
 ghost use Rattle.std.specs.Prelude.{◌≡◌, ◌<◌, ◌^◌, length, slice_index, IfOk};
 ghost use Rattle.lin_search.specs.Links.{without, with_entry, HasLinks, IsRow};
 

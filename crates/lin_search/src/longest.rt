@@ -1,3 +1,4 @@
+//! What the longest continuations of a configuration tell.
 ghost use Rattle.std.specs.Prelude.{◌≡◌, ℕ, ◌+◌, ◌<◌, ◌≤◌, Some, None};
 
 /// What the longest continuations of a configuration tell of it.
@@ -23,7 +24,8 @@ impl Longest {
     // With the continuations that begin with one call more, which leads to where `deep` is the longest.
     pub(crate) fn or_after(self, call: usize, deep: Longest) -> Longest
         requires { deep.more < 18446744073709551615 }
-        ensures longer { self.more < deep.more + 1 → result ≡ record { more = deep.more + 1; first = Some call } }
+        ensures longer { self.more < deep.more + 1 → result
+            ≡ record { more = deep.more + 1; first = Some call } }
         ensures not_longer { deep.more + 1 ≤ self.more → result ≡ self }
     {
         let more = deep.more + 1;

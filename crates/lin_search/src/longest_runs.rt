@@ -1,3 +1,4 @@
+//! The longest run of a problem that has no linearization.
 ghost use Rattle.std.specs.Prelude.{ℕ, List, IfOk, IsTrue};
 ghost use Rattle.lin_history.specs.Problems.Lists.{IsLongest};
 ghost use Rattle.lin_history.specs.Problems.Problem.{problem_of};
@@ -26,10 +27,14 @@ fn longest_of<O: SeqObject, M: Memo<O>>(
     memo: &mut M,
     is_for_problem: bool,
 ) -> Result<Longest, AllocError>
-    requires reachable { IsReachable (problem_of O.after O.State.eq O.Reply.eq problem.now) config.now.lifted config.now.state }
-    requires none { HasNoCompletion (problem_of O.after O.State.eq O.Reply.eq problem.now) config.now.lifted config.now.state }
+    requires reachable { IsReachable (problem_of O.after O.State.eq O.Reply.eq problem.now)
+        config.now.lifted config.now.state }
+    requires none { HasNoCompletion (problem_of O.after O.State.eq O.Reply.eq problem.now)
+        config.now.lifted config.now.state }
     requires of { IsTrue is_for_problem → M.is_of memo.old problem.now }
-    ensures longest { IfOk result (λ longest. IsLongest (IsContinuation (problem_of O.after O.State.eq O.Reply.eq problem.now) config.now.lifted config.now.state) longest.more longest.first) }
+    ensures longest { IfOk result (λ longest. IsLongest
+        (IsContinuation (problem_of O.after O.State.eq O.Reply.eq problem.now) config.now.lifted
+        config.now.state) longest.more longest.first) }
     ensures memo { M.changes memo.old memo.new }
 {
     lawful::<O>();
@@ -65,8 +70,10 @@ pub fn longest_run<O: SeqObject, M: Memo<O>>(
     problem: &Problem<O>,
     memo: &mut M,
 ) -> Result<Order, AllocError>
-    requires { (l : List ℕ) → IsLinearization (problem_of O.after O.State.eq O.Reply.eq problem.now) l → ⊥ }
-    ensures run { IfOk result (λ order. IsFirstLongest (IsRun (problem_of O.after O.State.eq O.Reply.eq problem.now)) order) }
+    requires { (l : List ℕ) → IsLinearization (problem_of O.after O.State.eq O.Reply.eq problem.now)
+        l → ⊥ }
+    ensures run { IfOk result (λ order. IsFirstLongest
+        (IsRun (problem_of O.after O.State.eq O.Reply.eq problem.now)) order) }
     ensures memo { M.changes memo.old memo.new }
 {
     lawful::<O>();

@@ -1,3 +1,4 @@
+//! The outcomes of a search.
 use crate::longest::Longest;
 use lin_history::Order;
 

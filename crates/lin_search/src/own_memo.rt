@@ -1,8 +1,9 @@
+//! A memo that keeps all that it is handed, in a map.
 ghost use Rattle.std.specs.Prelude.{◌≡◌, ◌++◌, ◌∷◌, ◌⊎◌, ◌↔◌, [], Bool, List, true, IfSome, IsSome, IsTrue, length};
 ghost use Rattle.lin_history.specs.Problems.Problem.{problem_of};
 ghost use Rattle.lin_history.specs.Problems.SameProblem.{SameProblem};
-ghost use Rattle.lin_search.specs.Refuted.{IsRefutedWith};
-ghost use Rattle.lin_search.specs.Noted.{IsKept};
+ghost use Rattle.lin_search.specs.Refutation.{IsRefutedWith};
+ghost use Rattle.lin_search.specs.Memo.{IsKept};
 ghost use Rattle.lin_search.specs.Store.{Holds, IsNoted, IsStore, IsGrown};
 ghost use Rattle.lin_search.specs.declared.memo.Noted.TheVariants.{New};
 
@@ -25,7 +26,7 @@ use std::marker::Model;
 #[derive(Drop)]
 pub struct OwnMemo<'p, O: SeqObject> {
     problem: &'p Problem<O>,
-    entries: IndexMap<Config<O>, Longest>,
+    pairs: IndexMap<Config<O>, Longest>,
 }
 
 impl<'p, O: SeqObject> Model for OwnMemo<'p, O> {
@@ -36,9 +37,10 @@ impl<'p, O: SeqObject> Model for OwnMemo<'p, O> {
     ghost use Rattle.lin_history.specs.Problems.Problem.{problem_of};
     ghost use Rattle.lin_search.specs.Store.{IsStore};
 
-    ghost view = { λ m. record { problem = m.problem.now; pairs = m.entries.entries } };
+    ghost view = { λ m. record { problem = m.problem.now; pairs = m.pairs.entries } };
 
-    ghost invariant = { λ m. IsStore (problem_of O.after O.State.eq O.Reply.eq m.problem.now) m.entries.entries };
+    ghost invariant = { λ m. IsStore (problem_of O.after O.State.eq O.Reply.eq m.problem.now)
+        m.pairs.entries };
 }
 
 impl<'p, O: SeqObject> OwnMemo<'p, O> {
@@ -48,38 +50,44 @@ impl<'p, O: SeqObject> OwnMemo<'p, O> {
     {
         OwnMemo {
             problem,
-            entries: IndexMap::new(alloc),
+            pairs: IndexMap::new(alloc),
         }
     }
 
     /// How many configurations are stored.
     pub fn count(&self) -> u64
         ensures count { result ≡ length self.now.pairs }
-        ensures store { IsStore (problem_of O.after O.State.eq O.Reply.eq self.now.problem) self.now.pairs }
+        ensures store { IsStore (problem_of O.after O.State.eq O.Reply.eq self.now.problem)
+            self.now.pairs }
     {
-        self.entries.len() as u64
+        self.pairs.len() as u64
     }
 
     // What is stored with the configuration.
     fn find(&self, config: &Config<O>) -> Option<Longest>
-        ensures refuted { IfSome result (λ longest. IsRefutedWith (problem_of O.after O.State.eq O.Reply.eq self.now.problem) config.now.lifted config.now.state longest) }
-        ensures exact { IsSome result ↔ Holds O.State.eq self.now.pairs config.now.lifted config.now.state }
+        ensures refuted { IfSome result (λ longest. IsRefutedWith
+            (problem_of O.after O.State.eq O.Reply.eq self.now.problem) config.now.lifted
+            config.now.state longest) }
+        ensures exact { IsSome result ↔ Holds O.State.eq self.now.pairs config.now.lifted
+            config.now.state }
     {
         lawful::<O>();
-        self.entries.get(config).copied()
+        self.pairs.get(config).copied()
     }
 
     // Stores a configuration of the problem that the memo names.
     fn add(&mut self, config: Config<O>, longest: Longest) -> Noted
-        requires { IsRefutedWith (problem_of O.after O.State.eq O.Reply.eq self.old.problem) config.lifted config.state longest }
+        requires { IsRefutedWith (problem_of O.after O.State.eq O.Reply.eq self.old.problem)
+            config.lifted config.state longest }
         ensures problem { self.new.problem ≡ self.old.problem }
-        ensures exact { IsNoted O.State.eq (Unit {0}) self.old.pairs self.new.pairs config longest result }
+        ensures exact { IsNoted O.State.eq (Unit {0}) self.old.pairs self.new.pairs config longest
+            result }
     {
         lawful::<O>();
-        if self.entries.contains_key(&config) {
+        if self.pairs.contains_key(&config) {
             return Noted::Known;
         }
-        match self.entries.insert(config, longest) {
+        match self.pairs.insert(config, longest) {
             Ok(_) => Noted::New,
             Err(_) => Noted::NoRoom,
         }
@@ -88,8 +96,12 @@ impl<'p, O: SeqObject> OwnMemo<'p, O> {
     /// What the longest continuations of the configuration tell: `Some` exactly where the configuration is
     /// stored and the problem that the memo names is the `same` as this one. It takes no memory.
     pub fn look(&self, problem: &Problem<O>, config: &Config<O>) -> Option<Longest>
-        ensures refuted { IfSome result (λ longest. IsRefutedWith (problem_of O.after O.State.eq O.Reply.eq problem.now) config.now.lifted config.now.state longest) }
-        ensures exact { IsSome result ↔ (SameProblem O.eq O.State.eq O.Op.eq O.Reply.eq self.now.problem problem.now × Holds O.State.eq self.now.pairs config.now.lifted config.now.state) }
+        ensures refuted { IfSome result (λ longest. IsRefutedWith
+            (problem_of O.after O.State.eq O.Reply.eq problem.now) config.now.lifted
+            config.now.state longest) }
+        ensures exact { IsSome result
+            ↔ (SameProblem O.eq O.State.eq O.Op.eq O.Reply.eq self.now.problem problem.now
+            × Holds O.State.eq self.now.pairs config.now.lifted config.now.state) }
     {
         lawful::<O>();
         if self.problem.same(problem) {
@@ -107,16 +119,24 @@ impl<'p, O: SeqObject> Memo<O> for OwnMemo<'p, O> {
 
     ghost holds = { λ m. Holds O.State.eq m.pairs };
 
-    ghost answers = { λ old p config longest noted new. IsNoted O.State.eq (SameProblem O.eq O.State.eq O.Op.eq O.Reply.eq old.problem p) old.pairs new.pairs config longest noted };
+    ghost answers = { λ old p config longest noted new. IsNoted O.State.eq
+        (SameProblem O.eq O.State.eq O.Op.eq O.Reply.eq old.problem p) old.pairs new.pairs config
+        longest noted };
 
     ghost is_of = { λ m. SameProblem O.eq O.State.eq O.Op.eq O.Reply.eq m.problem };
 
     fn look(&mut self, problem: &Problem<O>, config: &Config<O>) -> Option<Longest>
-        ensures refuted { IfSome result (λ longest. IsRefutedWith (problem_of O.after O.State.eq O.Reply.eq problem.now) config.now.lifted config.now.state longest) }
-        ensures held { IfSome result (λ longest. Holds O.State.eq self.new.pairs config.now.lifted config.now.state) }
-        ensures only { (set : List Bool) (s : O.State) → Holds O.State.eq self.new.pairs set s → Holds O.State.eq self.old.pairs set s }
+        ensures refuted { IfSome result (λ longest. IsRefutedWith
+            (problem_of O.after O.State.eq O.Reply.eq problem.now) config.now.lifted
+            config.now.state longest) }
+        ensures held { IfSome result (λ longest. Holds O.State.eq self.new.pairs config.now.lifted
+            config.now.state) }
+        ensures only { (set : List Bool) (s : O.State) → Holds O.State.eq self.new.pairs set s
+            → Holds O.State.eq self.old.pairs set s }
         ensures changes { IsGrown self.old self.new }
-        ensures exact { IsSome result ↔ (SameProblem O.eq O.State.eq O.Op.eq O.Reply.eq self.old.problem problem.now × Holds O.State.eq self.old.pairs config.now.lifted config.now.state) }
+        ensures exact { IsSome result
+            ↔ (SameProblem O.eq O.State.eq O.Op.eq O.Reply.eq self.old.problem problem.now
+            × Holds O.State.eq self.old.pairs config.now.lifted config.now.state) }
         ensures same { self.new ≡ self.old }
     {
         OwnMemo::look(self, problem, config)
@@ -129,10 +149,15 @@ impl<'p, O: SeqObject> Memo<O> for OwnMemo<'p, O> {
         state: O::State,
         longest: Longest,
     ) -> Noted
-        requires { IsRefutedWith (problem_of O.after O.State.eq O.Reply.eq problem.now) lifted state longest }
+        requires { IsRefutedWith (problem_of O.after O.State.eq O.Reply.eq problem.now) lifted state
+            longest }
         ensures held { IsKept result → Holds O.State.eq self.new.pairs lifted state }
-        ensures exact { IsNoted O.State.eq (SameProblem O.eq O.State.eq O.Op.eq O.Reply.eq self.old.problem problem.now) self.old.pairs self.new.pairs (record { lifted = lifted; state = state }) longest result }
-        ensures only { (set : List Bool) (s : O.State) → Holds O.State.eq self.new.pairs set s → Holds O.State.eq self.old.pairs set s ⊎ ((result ≡ New) × (set ≡ lifted) × (O.State.eq s state ≡ true)) }
+        ensures exact { IsNoted O.State.eq (SameProblem O.eq O.State.eq O.Op.eq O.Reply.eq
+            self.old.problem problem.now) self.old.pairs self.new.pairs
+            (record { lifted = lifted; state = state }) longest result }
+        ensures only { (set : List Bool) (s : O.State) → Holds O.State.eq self.new.pairs set s
+            → Holds O.State.eq self.old.pairs set s
+            ⊎ ((result ≡ New) × (set ≡ lifted) × (O.State.eq s state ≡ true)) }
         ensures changes { IsGrown self.old self.new }
     {
         lawful::<O>();
@@ -143,7 +168,8 @@ impl<'p, O: SeqObject> Memo<O> for OwnMemo<'p, O> {
     }
 
     fn is_for(&self, problem: &Problem<O>) -> bool
-        ensures { IsTrue result ↔ SameProblem O.eq O.State.eq O.Op.eq O.Reply.eq self.now.problem problem.now }
+        ensures { IsTrue result ↔ SameProblem O.eq O.State.eq O.Op.eq O.Reply.eq self.now.problem
+            problem.now }
     {
         let named = self.problem;
         named.same(problem)
@@ -151,11 +177,16 @@ impl<'p, O: SeqObject> Memo<O> for OwnMemo<'p, O> {
 
     fn look_here(&mut self, problem: &Problem<O>, config: &Config<O>) -> Option<Longest>
         requires { SameProblem O.eq O.State.eq O.Op.eq O.Reply.eq self.old.problem problem.now }
-        ensures refuted { IfSome result (λ longest. IsRefutedWith (problem_of O.after O.State.eq O.Reply.eq problem.now) config.now.lifted config.now.state longest) }
-        ensures held { IfSome result (λ longest. Holds O.State.eq self.new.pairs config.now.lifted config.now.state) }
-        ensures only { (set : List Bool) (s : O.State) → Holds O.State.eq self.new.pairs set s → Holds O.State.eq self.old.pairs set s }
+        ensures refuted { IfSome result (λ longest. IsRefutedWith
+            (problem_of O.after O.State.eq O.Reply.eq problem.now) config.now.lifted
+            config.now.state longest) }
+        ensures held { IfSome result (λ longest. Holds O.State.eq self.new.pairs config.now.lifted
+            config.now.state) }
+        ensures only { (set : List Bool) (s : O.State) → Holds O.State.eq self.new.pairs set s
+            → Holds O.State.eq self.old.pairs set s }
         ensures changes { IsGrown self.old self.new }
-        ensures exact { IsSome result ↔ Holds O.State.eq self.old.pairs config.now.lifted config.now.state }
+        ensures exact { IsSome result ↔ Holds O.State.eq self.old.pairs config.now.lifted
+            config.now.state }
         ensures same { self.new ≡ self.old }
     {
         lawful::<O>();
@@ -169,11 +200,17 @@ impl<'p, O: SeqObject> Memo<O> for OwnMemo<'p, O> {
         state: O::State,
         longest: Longest,
     ) -> Noted
-        requires here { SameProblem O.eq O.State.eq O.Op.eq O.Reply.eq self.old.problem problem.now }
-        requires refuted { IsRefutedWith (problem_of O.after O.State.eq O.Reply.eq problem.now) lifted state longest }
+        requires here { SameProblem O.eq O.State.eq O.Op.eq O.Reply.eq self.old.problem
+            problem.now }
+        requires refuted { IsRefutedWith (problem_of O.after O.State.eq O.Reply.eq problem.now)
+            lifted state longest }
         ensures held { IsKept result → Holds O.State.eq self.new.pairs lifted state }
-        ensures exact { IsNoted O.State.eq (SameProblem O.eq O.State.eq O.Op.eq O.Reply.eq self.old.problem problem.now) self.old.pairs self.new.pairs (record { lifted = lifted; state = state }) longest result }
-        ensures only { (set : List Bool) (s : O.State) → Holds O.State.eq self.new.pairs set s → Holds O.State.eq self.old.pairs set s ⊎ ((result ≡ New) × (set ≡ lifted) × (O.State.eq s state ≡ true)) }
+        ensures exact { IsNoted O.State.eq (SameProblem O.eq O.State.eq O.Op.eq O.Reply.eq
+            self.old.problem problem.now) self.old.pairs self.new.pairs
+            (record { lifted = lifted; state = state }) longest result }
+        ensures only { (set : List Bool) (s : O.State) → Holds O.State.eq self.new.pairs set s
+            → Holds O.State.eq self.old.pairs set s
+            ⊎ ((result ≡ New) × (set ≡ lifted) × (O.State.eq s state ≡ true)) }
         ensures changes { IsGrown self.old self.new }
     {
         lawful::<O>();
@@ -186,7 +223,9 @@ impl<'p, O: SeqObject> Memo<O> for OwnMemo<'p, O> {
 
     ghost lasting = { λ a b k set s h. held_grown O.State.eq a b k set s h };
 
-    ghost at_equal = { λ m set s t same h. held_at_equal O.State.eq O.State.Eq.laws m.pairs set s t same h };
+    ghost at_equal = { λ m set s t same h. held_at_equal O.State.eq O.State.Eq.laws m.pairs set s t
+        same h };
 
-    ghost keeps_problem = { λ a b k p h. named_still (λ q. SameProblem O.eq O.State.eq O.Op.eq O.Reply.eq q p) a b k h };
+    ghost keeps_problem = { λ a b k p h. named_still (λ q.
+        SameProblem O.eq O.State.eq O.Op.eq O.Reply.eq q p) a b k h };
 }

@@ -1,3 +1,4 @@
+//! The path of a search: the frames behind it, the position that it is at, and the entries left.
 ghost use Rattle.std.specs.Prelude.{◌≡◌, ℕ, ◌+◌, ◌<◌, ◌≤◌, ◌↔◌, ◌++◌, ◌∷◌, [], Bool, false, List, Option, Some, None, length, IfOk, IfSome, IfNone, IsTrue};
 ghost use Rattle.lin_history.specs.Problems.Problem.{problem_of};
 ghost use Rattle.lin_history.specs.Problems.Continuations.{has};
@@ -5,7 +6,7 @@ ghost use Rattle.lin_history.specs.Problems.Configurations.{IsReachable};
 ghost use Rattle.lin_search.specs.CallSet.{with_call, lifted_set};
 ghost use Rattle.lin_search.specs.Configuration.{Configuration};
 ghost use Rattle.lin_search.specs.Entries.{IsMinimal, IsLeastMinimal};
-ghost use Rattle.lin_search.specs.Next.{IsNext, HasEveryCompleted};
+ghost use Rattle.lin_search.specs.NextCall.{IsNext, HasEveryCompleted};
 ghost use Rattle.lin_search.specs.Path.{calls_of};
 ghost use Rattle.lin_search.specs.Progress.{IsProgress, IsStep, IsStepBack, work};
 
@@ -93,7 +94,11 @@ impl<O: SeqObject> Model for Position<O> {
 
     ghost Value = { Position O.State };
 
-    ghost view = { λ p. record { config = p.config; longest = p.longest; candidate = p.candidate } };
+    ghost view = { λ p. record {
+      config = p.config;
+      longest = p.longest;
+      candidate = p.candidate;
+    } };
 }
 
 impl<O: SeqObject> Position<O> {
@@ -124,7 +129,9 @@ impl<'p, O: SeqObject> Path<'p, O> {
     ) -> Result<Path<'p, O>, AllocError>
         requires { length config.now.lifted ≡ length problem.now.calls }
         ensures problem { IfOk result (λ path. path.entries.problem ≡ problem.now) }
-        ensures lifted { IfOk result (λ path. lifted_set (problem_of O.after O.State.eq O.Reply.eq problem.now) path.entries.lifted ≡ config.now.lifted) }
+        ensures lifted { IfOk result (λ path. lifted_set
+            (problem_of O.after O.State.eq O.Reply.eq problem.now) path.entries.lifted
+            ≡ config.now.lifted) }
         ensures frames { IfOk result (λ path. path.frames.items ≡ []) }
     {
         let mut entries = Entries::new(alloc, problem)?;
@@ -146,7 +153,10 @@ impl<'p, O: SeqObject> Path<'p, O> {
 
     // Whether every completed call is lifted.
     pub(crate) fn is_complete(&self) -> bool
-        ensures { IsTrue result ↔ HasEveryCompleted (problem_of O.after O.State.eq O.Reply.eq self.now.entries.problem) (lifted_set (problem_of O.after O.State.eq O.Reply.eq self.now.entries.problem) self.now.entries.lifted) }
+        ensures { IsTrue result ↔ HasEveryCompleted
+            (problem_of O.after O.State.eq O.Reply.eq self.now.entries.problem)
+            (lifted_set (problem_of O.after O.State.eq O.Reply.eq self.now.entries.problem)
+            self.now.entries.lifted) }
     {
         self.entries.is_complete()
     }
@@ -157,12 +167,22 @@ impl<'p, O: SeqObject> Path<'p, O> {
         alloc: Global,
         frame: &Frame<O>,
     ) -> Result<Option<Config<O>>, AllocError>
-        requires reachable { IsReachable (problem_of O.after O.State.eq O.Reply.eq self.now.entries.problem) frame.now.config.lifted frame.now.config.state }
-        requires minimal { IsMinimal (problem_of O.after O.State.eq O.Reply.eq self.now.entries.problem) frame.now.config.lifted frame.now.call }
-        ensures lifted { IfOk result (λ answer. IfSome answer (λ child. child.lifted ≡ with_call frame.now.config.lifted frame.now.call)) }
-        ensures next { IfOk result (λ answer. IfSome answer (λ child. IsNext (problem_of O.after O.State.eq O.Reply.eq self.now.entries.problem) frame.now.config.lifted frame.now.config.state frame.now.call child.state)) }
-        ensures reachable { IfOk result (λ answer. IfSome answer (λ child. IsReachable (problem_of O.after O.State.eq O.Reply.eq self.now.entries.problem) child.lifted child.state)) }
-        ensures none { IfOk result (λ answer. IfNone answer ((t : O.State) → IsNext (problem_of O.after O.State.eq O.Reply.eq self.now.entries.problem) frame.now.config.lifted frame.now.config.state frame.now.call t → ⊥)) }
+        requires reachable { IsReachable (problem_of O.after O.State.eq O.Reply.eq
+            self.now.entries.problem) frame.now.config.lifted frame.now.config.state }
+        requires minimal { IsMinimal (problem_of O.after O.State.eq O.Reply.eq
+            self.now.entries.problem) frame.now.config.lifted frame.now.call }
+        ensures lifted { IfOk result (λ answer. IfSome answer
+            (λ child. child.lifted ≡ with_call frame.now.config.lifted frame.now.call)) }
+        ensures next { IfOk result (λ answer. IfSome answer
+            (λ child. IsNext (problem_of O.after O.State.eq O.Reply.eq self.now.entries.problem)
+            frame.now.config.lifted frame.now.config.state frame.now.call child.state)) }
+        ensures reachable { IfOk result (λ answer. IfSome answer
+            (λ child. IsReachable (problem_of O.after O.State.eq O.Reply.eq
+            self.now.entries.problem) child.lifted child.state)) }
+        ensures none { IfOk result (λ answer. IfNone answer
+            ((t : O.State)
+            → IsNext (problem_of O.after O.State.eq O.Reply.eq self.now.entries.problem)
+            frame.now.config.lifted frame.now.config.state frame.now.call t → ⊥)) }
     {
         frame
             .config
@@ -171,10 +191,12 @@ impl<'p, O: SeqObject> Path<'p, O> {
 
     // The position at a configuration of which no call was tried.
     pub(crate) fn enter(&self, config: Config<O>) -> Position<O>
-        requires { lifted_set (problem_of O.after O.State.eq O.Reply.eq self.now.entries.problem) self.now.entries.lifted ≡ config.lifted }
+        requires { lifted_set (problem_of O.after O.State.eq O.Reply.eq self.now.entries.problem)
+            self.now.entries.lifted ≡ config.lifted }
         ensures config { result.config ≡ config }
         ensures longest { result.longest ≡ record { more = 0; first = None } }
-        ensures candidate { IsLeastMinimal (problem_of O.after O.State.eq O.Reply.eq self.now.entries.problem) config.lifted 0 result.candidate }
+        ensures candidate { IsLeastMinimal (problem_of O.after O.State.eq O.Reply.eq
+            self.now.entries.problem) config.lifted 0 result.candidate }
     {
         Position {
             config,
@@ -185,11 +207,14 @@ impl<'p, O: SeqObject> Path<'p, O> {
 
     // The position after the frame's call, which can't follow.
     pub(crate) fn skip(&self, frame: Frame<O>) -> Position<O>
-        requires lifted { lifted_set (problem_of O.after O.State.eq O.Reply.eq self.now.entries.problem) self.now.entries.lifted ≡ frame.config.lifted }
-        requires minimal { IsMinimal (problem_of O.after O.State.eq O.Reply.eq self.now.entries.problem) frame.config.lifted frame.call }
+        requires lifted { lifted_set (problem_of O.after O.State.eq O.Reply.eq
+            self.now.entries.problem) self.now.entries.lifted ≡ frame.config.lifted }
+        requires minimal { IsMinimal (problem_of O.after O.State.eq O.Reply.eq
+            self.now.entries.problem) frame.config.lifted frame.call }
         ensures config { result.config ≡ frame.config }
         ensures longest { result.longest ≡ frame.longest }
-        ensures candidate { IsLeastMinimal (problem_of O.after O.State.eq O.Reply.eq self.now.entries.problem) frame.config.lifted (frame.call + 1) result.candidate }
+        ensures candidate { IsLeastMinimal (problem_of O.after O.State.eq O.Reply.eq
+            self.now.entries.problem) frame.config.lifted (frame.call + 1) result.candidate }
     {
         let (config, call, longest) = frame.into_parts();
         Position {
@@ -201,16 +226,22 @@ impl<'p, O: SeqObject> Path<'p, O> {
 
     // The position after the frame's call, which was lifted last and leads to a configuration that is refuted with this longest.
     pub(crate) fn leave(&mut self, frame: Frame<O>, deep: Longest) -> Position<O>
-        requires minimal { IsMinimal (problem_of O.after O.State.eq O.Reply.eq self.old.entries.problem) frame.config.lifted frame.call }
-        requires last { (before : List ℕ) × (self.old.entries.lifted ≡ before ++ frame.call ∷ []) × (lifted_set (problem_of O.after O.State.eq O.Reply.eq self.old.entries.problem) before ≡ frame.config.lifted) }
+        requires minimal { IsMinimal (problem_of O.after O.State.eq O.Reply.eq
+            self.old.entries.problem) frame.config.lifted frame.call }
+        requires last { (before : List ℕ) × (self.old.entries.lifted ≡ before ++ frame.call ∷ [])
+            × (lifted_set (problem_of O.after O.State.eq O.Reply.eq self.old.entries.problem) before
+            ≡ frame.config.lifted) }
         requires room { deep.more < length self.old.entries.problem.calls }
         ensures problem { self.new.entries.problem ≡ self.old.entries.problem }
-        ensures lifted { (before : List ℕ) → self.old.entries.lifted ≡ before ++ frame.call ∷ [] → self.new.entries.lifted ≡ before }
+        ensures lifted { (before : List ℕ) → self.old.entries.lifted ≡ before ++ frame.call ∷ []
+            → self.new.entries.lifted ≡ before }
         ensures frames { self.new.frames ≡ self.old.frames }
         ensures config { result.config ≡ frame.config }
-        ensures longer { frame.longest.more < deep.more + 1 → result.longest ≡ record { more = deep.more + 1; first = Some frame.call } }
+        ensures longer { frame.longest.more < deep.more + 1
+            → result.longest ≡ record { more = deep.more + 1; first = Some frame.call } }
         ensures not_longer { deep.more + 1 ≤ frame.longest.more → result.longest ≡ frame.longest }
-        ensures candidate { IsLeastMinimal (problem_of O.after O.State.eq O.Reply.eq self.old.entries.problem) frame.config.lifted (frame.call + 1) result.candidate }
+        ensures candidate { IsLeastMinimal (problem_of O.after O.State.eq O.Reply.eq
+            self.old.entries.problem) frame.config.lifted (frame.call + 1) result.candidate }
     {
         let calls = self.entries.problem().len();
         prove!(deep.more < calls);
@@ -226,7 +257,9 @@ impl<'p, O: SeqObject> Path<'p, O> {
     // Lifts the call: takes its entries out.
     pub(crate) fn lift(&mut self, call: usize)
         requires within { call < length self.old.entries.problem.calls }
-        requires outside { has (lifted_set (problem_of O.after O.State.eq O.Reply.eq self.old.entries.problem) self.old.entries.lifted) call ≡ false }
+        requires outside { has
+            (lifted_set (problem_of O.after O.State.eq O.Reply.eq self.old.entries.problem)
+            self.old.entries.lifted) call ≡ false }
         ensures problem { self.new.entries.problem ≡ self.old.entries.problem }
         ensures lifted { self.new.entries.lifted ≡ self.old.entries.lifted ++ call ∷ [] }
         ensures frames { self.new.frames ≡ self.old.frames }
@@ -248,12 +281,17 @@ impl<'p, O: SeqObject> Path<'p, O> {
         frame: Frame<O>,
         child: Config<O>,
     ) -> Result<Position<O>, AllocError>
-        requires { lifted_set (problem_of O.after O.State.eq O.Reply.eq self.old.entries.problem) self.old.entries.lifted ≡ child.lifted }
+        requires { lifted_set (problem_of O.after O.State.eq O.Reply.eq self.old.entries.problem)
+            self.old.entries.lifted ≡ child.lifted }
         ensures entries { self.new.entries ≡ self.old.entries }
-        ensures frames { IfOk result (λ position. self.new.frames.items ≡ self.old.frames.items ++ frame ∷ []) }
+        ensures frames { IfOk result (λ position. self.new.frames.items
+            ≡ self.old.frames.items ++ frame ∷ []) }
         ensures config { IfOk result (λ position. position.config ≡ child) }
-        ensures longest { IfOk result (λ position. position.longest ≡ record { more = 0; first = None }) }
-        ensures candidate { IfOk result (λ position. IsLeastMinimal (problem_of O.after O.State.eq O.Reply.eq self.old.entries.problem) child.lifted 0 position.candidate) }
+        ensures longest { IfOk result (λ position. position.longest
+            ≡ record { more = 0; first = None }) }
+        ensures candidate { IfOk result (λ position. IsLeastMinimal
+            (problem_of O.after O.State.eq O.Reply.eq self.old.entries.problem) child.lifted 0
+            position.candidate) }
     {
         self.frames.push(frame)?;
         Ok(self.enter(child))
@@ -262,10 +300,19 @@ impl<'p, O: SeqObject> Path<'p, O> {
     // Goes back from a configuration all of whose calls were tried, and which is so refuted with this longest: to the
     // position after the last frame's call. Where there is no frame, the root is refuted.
     pub(crate) fn backtrack(&mut self, longest: Longest) -> ControlFlow<Outcome, Position<O>>
-        requires { (root here : Configuration O.State) × (limit left : Option ℕ) × IsProgress (problem_of O.after O.State.eq O.Reply.eq self.old.entries.problem) root limit self.old.entries.lifted self.old.frames.items left here longest None }
+        requires { (root here : Configuration O.State) × (limit left : Option ℕ)
+            × IsProgress (problem_of O.after O.State.eq O.Reply.eq self.old.entries.problem) root
+            limit self.old.entries.lifted self.old.frames.items left here longest None }
         ensures problem { self.new.entries.problem ≡ self.old.entries.problem }
-        ensures step { (root here : Configuration O.State) (limit left : Option ℕ) → IsProgress (problem_of O.after O.State.eq O.Reply.eq self.old.entries.problem) root limit self.old.entries.lifted self.old.frames.items left here longest None → IsStep (problem_of O.after O.State.eq O.Reply.eq self.old.entries.problem) root limit self.new.entries.lifted self.new.frames.items left (λ told. ⊥) (work (length self.old.entries.problem.calls) self.old.frames.items here.lifted (length self.old.entries.problem.calls)) result }
-        ensures back { IsStepBack (problem_of O.after O.State.eq O.Reply.eq self.old.entries.problem) self.old.frames.items self.new.frames.items result }
+        ensures step { (root here : Configuration O.State) (limit left : Option ℕ)
+            → IsProgress (problem_of O.after O.State.eq O.Reply.eq self.old.entries.problem) root
+            limit self.old.entries.lifted self.old.frames.items left here longest None
+            → IsStep (problem_of O.after O.State.eq O.Reply.eq self.old.entries.problem) root limit
+            self.new.entries.lifted self.new.frames.items left (λ told. ⊥)
+            (work (length self.old.entries.problem.calls) self.old.frames.items here.lifted
+            (length self.old.entries.problem.calls)) result }
+        ensures back { IsStepBack (problem_of O.after O.State.eq O.Reply.eq
+            self.old.entries.problem) self.old.frames.items self.new.frames.items result }
     {
         match self.frames.pop() {
             Some(frame) => ControlFlow::Continue(self.leave(frame, longest)),

@@ -1,3 +1,4 @@
+//! The search without a memo (Wing and Gong 1993), which tests compare the other with.
 ghost use Rattle.std.specs.Prelude.{IfOk};
 ghost use Rattle.lin_history.specs.Problems.Problem.{problem_of};
 ghost use Rattle.lin_history.specs.Problems.Configurations.{IsReachable};
@@ -20,8 +21,10 @@ pub fn search_plain<O: SeqObject>(
     problem: &Problem<O>,
     config: &Config<O>,
 ) -> Result<Outcome, AllocError>
-    requires { IsReachable (problem_of O.after O.State.eq O.Reply.eq problem.now) config.now.lifted config.now.state }
-    ensures { IfOk result (IsDecision (problem_of O.after O.State.eq O.Reply.eq problem.now) config.now.lifted config.now.state) }
+    requires { IsReachable (problem_of O.after O.State.eq O.Reply.eq problem.now) config.now.lifted
+        config.now.state }
+    ensures { IfOk result (IsDecision (problem_of O.after O.State.eq O.Reply.eq problem.now)
+        config.now.lifted config.now.state) }
 {
     if config.is_complete(problem) {
         return Ok(Outcome::Found(Order::new(Vec::new(alloc))));

@@ -1,6 +1,7 @@
+//! Refutations: refuted configurations, with what their longest continuations tell.
 ghost use Rattle.std.specs.Prelude.{◌≡◌};
 ghost use Rattle.lin_history.specs.Problems.Problem.{problem_of};
-ghost use Rattle.lin_search.specs.Refuted.{IsRefutedWith};
+ghost use Rattle.lin_search.specs.Refutation.{IsRefutedWith};
 
 use crate::config::Config;
 use crate::longest::Longest;
@@ -18,16 +19,21 @@ pub struct Refutation<'p, O: SeqObject> {
 }
 
 impl<'p, O: SeqObject> Model for Refutation<'p, O> {
-    ghost use Rattle.lin_search.specs.Refuting.{Refuting};
+    ghost use Rattle.lin_search.specs.Refutation.{Refutation};
 
-    ghost Value = { Refuting O O.State O.Op O.Reply };
+    ghost Value = { Refutation O O.State O.Op O.Reply };
 
     ghost use Rattle.lin_history.specs.Problems.Problem.{problem_of};
-    ghost use Rattle.lin_search.specs.Refuted.{IsRefutedWith};
+    ghost use Rattle.lin_search.specs.Refutation.{IsRefutedWith};
 
-    ghost view = { λ r. record { problem = r.problem.now; config = r.config; longest = r.longest } };
+    ghost view = { λ r. record {
+      problem = r.problem.now;
+      config = r.config;
+      longest = r.longest;
+    } };
 
-    ghost invariant = { λ r. IsRefutedWith (problem_of O.after O.State.eq O.Reply.eq r.problem.now) r.config.lifted r.config.state r.longest };
+    ghost invariant = { λ r. IsRefutedWith (problem_of O.after O.State.eq O.Reply.eq r.problem.now)
+        r.config.lifted r.config.state r.longest };
 }
 
 impl<'p, O: SeqObject> Refutation<'p, O> {
@@ -36,7 +42,8 @@ impl<'p, O: SeqObject> Refutation<'p, O> {
     /// Conditions: it is reachable there and has no completion, and this is what its longest continuations
     /// tell.
     pub fn new(problem: &'p Problem<O>, config: Config<O>, longest: Longest) -> Self
-        requires { IsRefutedWith (problem_of O.after O.State.eq O.Reply.eq problem.now) config.lifted config.state longest }
+        requires { IsRefutedWith (problem_of O.after O.State.eq O.Reply.eq problem.now)
+            config.lifted config.state longest }
         ensures { result ≡ record { problem = problem.now; config = config; longest = longest } }
     {
         Refutation {
@@ -63,7 +70,8 @@ impl<'p, O: SeqObject> Refutation<'p, O> {
     /// What its longest continuations tell.
     pub fn longest(&self) -> Longest
         ensures longest { result ≡ self.now.longest }
-        ensures refuted { IsRefutedWith (problem_of O.after O.State.eq O.Reply.eq self.now.problem) self.now.config.lifted self.now.config.state result }
+        ensures refuted { IsRefutedWith (problem_of O.after O.State.eq O.Reply.eq self.now.problem)
+            self.now.config.lifted self.now.config.state result }
     {
         self.longest
     }
@@ -73,7 +81,8 @@ impl<'p, O: SeqObject> Refutation<'p, O> {
         ensures problem { result.0.now ≡ self.entry.problem }
         ensures config { result.1 ≡ self.entry.config }
         ensures longest { result.2 ≡ self.entry.longest }
-        ensures refuted { IsRefutedWith (problem_of O.after O.State.eq O.Reply.eq result.0.now) result.1.lifted result.1.state result.2 }
+        ensures refuted { IsRefutedWith (problem_of O.after O.State.eq O.Reply.eq result.0.now)
+            result.1.lifted result.1.state result.2 }
     {
         (self.problem, self.config, self.longest)
     }

@@ -1,3 +1,4 @@
+//! What may stop a search.
 ghost use Rattle.std.specs.Prelude.{ℕ, IfSome};
 
 /// What a search asks before each lift: whether it is to stop.

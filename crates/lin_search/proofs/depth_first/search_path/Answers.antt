@@ -1,7 +1,7 @@
 use Rattle.std.proofs.Common.{true≢false, sym, ◌∙◌, refl}
 use Rattle.lin_history.specs.Problems.Problem.{problem_of}
 use Rattle.lin_search.proofs.ProgressLemmas.{least_none}
-use Rattle.lin_search.proofs.ClosedLemmas.{closed_look}
+use Rattle.lin_search.proofs.MemoLemmas.{closed_look}
 use Rattle.lin_search.proofs.PathLemmas.{complete_here, incomplete_here, progress_start, holds_start, ok_map}
 use Rattle.lin_search.proofs.depth_first.search_path.Goals as goal
 

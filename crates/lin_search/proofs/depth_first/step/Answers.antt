@@ -1,8 +1,6 @@
-use Rattle.std.proofs.Common.{◌≡◌, None, Option, Some, sym, ◌∙◌, true≢false, ℕ}
-use Rattle.lin_history.specs.Problems.Problem.{problem_of}
+use Rattle.std.proofs.Common.{◌≡◌, None, Some, sym, ◌∙◌}
 use Rattle.lin_search.proofs.PathLemmas.{way_refuted, step_tells, holds_back, ok_map}
 use Rattle.lin_search.proofs.depth_first.step.Goals as goal
-use Rattle.lin_search.proofs.depth_first.step.Goals.{then-tally, else-tally}
 
 pub note_at-noted-requires-clause-of : goal.note_at-noted-requires-clause-of
 note_at-noted-requires-clause-of g c = λ h. rw c.problem.ensures (c.requires.of h)
@@ -19,25 +17,17 @@ pub returns-in_default-clause-step : goal.returns-in_default-clause-step
 returns-in_default-clause-step g c =
     λ root limit k.
     let none : c.args.position.candidate ≡ None = sym c.into_parts-config.ensures.candidate ∙ c.in_default.is in
-    rw none (step_tells _ root limit _ _ _ _ _ c.backtrack.result (c.backtrack.ensures.step root c.args.position.config limit c.args.tally.now.left (rw c.into_parts-config.ensures.longest (rw none at k))))
+    rw (none, c.add.ensures.left) (step_tells _ root limit _ _ _ _ _ c.backtrack.result (c.backtrack.ensures.step root c.args.position.config limit c.args.tally.now.left (rw c.into_parts-config.ensures.longest (rw none at k))))
 
 pub returns-in_default-clause-whole : goal.returns-in_default-clause-whole
-returns-in_default-clause-whole g c =
-    λ w. elim c.if-tally.branch [
-      | then-tally v ↦ v.if-tally.true
-      | else-tally v ↦ absurd (true≢false (sym w ∙ (v.tally-is ∙ v.if-tally.false)))
-    ]
+returns-in_default-clause-whole g c = λ w. (c.add.ensures.whole w).0
 
 pub returns-in_default-clause-holds : goal.returns-in_default-clause-holds
 returns-in_default-clause-holds g c =
-    λ w root limit k h. elim c.if-tally.branch [
-      | then-tally v ↦ (
-          let none : c.args.position.candidate ≡ None = sym c.into_parts-config.ensures.candidate ∙ c.in_default.is in
-          let noted = (rw (c.problem.ensures, c.into_parts-config.ensures.config) at (c.note_at-noted.ensures.holds (v.is_kept-tally.ensures.0 (sym v.tally-is ∙ w)))) _ (rw none at h) in
-          holds_back _ (g.M.Memo.holds c.note_at-noted.new.memo) root limit _ _ _ _ c.args.position.config _ c.backtrack.result c.backtrack.ensures.back (rw none at k) noted.1 noted.0
-          )
-      | else-tally v ↦ absurd (true≢false (sym w ∙ (v.tally-is ∙ v.if-tally.false)))
-    ]
+    λ w root limit k h.
+    let none : c.args.position.candidate ≡ None = sym c.into_parts-config.ensures.candidate ∙ c.in_default.is in
+    let noted = (rw (c.problem.ensures, c.into_parts-config.ensures.config) at (c.note_at-noted.ensures.holds ((c.add.ensures.whole w).1))) _ (rw none at h) in
+    holds_back _ (g.M.Memo.holds c.note_at-noted.new.memo) root limit _ _ _ _ c.args.position.config _ c.backtrack.result c.backtrack.ensures.back (rw none at k) noted.1 noted.0
 
 pub try_call-requires-clause-progress : goal.try_call-requires-clause-progress
 try_call-requires-clause-progress g c =

@@ -1,5 +1,5 @@
 use Rattle.lin_history.specs.Problems.Problem.{problem_of}
-use Rattle.lin_search.proofs.PathLemmas.{calls_here, step_skip, step_tells, holds_skip, answer_refused, not_refusal, steps_tell}
+use Rattle.lin_search.proofs.PathLemmas.{calls_here, step_skip, holds_skip, answer_refused, not_refusal, steps_tell}
 use Rattle.lin_search.proofs.depth_first.try_call.Goals as goal
 
 pub skip-requires-clause-lifted : goal.skip-requires-clause-lifted

@@ -1,5 +1,5 @@
 use Rattle.std.proofs.Common.{sym, ap, ◌∙◌, arith}
-use Rattle.lin_search.specs.Entered.{one_completed}
+use Rattle.lin_search.specs.EntryLinks.{one_completed}
 use Rattle.lin_search.proofs.EntriesLemmas.{completed_more}
 use Rattle.lin_search.proofs.entries.completed_calls.Goals as goal
 use Rattle.lin_search.proofs.entries.completed_calls.Goals.{then-is_some, else-is_some}

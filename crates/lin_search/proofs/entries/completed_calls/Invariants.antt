@@ -1,5 +1,5 @@
 use Rattle.std.proofs.Common.{◌≡◌, ◌+◌, ◌≤◌, drop}
-use Rattle.lin_search.specs.Entered.{count_completed}
+use Rattle.lin_search.specs.EntryLinks.{count_completed}
 use Rattle.lin_search.proofs.entries.completed_calls.Given as goal
 
 -- those so far, and those that are left

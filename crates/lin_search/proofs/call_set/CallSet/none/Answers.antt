@@ -1,5 +1,5 @@
 use Rattle.lin_search.proofs.WindowLemmas.{flags_none}
-use Rattle.lin_search.proofs.KeptLemmas.{kept_none}
+use Rattle.lin_search.proofs.CallSetFieldsLemmas.{kept_none}
 use Rattle.lin_search.proofs.call_set.CallSet.none.Goals as goal
 
 pub invariant_of-result : goal.invariant_of-result

@@ -3,7 +3,7 @@ use Rattle.std.specs.Prelude.{max, bit_or}
 use Rattle.std.proofs.lemmas.List.{take_all, length-drop}
 use Rattle.lin_search.specs.Window.{word_at, has_bit, IsWindow, Adds}
 use Rattle.lin_search.proofs.WindowLemmas.{length_flags, flag_is, flags_with, place_past, full_within, some_kept, adds_set, window_set, adds_dropped, window_dropped}
-use Rattle.lin_search.proofs.KeptLemmas.{kept_with}
+use Rattle.lin_search.proofs.CallSetFieldsLemmas.{kept_with}
 use Rattle.lin_search.proofs.call_set.CallSet.with_call.Goals as goal
 use Rattle.lin_search.proofs.call_set.CallSet.with_call.Goals.{After-as_slice-words, Then-word, After-end_of_full-end, In_ok-from_slice, In_ok-with_word, else-index-eq0-via-then-index-eq0+else-word, else-index-eq0-via-else-index-eq0}
 

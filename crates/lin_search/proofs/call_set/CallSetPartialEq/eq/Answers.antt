@@ -1,6 +1,6 @@
 use Rattle.std.proofs.Common.{◌≡◌, ◌∙◌, sym, false, true≢false}
 use Rattle.lin_search.specs.Window.{flags_of}
-use Rattle.lin_search.proofs.KeptLemmas.{test_is, same_hash, same_calls, same_leading, same_list}
+use Rattle.lin_search.proofs.CallSetFieldsLemmas.{test_is, same_hash, same_calls, same_leading, same_list}
 use Rattle.lin_search.proofs.call_set.CallSetPartialEq.eq.Goals as goal
 use Rattle.lin_search.proofs.call_set.CallSetPartialEq.eq.Goals.{then-self-other-via-then-self-other, then-self-other-via-else-self-other+then-self-other-2, then-self-other-via-else-self-other+else-self-other-2+then-self-other-3}
 

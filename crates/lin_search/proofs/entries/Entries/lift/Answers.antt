@@ -1,6 +1,6 @@
 use Rattle.std.proofs.Common.{◌-◌, arith, ap, sym, ◌∙◌}
 use Rattle.lin_history.specs.Problems.Problem.{problem_of}
-use Rattle.lin_search.specs.Entered.{one_completed}
+use Rattle.lin_search.specs.EntryLinks.{one_completed}
 use Rattle.lin_search.proofs.EntriesLemmas.{can_take, has_place, one_is_left, entries_lifted}
 use Rattle.lin_search.proofs.entries.Entries.lift.Goals as goal
 use Rattle.lin_search.proofs.entries.Entries.lift.Goals.{then-is_some, else-is_some}

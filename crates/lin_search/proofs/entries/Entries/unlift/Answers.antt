@@ -1,6 +1,6 @@
 use Rattle.std.proofs.Common.{◌+◌, arith, ap, sym, ◌∙◌}
 use Rattle.lin_history.specs.Problems.Problem.{problem_of}
-use Rattle.lin_search.specs.Entered.{one_completed}
+use Rattle.lin_search.specs.EntryLinks.{one_completed}
 use Rattle.lin_search.proofs.EntriesLemmas.{called_within, returned_within, unlifted_within, can_put, one_more_left, entries_unlifted, taken_off}
 use Rattle.lin_search.proofs.entries.Entries.unlift.Goals as goal
 use Rattle.lin_search.proofs.entries.Entries.unlift.Goals.{then-is_some, else-is_some}

@@ -1,6 +1,6 @@
 use Rattle.std.proofs.Common.{sym, ◌∙◌, arith}
 use Rattle.lin_history.specs.Problems.Problem.{problem_of}
-use Rattle.lin_search.proofs.FilledLemmas.{filled_skip, filled_lifted, filled_all}
+use Rattle.lin_search.proofs.LiftedSetLemmas.{filled_skip, filled_lifted, filled_all}
 use Rattle.lin_search.proofs.path.Path.new.Goals as goal
 use Rattle.lin_search.proofs.path.Path.new.Goals.{then-has, else-has}
 

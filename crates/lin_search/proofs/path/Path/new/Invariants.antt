@@ -1,7 +1,7 @@
 use Rattle.std.proofs.Common.{◌≡◌}
 use Rattle.lin_history.specs.Problems.Problem.{problem_of}
 use Rattle.lin_search.specs.CallSet.{lifted_set}
-use Rattle.lin_search.proofs.FilledLemmas.{IsFilledTo}
+use Rattle.lin_search.proofs.LiftedSetLemmas.{IsFilledTo}
 use Rattle.lin_search.proofs.path.Path.new.Given as goal
 
 abbrev pub invariant-loop-call : goal.invariant-loop-call
