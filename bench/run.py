@@ -1,5 +1,5 @@
 #!/usr/bin/env python3
-"""Times `lincheck` beside `bench/search.rs`, the same search with Rust's standard library alone and without a proof.
+"""Times `lincheck` beside `bench/search.rs`, a fast search without a proof that gives the same answers.
 
     bench/run.py [--only FAMILY].. [--quick] [--runs N] [--cpu] [--timeout SECONDS] [--bin PATH]
 
@@ -9,7 +9,7 @@ one of all families at their last size:
 
   seconds        the least wall time of N runs of each program (with --cpu their processor time, which says more where
                  the machine does other work too), and how many times the second's the first's is
-  lifts, stored  of all searches of the history, as the second program counts them; the first makes the same
+  lifts, stored  of all searches of the history, as the second program counts them
   ns/lift        of the search alone: the whole time less that of reading, which is timed on the same text with a faulty
                  line at its end, so that all of it is read and nothing is searched
   MB             the most memory that each held (without /usr/bin/time some 16 at least, which is this script's share)

@@ -1,4 +1,4 @@
-//! The search of `lincheck` with Rust's standard library alone and without a proof. It stands here to be timed beside
+//! A fast search in plain Rust, without a proof, that gives the answers of `lincheck`. It stands here to be timed beside
 //! `lincheck` and is no part of it.
 //!
 //! It reads a history on standard input and prints `linearizable`, or `not linearizable: ` and the first object that has
@@ -6,13 +6,11 @@
 //!
 //! The search is Wing and Gong's (1993), from the first call to the last, over linked entries of call and return events:
 //! the calls that may be next are those before the first return entry. A table keeps the configurations (set of lifted
-//! calls, and state) that are refuted (Lowe 2017), each with its longest continuation. An object that is refuted is
-//! searched twice, as `lincheck` does: once for the answer, and over a new table for its longest run.
+//! calls, and state) that are refuted (Lowe 2017), each with its longest continuation; the longest run of a refuted object
+//! is read off it. There is one configuration, which changes in place and is taken back.
 mod reader;
 
 use reader::{History, Kind, Object, Op, Reply};
-use std::collections::HashMap;
-use std::hash::{BuildHasherDefault, Hasher};
 use std::io::Read;
 use std::time::{Duration, Instant};
 
@@ -22,22 +20,10 @@ fn fold(hash: u64, word: u64) -> u64 {
     (product >> 64) as u64 ^ product as u64
 }
 
-/// Hashes whole words alone.
-#[derive(Default)]
-struct FoldHasher(u64);
-
-impl Hasher for FoldHasher {
-    fn write_u64(&mut self, word: u64) {
-        self.0 = fold(self.0, word);
-    }
-
-    fn write(&mut self, _: &[u8]) {
-        unreachable!("keys are words");
-    }
-
-    fn finish(&self) -> u64 {
-        self.0
-    }
+/// What a call adds to the hash of a set.
+fn weight(call: usize) -> u64 {
+    let mixed = fold(0x2545_F491_4F6C_DD1D, call as u64 + 1);
+    fold(mixed, mixed >> 32)
 }
 
 /// What is known of a refuted configuration: how many calls its longest continuation has, and the least first call of
@@ -60,52 +46,89 @@ impl Longest {
     }
 }
 
-/// The refuted configurations, each written out as words, and what is known of them.
-#[derive(Default)]
+/// A slot of the table: half of a hash, and where its pair stands; place 0 is no pair.
+#[derive(Clone, Copy, Default)]
+struct Slot {
+    tag: u32,
+    place: u32,
+}
+
+/// The refuted configurations and what is known of them, one behind the other in one arena, found by open addressing.
 struct Table {
-    /// For each hash where the last configuration of that hash stands among the words.
-    places: HashMap<u64, usize, BuildHasherDefault<FoldHasher>>,
-    /// One configuration behind the other: the place of the last one before of the same hash, what is known of it, how
-    /// many words it has, and these.
-    words: Vec<u64>,
+    slots: Vec<Slot>,
+    /// Of each pair: what is known, then the set, then the state. The first word is none.
+    arena: Vec<u64>,
     count: usize,
 }
 
-/// The place of no configuration.
-const NOWHERE: usize = usize::MAX;
-
-fn hash_of(words: &[u64]) -> u64 {
-    words
-        .iter()
-        .fold(words.len() as u64, |hash, word| fold(hash, *word))
-}
-
 impl Table {
-    fn get(&self, words: &[u64]) -> Option<Longest> {
-        let mut place = *self.places.get(&hash_of(words))?;
-        while place != NOWHERE {
-            let [before, known, length] = self.words[place..place + 3] else {
-                unreachable!("three words")
-            };
-            if self.words[place + 3..][..length as usize] == *words {
-                return Some(Longest {
-                    more: (known >> 32) as u32,
-                    first: known as u32,
-                });
-            }
-            place = before as usize;
+    fn new() -> Table {
+        Table {
+            slots: vec![Slot::default(); 64],
+            arena: vec![0],
+            count: 0,
         }
-        None
     }
 
-    fn insert(&mut self, words: &[u64], longest: Longest) {
-        let place = self.words.len();
-        let before = self.places.insert(hash_of(words), place).unwrap_or(NOWHERE);
+    /// The half of the hash by which a pair is found.
+    fn tag(hash: u64) -> u32 {
+        (hash ^ hash >> 32) as u32
+    }
+
+    fn get(&self, hash: u64, lifted: &CallSet, state: &State) -> Option<Longest> {
+        let tag = Table::tag(hash);
+        let mask = self.slots.len() - 1;
+        let mut index = tag as usize & mask;
+        loop {
+            let slot = self.slots[index];
+            if slot.place == 0 {
+                return None;
+            }
+            if slot.tag == tag {
+                let pair = &self.arena[slot.place as usize..];
+                let words = lifted.words.len();
+                if pair[1] == lifted.head()
+                    && pair[2..2 + words] == lifted.words[..]
+                    && state.is(&pair[2 + words..])
+                {
+                    return Some(Longest {
+                        more: (pair[0] >> 32) as u32,
+                        first: pair[0] as u32,
+                    });
+                }
+            }
+            index = (index + 1) & mask;
+        }
+    }
+
+    /// Stores a pair that is not there.
+    fn insert(&mut self, hash: u64, lifted: &CallSet, state: &State, longest: Longest) {
+        let place = u32::try_from(self.arena.len()).expect("an arena of 32 gigabytes");
         let known = u64::from(longest.more) << 32 | u64::from(longest.first);
-        self.words
-            .extend_from_slice(&[before as u64, known, words.len() as u64]);
-        self.words.extend_from_slice(words);
+        self.arena.extend_from_slice(&[known, lifted.head()]);
+        self.arena.extend_from_slice(&lifted.words);
+        state.write(&mut self.arena);
+        if 8 * (self.count + 1) > 7 * self.slots.len() {
+            let old = std::mem::take(&mut self.slots);
+            self.slots = vec![Slot::default(); 2 * old.len()];
+            for slot in old {
+                if slot.place > 0 {
+                    self.put(slot);
+                }
+            }
+        }
+        let tag = Table::tag(hash);
+        self.put(Slot { tag, place });
         self.count += 1;
+    }
+
+    fn put(&mut self, slot: Slot) {
+        let mask = self.slots.len() - 1;
+        let mut index = slot.tag as usize & mask;
+        while self.slots[index].place > 0 {
+            index = (index + 1) & mask;
+        }
+        self.slots[index] = slot;
     }
 }
 
@@ -114,10 +137,18 @@ impl Table {
 struct CallSet {
     full: usize,
     words: Vec<u64>,
+    /// The sum of the weights of the calls.
+    hash: u64,
 }
 
 impl CallSet {
+    /// One word that tells how many words are full and how many come next.
+    fn head(&self) -> u64 {
+        (self.full as u64) << 32 | self.words.len() as u64
+    }
+
     fn insert(&mut self, call: usize) {
+        self.hash = self.hash.wrapping_add(weight(call));
         let place = call / 64 - self.full;
         if place >= self.words.len() {
             self.words.resize(place + 1, 0);
@@ -130,6 +161,7 @@ impl CallSet {
     }
 
     fn remove(&mut self, call: usize) {
+        self.hash = self.hash.wrapping_sub(weight(call));
         while call / 64 < self.full {
             self.words.insert(0, u64::MAX);
             self.full -= 1;
@@ -258,14 +290,55 @@ impl State {
         }
     }
 
+    /// The items that are there.
+    fn items(&self) -> &[i64] {
+        &self.items[self.taken..]
+    }
+
+    /// The state as one word, of those kinds that have no items.
+    fn word(&self) -> u64 {
+        match self.kind {
+            Kind::Mutex => self.holder.map_or(u64::MAX, u64::from),
+            _ => self.value as u64,
+        }
+    }
+
+    fn has_items(&self) -> bool {
+        matches!(self.kind, Kind::Queue | Kind::Stack | Kind::Set)
+    }
+
+    fn hash(&self, hash: u64) -> u64 {
+        if self.has_items() {
+            let start = fold(hash, self.items().len() as u64);
+            self.items()
+                .iter()
+                .fold(start, |hash, item| fold(hash, *item as u64))
+        } else {
+            fold(hash, self.word())
+        }
+    }
+
     /// Writes the state out as words.
     fn write(&self, words: &mut Vec<u64>) {
-        match self.kind {
-            Kind::Register | Kind::Counter => words.push(self.value as u64),
-            Kind::Mutex => words.push(self.holder.map_or(u64::MAX, u64::from)),
-            Kind::Queue | Kind::Stack | Kind::Set => {
-                words.extend(self.items[self.taken..].iter().map(|item| *item as u64));
-            }
+        if self.has_items() {
+            words.push(self.items().len() as u64);
+            words.extend(self.items().iter().map(|item| *item as u64));
+        } else {
+            words.push(self.word());
+        }
+    }
+
+    /// Whether the words begin with those of the state.
+    fn is(&self, words: &[u64]) -> bool {
+        if self.has_items() {
+            let items = self.items();
+            words[0] == items.len() as u64
+                && items
+                    .iter()
+                    .zip(&words[1..])
+                    .all(|(item, word)| *item as u64 == *word)
+        } else {
+            words[0] == self.word()
         }
     }
 }
@@ -373,8 +446,6 @@ struct Search<'o> {
     left: usize,
     frames: Vec<Frame>,
     table: Table,
-    /// The configuration written out: fullness, length and words of the set, and the state.
-    words: Vec<u64>,
     lifts: u64,
 }
 
@@ -391,8 +462,7 @@ impl<'o> Search<'o> {
                 .filter(|call| call.returned.is_some())
                 .count(),
             frames: Vec::new(),
-            table: Table::default(),
-            words: Vec::new(),
+            table: Table::new(),
             lifts: 0,
         }
     }
@@ -435,22 +505,17 @@ impl<'o> Search<'o> {
         Some((call, longest))
     }
 
-    fn write_words(&mut self) {
-        self.words.clear();
-        self.words
-            .push((self.lifted.full as u64) << 32 | self.lifted.words.len() as u64);
-        self.words.extend_from_slice(&self.lifted.words);
-        self.state.write(&mut self.words);
+    fn hash(&self) -> u64 {
+        self.state.hash(self.lifted.hash)
     }
 
-    fn known(&mut self) -> Option<Longest> {
-        self.write_words();
-        self.table.get(&self.words)
+    fn known(&self) -> Option<Longest> {
+        self.table.get(self.hash(), &self.lifted, &self.state)
     }
 
     fn note(&mut self, longest: Longest) {
-        self.write_words();
-        self.table.insert(&self.words, longest);
+        let hash = self.hash();
+        self.table.insert(hash, &self.lifted, &self.state, longest);
     }
 
     fn first_entry(&self) -> usize {
@@ -530,10 +595,6 @@ fn check(object: &Object, done: &mut Done) -> Option<Vec<usize>> {
     let refuted = search.run();
     done.add(&search);
     refuted?;
-    drop(search);
-    let mut search = Search::new(object);
-    search.run();
-    done.add(&search);
     Some(search.longest_run())
 }
 
