@@ -1,5 +1,5 @@
 -- What a run writes.
-use Rattle.std.specs.Prelude.{ℕ, Option, List, take, Result, Ok, Err}
+use Rattle.std.specs.Prelude.{◌≡◌, ℕ, Option, IfSome, List, take, Result, Ok, Err}
 use Rattle.std.specs.Io.KnownBytes.{Appends, Keeps}
 use Rattle.lincheck.specs.declared.status.Status.{Status}
 use Rattle.lincheck.specs.declared.fault.RunFault.{RunFault}
@@ -13,3 +13,8 @@ Ran text old new (Ok status) = (printed : List ℕ) × Prints text status printe
 Ran text old new (Err Write) = (status : Status) × (printed : List ℕ) × (n : ℕ) × Prints text status printed × Appends old new (take n printed)
 Ran text old new (Err Read) = Keeps old new
 Ran text old new (Err Memory) = Keeps old new
+
+-- The same of a run that read from a source: there is a text that it read, which is what the source had left where that
+-- is known.
+abbrev pub RanFrom : Option (List ℕ) → Option (List ℕ) → Option (List ℕ) → Result Status RunFault → Type 0
+RanFrom source old new result = (text : List ℕ) × IfSome source (λ left. text ≡ left) × Ran text old new result

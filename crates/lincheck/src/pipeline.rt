@@ -1,13 +1,13 @@
 //! The way from the bytes of a text to the bytes of its answer.
 
-ghost use Rattle.std.specs.Prelude.{◌≡◌, ◌≢◌, ℕ, true, false, take, OnOk, IfOk, IfErr, IfSome};
+ghost use Rattle.std.specs.Prelude.{◌≡◌, ◌≢◌, ℕ, true, false, take, OnOk, OnErr, IfOk, IfErr, IfSome};
 ghost use Rattle.std.specs.Io.KnownBytes.{Appends};
 ghost use Rattle.lin_text.specs.Words.{fault_line};
 ghost use Rattle.lincheck.specs.Prints.{Prints};
-ghost use Rattle.lincheck.specs.Ran.{Ran};
+ghost use Rattle.lincheck.specs.Ran.{RanFrom};
 ghost use Rattle.lincheck.specs.Reading.{IsReadOf};
 
-use crate::device::{Sink, Source};
+use crate::device::{DeviceFault, Sink, Source};
 use crate::fault::RunFault;
 use crate::judgement::judge;
 use crate::lines::report;
@@ -80,23 +80,18 @@ fn answer(alloc: Global, text: &[u8]) -> Result<(Status, Vec<u8>), AllocError>
 }
 
 // Writes the whole answer, and then flushes once. After an `Err` a prefix of it is written.
-fn write_answer<W: Sink>(sink: &mut W, answer: &[u8]) -> Result<(), RunFault>
+fn write_answer<W: Sink>(sink: &mut W, answer: &[u8]) -> Result<(), DeviceFault>
     ensures ok { OnOk result (Appends (W.contents sink.old) (W.contents sink.new) answer.now) }
-    ensures write { IfErr result (λ fault. (fault ≡ RunFault.Write) × (W.failed sink.new ≡ true)) }
-    ensures prefix { IfErr result (λ fault. (n : ℕ)
+    ensures failed { OnErr result (W.failed sink.new ≡ true) }
+    ensures prefix { OnErr result ((n : ℕ)
         × Appends (W.contents sink.old) (W.contents sink.new) (take n answer.now)) }
 {
     let mut rest = answer;
     'pieces: while !rest.is_empty() {
-        let Ok(count) = sink.write(rest) else {
-            return Err(RunFault::Write);
-        };
+        let count = sink.write(rest)?;
         rest = &rest[count..];
     }
-    if sink.flush().is_err() {
-        return Err(RunFault::Write);
-    }
-    Ok(())
+    sink.flush()
 }
 
 /// Reads a text from the source, checks it and writes the answer to the sink.
@@ -115,8 +110,8 @@ pub fn run<R: AllocGlobal, S: Source, W: Sink>(
     requires source { S.failed source.old ≡ false }
     requires sink { W.failed sink.old ≡ false }
     requires stats { options.now.stats ≡ false }
-    ensures ran { IfSome (S.remaining source.old)
-        (λ text. Ran text (W.contents sink.old) (W.contents sink.new) result) }
+    ensures ran { RanFrom (S.remaining source.old) (W.contents sink.old) (W.contents sink.new)
+        result }
     ensures read { IfErr result (λ fault. fault ≡ RunFault.Read → S.failed source.new ≡ true) }
     ensures write { IfErr result (λ fault. fault ≡ RunFault.Write → W.failed sink.new ≡ true) }
 {
@@ -129,6 +124,6 @@ pub fn run<R: AllocGlobal, S: Source, W: Sink>(
     };
     match write_answer(sink, answer.as_slice()) {
         Ok(()) => Ok(status),
-        Err(fault) => Err(fault),
+        Err(_) => Err(RunFault::Write),
     }
 }
