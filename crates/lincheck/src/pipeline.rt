@@ -1,10 +1,10 @@
 //! The way from the bytes of a text to the bytes of its answer.
 
-ghost use Rattle.std.specs.Prelude.{◌≡◌, ◌≢◌, ℕ, true, false, take, OnOk, OnErr, IfOk, IfErr, IfSome};
+ghost use Rattle.std.specs.Prelude.{◌≡◌, ◌≢◌, ◌||◌, ℕ, false, take, is_err, OnOk, OnErr, IfOk, IfErr, IfSome};
 ghost use Rattle.std.specs.Io.KnownBytes.{Appends};
 ghost use Rattle.lin_text.specs.Words.{fault_line};
 ghost use Rattle.lincheck.specs.Prints.{Prints};
-ghost use Rattle.lincheck.specs.Ran.{RanFrom};
+ghost use Rattle.lincheck.specs.Ran.{is_read, is_write, is_fault, RanFrom};
 ghost use Rattle.lincheck.specs.Reading.{IsReadOf};
 
 use crate::device::{DeviceFault, Sink, Source};
@@ -29,7 +29,7 @@ fn read_text<S: Source>(alloc: Global, source: &mut S) -> Result<Vec<u8>, RunFau
     ensures text { IfOk result (λ read. IfSome (S.remaining source.old)
         (λ text. IsReadOf text read.items)) }
     ensures fault { IfErr result (λ fault. fault ≢ RunFault.Write) }
-    ensures read { IfErr result (λ fault. fault ≡ RunFault.Read → S.failed source.new ≡ true) }
+    ensures failed { S.failed source.new ≡ is_fault is_read result }
 {
     let mut piece = [0u8; PIECE];
     let mut text = Vec::new(alloc);
@@ -82,7 +82,7 @@ fn answer(alloc: Global, text: &[u8]) -> Result<(Status, Vec<u8>), AllocError>
 // Writes the whole answer, and then flushes once. After an `Err` a prefix of it is written.
 fn write_answer<W: Sink>(sink: &mut W, answer: &[u8]) -> Result<(), DeviceFault>
     ensures ok { OnOk result (Appends (W.contents sink.old) (W.contents sink.new) answer.now) }
-    ensures failed { OnErr result (W.failed sink.new ≡ true) }
+    ensures failed { W.failed sink.new ≡ (W.failed sink.old || is_err result) }
     ensures prefix { OnErr result ((n : ℕ)
         × Appends (W.contents sink.old) (W.contents sink.new) (take n answer.now)) }
 {
@@ -100,7 +100,8 @@ fn write_answer<W: Sink>(sink: &mut W, answer: &[u8]) -> Result<(), DeviceFault>
 /// once. Faults: `Read` where the source failed, `Memory` where memory was refused; nothing was written then. `Write`
 /// where the sink failed; a prefix of the answer was written.
 ///
-/// Conditions: neither device has failed, and the options ask for no statistics.
+/// Conditions: neither device has failed, and the options ask for no statistics. Afterwards the source has failed exactly
+/// at `Read`, and the sink exactly at `Write`.
 pub fn run<R: AllocGlobal, S: Source, W: Sink>(
     rt: &R,
     source: &mut S,
@@ -112,8 +113,8 @@ pub fn run<R: AllocGlobal, S: Source, W: Sink>(
     requires stats { options.now.stats ≡ false }
     ensures ran { RanFrom (S.remaining source.old) (W.contents sink.old) (W.contents sink.new)
         result }
-    ensures read { IfErr result (λ fault. fault ≡ RunFault.Read → S.failed source.new ≡ true) }
-    ensures write { IfErr result (λ fault. fault ≡ RunFault.Write → W.failed sink.new ≡ true) }
+    ensures source { S.failed source.new ≡ is_fault is_read result }
+    ensures sink { W.failed sink.new ≡ is_fault is_write result }
 {
     let text = match read_text(rt.alloc(), source) {
         Ok(text) => text,
