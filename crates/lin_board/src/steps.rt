@@ -43,7 +43,7 @@ pub(crate) fn lower_least(
     ensures table { token.new.table_id ≡ token.old.table_id }
     ensures tells { FoundTells task token.old.me token.new.me }
 {
-    words.fetch_min::<FoundStep>(token, LEAST, task);
+    words.fetch_max::<FoundStep>(token, LEAST, task);
 }
 
 // Reads the second word.
