@@ -43,7 +43,7 @@ pub(crate) fn lower_least(
     ensures table { token.new.table_id ≡ token.old.table_id }
     ensures tells { FoundTells task token.old.me token.new.me }
 {
-    words.fetch_max::<FoundStep>(token, LEAST, task);
+    words.fetch_min::<FoundStep>(token, LEAST, task);
 }
 
 // Reads the second word.
@@ -58,5 +58,5 @@ pub(crate) fn read_least(
     ensures table { token.new.table_id ≡ token.old.table_id }
     ensures tells { LeastTells token.old.me result token.new.me }
 {
-    words.load::<LeastStep>(token, LEAST)
+    words.peek(LEAST)
 }
