@@ -58,5 +58,5 @@ pub(crate) fn read_least(
     ensures table { token.new.table_id ≡ token.old.table_id }
     ensures tells { LeastTells token.old.me result token.new.me }
 {
-    words.peek(LEAST)
+    words.load::<LeastStep>(token, LEAST)
 }

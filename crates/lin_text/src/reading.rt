@@ -65,7 +65,7 @@ fn return_of<'v>(builder: &Builder, value: &'v Value) -> Result<Line<'v>, Cause>
     let Some(name) = name_of(value) else {
         return Err(Cause::BadObject);
     };
-    if builder.kind_of(name).is_none() && reply_of(value).is_some() {
+    if builder.kind_of(name).is_none() {
         return Err(Cause::UnknownObject);
     }
     let Some(reply) = reply_of(value) else {
