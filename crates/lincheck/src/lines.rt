@@ -71,11 +71,7 @@ fn write_calls(out: &mut String, history: &History, order: &[Placed]) -> Result<
 }
 
 // For each call whether it is in the order.
-fn placed_flags(
-    alloc: Global,
-    history: &History,
-    order: &[Placed],
-) -> Result<Vec<bool>, AllocError>
+fn placed_flags(alloc: Global, history: &History, order: &[Placed]) -> Result<Vec<bool>, AllocError>
     requires { AreKnown (whole_of history.now) order.now }
     ensures count { IfOk result (λ flags. vec_len flags ≡ length history.now.calls) }
     ensures flags { IfOk result (λ flags. (a : ℕ) → a < length history.now.calls

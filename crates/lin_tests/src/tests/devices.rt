@@ -67,7 +67,9 @@ fn a_read_fails_where_the_reader_fails(rt: HostRuntime) {
 
 #[test]
 fn a_write_takes_what_the_writer_takes(rt: HostRuntime) {
-    assert!(rt; writes(Some(9)) == Ok(3) && writes(Some(2)) == Ok(2) && writes_none(Some(2)) == Ok(0));
+    assert!(rt;
+        writes(Some(9)) == Ok(3) && writes(Some(2)) == Ok(2) && writes_none(Some(2)) == Ok(0)
+    );
 }
 
 #[test]
