@@ -6,18 +6,13 @@ ghost use Rattle.lin_board.specs.Board.{IsSeatOf, new_seat};
 ghost use Rattle.lin_board.specs.Tally.{Tallies};
 
 use crate::gather::gather;
-use crate::rule::{BoardRule, ClaimStep, FoundStep, LeastStep, NOTHING_FOUND, Parts, Plan, View};
+use crate::rule::{BoardRule, NOTHING_FOUND, Parts, Plan, View};
 use crate::seat::Seat;
+use crate::steps::{LEAST, NEXT, lower_least, read_least, take_next};
 use crate::tally::{SeatsMissing, Tally, tally_of};
 use atomic_table::Table;
 use std::alloc::{AllocError, Global};
 use std::marker::Model;
-
-// The word with the number that the next claim is given.
-const NEXT: usize = 0;
-
-// The word with the least task found.
-const LEAST: usize = 1;
 
 /// Tasks that threads claim, and the least of those for which something was found. A contract sees
 /// which board it is, and its numbers of tasks and of seats.
@@ -96,10 +91,7 @@ impl Board {
         if seat.ended {
             return None;
         }
-        let task = self
-            .table
-            .shared
-            .fetch_add::<ClaimStep>(&mut seat.token, NEXT, 1);
+        let task = take_next(&self.table.shared, &mut seat.token);
         if task < self.tasks {
             seat.claims += 1;
             Some(task)
@@ -116,9 +108,7 @@ impl Board {
         ensures seat { IsSeatOf self.now seat.new }
         ensures changed { seat.new ≡ record seat.old { found = seat.old.found ++ task ∷ [] } }
     {
-        self.table
-            .shared
-            .fetch_min::<FoundStep>(&mut seat.token, LEAST, task);
+        lower_least(&self.table.shared, &mut seat.token, task);
     }
 
     /// The least task so far for which any seat told that something was found; `None` where none did.
@@ -136,7 +126,7 @@ impl Board {
         ensures changed { seat.new ≡ record seat.old
             { told = seat.old.told ++ option_to_list result } }
     {
-        let task = self.table.shared.load::<LeastStep>(&mut seat.token, LEAST);
+        let task = read_least(&self.table.shared, &mut seat.token);
         if task == NOTHING_FOUND {
             None
         } else {

@@ -11,6 +11,7 @@ mod board;
 mod gather;
 mod rule;
 mod seat;
+mod steps;
 mod tally;
 
 pub use board::Board;

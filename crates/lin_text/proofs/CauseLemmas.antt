@@ -1,6 +1,7 @@
 -- The first cause of a line, from the first cause of its value and of its event.
-use Rattle.std.proofs.Common.{◌≡◌, ℕ, ◌≤◌, Bool, true, false, nat_lt, cond, List, [], ◌∷◌, ◌++◌, length, map, Option, Some, None, refl, ap, subst, ◌∙◌, arith}
+use Rattle.std.proofs.Common.{◌≡◌, ℕ, ◌≤◌, Bool, true, false, nat_lt, cond, List, [], ◌∷◌, ◌++◌, length, map, Option, Some, None, Result, Ok, Err, OnOk, IfErr, refl, ap, subst, ◌∙◌, arith}
 use Rattle.std.proofs.lemmas.Bool.Decides.{nat_tests}
+use Rattle.std.specs.Result.{result_map_both}
 use Rattle.serde_json.specs.Data.{Data}
 use Rattle.lin_text.specs.declared.cause.Cause.{Cause}
 use Rattle.lin_history.specs.declared.recorder.fault.BuildFault.{BuildFault}
@@ -89,3 +90,13 @@ pub told_by_blank : (told : TextEvents) (h : RecordedHistory) (line : List ℕ) 
 told_by_blank told h line short blank is =
     let test : nat_lt MAX_LINE_BYTES (length line) ≡ false = grind (arith, nat_tests, short) in
     (told, record { sound = rw (test, blank) refl; after = rw blank refl }, is)
+
+-- ---- the answer of a text, by that of the builder
+
+pub on_ok : {A : Type 0} (r : Result A BuildFault) (P Q R : Type 0) → OnOk r P → OnOk r Q → (P → Q → R) → OnOk (result_map_both (λ (x : A). x) cause_of r) R
+on_ok (Ok x) P Q R p q f = f p q
+on_ok (Err fault) P Q R p q f = tt
+
+pub if_err : {A : Type 0} (r : Result A BuildFault) (P : BuildFault → Type 0) (Q : Cause → Type 0) → IfErr r P → ((fault : BuildFault) → P fault → Q (cause_of fault)) → IfErr (result_map_both (λ (x : A). x) cause_of r) Q
+if_err (Ok x) P Q h f = tt
+if_err (Err fault) P Q h f = f fault h

@@ -1,6 +1,7 @@
 //! The causes for which a text is refused, and the line that tells a fault.
 
 ghost use Rattle.std.specs.Prelude.{◌≡◌, ◌≢◌, ◌++◌, OnOk, OnErr};
+ghost use Rattle.std.specs.Result.{result_map_both};
 ghost use Rattle.lin_text.specs.Causes.{cause_of};
 ghost use Rattle.lin_text.specs.Words.{fault_line};
 
@@ -101,8 +102,8 @@ pub struct TextFault {
     pub cause: Cause,
 }
 
-/// What a refusal of the builder says of a text.
-pub(crate) fn cause_of(fault: BuildFault) -> Cause
+// What a refusal of the builder says of a text.
+fn cause_of(fault: BuildFault) -> Cause
     ensures { result ≡ cause_of fault }
 {
     match fault {
@@ -115,6 +116,16 @@ pub(crate) fn cause_of(fault: BuildFault) -> Cause
         BuildFault::TooManyObjects => Cause::TooManyObjects,
         BuildFault::TooManyCalls => Cause::TooManyCalls,
         BuildFault::OutOfMemory => Cause::OutOfMemory,
+    }
+}
+
+/// What a text is answered where the builder answers so.
+pub(crate) fn answer_of(taken: Result<(), BuildFault>) -> Result<(), Cause>
+    ensures { result ≡ result_map_both (λ done. done) cause_of taken }
+{
+    match taken {
+        Ok(()) => Ok(()),
+        Err(fault) => Err(cause_of(fault)),
     }
 }
 

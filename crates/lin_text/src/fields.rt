@@ -1,9 +1,7 @@
 //! The fields of a line's JSON value.
 
-ghost use Rattle.std.specs.Prelude.{◌≡◌, ◌≢◌, option_map, is_some, IfOk, IfErr, Ok, Err};
+ghost use Rattle.std.specs.Prelude.{◌≡◌, ◌≢◌, option_map, IfOk, IfErr, Ok, Err};
 ghost use Rattle.serde_json.specs.View.{view, items_view};
-ghost use Rattle.lin_object.specs.Names.{beside};
-ghost use Rattle.lin_object.specs.Kinds.{operations};
 ghost use Rattle.lin_text.specs.Fields.{event_kind_in, process_in, name_in, kind_in, start_at, reply_in, arguments_in, op_at, wholes};
 
 use crate::cause::Cause;

@@ -1,6 +1,6 @@
 //! From a line's JSON value to its event, or its first cause.
 
-ghost use Rattle.std.specs.Prelude.{◌≡◌, ◌≢◌, ◌≤◌, length, is_some, true, Some, Ok, Err, IfOk, IfErr, OnErr, MatchResult};
+ghost use Rattle.std.specs.Prelude.{◌≡◌, is_some, true, Some, Ok, Err};
 ghost use Rattle.serde_json.specs.Find.{as_object};
 ghost use Rattle.serde_json.specs.View.{view};
 ghost use Rattle.lin_history.specs.Recorder.RecordedHistory.{kind_named};

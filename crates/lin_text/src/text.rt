@@ -1,15 +1,14 @@
 //! A text, line by line: the history that it means, or its first fault.
 
 ghost use Rattle.std.specs.Prelude.{position, IfSome, ◌≡◌, ◌≢◌, ◌<◌, ◌≤◌, ◌∷◌, length, Some, None, Ok, Err, IfOk, IfErr, OnOk, OnErr};
-ghost use Rattle.std.specs.List.{list_all};
 ghost use Rattle.serde_json.specs.View.{view};
 ghost use Rattle.lin_text.specs.Line.{json, seen};
 ghost use Rattle.lin_history.specs.Recorder.RecordedHistory.{no_event};
 ghost use Rattle.lin_text.specs.Events.{TextEvents, IsHistoryTold, told_with};
-ghost use Rattle.lin_text.specs.Text.{is_newline, lines, is_blank, is_blank_byte, refusals, HasCause, IsToldBy, MeansHistory, MeansFault, RanOutAt};
+ghost use Rattle.lin_text.specs.Text.{is_newline, lines, is_blank, refusals, HasCause, IsToldBy, MeansHistory, MeansFault, RanOutAt};
 ghost use Rattle.lin_history.specs.Refusals.{first_that_holds};
 
-use crate::cause::{Cause, TextFault, cause_of};
+use crate::cause::{Cause, TextFault, answer_of};
 use crate::line::Line;
 use crate::reading::read_value;
 use lin_history::{BuildFault, Builder, History};
@@ -87,10 +86,7 @@ fn take_line(alloc: Global, builder: &mut Builder, line: &[u8]) -> Result<(), Ca
         Ok(event) => event,
         Err(cause) => return Err(cause),
     };
-    match take_event(alloc, builder, event) {
-        Ok(()) => Ok(()),
-        Err(fault) => Err(cause_of(fault)),
-    }
+    answer_of(take_event(alloc, builder, event))
 }
 
 // Where the first line feed is.

@@ -1,8 +1,13 @@
 -- What writes took, one after another.
-use Rattle.std.proofs.Common.{◌≡◌, ℕ, List, [], ◌++◌, Option, Some, None, length, take, drop, refl, sym, ap, ◌∙◌, subst, append_assoc, append-nil}
+use Rattle.std.proofs.Common.{◌≡◌, ℕ, List, [], ◌++◌, Option, Some, None, Result, Ok, Err, OnErr, length, take, drop, refl, sym, ap, ◌∙◌, subst, append_assoc, append-nil}
 use Rattle.std.specs.Io.KnownBytes.{Appends, Keeps}
 use Rattle.std.proofs.lemmas.List.{take-append-drop}
 use Rattle.std.proofs.Math.Seq.{take-append_seam}
+
+-- bytes that were not written to are kept
+pub kept : (a : Option (List ℕ)) → Keeps a a
+kept None = tt
+kept (Some x) = refl
 
 pub appends_nil : (a : Option (List ℕ)) → Appends a a []
 appends_nil None = tt
@@ -19,6 +24,11 @@ appends_kept None b c xs p q = tt
 appends_kept (Some x) None c xs p q = absurd p
 appends_kept (Some x) (Some y) None xs p q = absurd q
 appends_kept (Some x) (Some y) (Some z) xs p q = q ∙ p
+
+-- what holds in any case holds after an error
+pub on_err : {T E P : Type 0} (r : Result T E) → P → OnErr r P
+on_err (Ok x) p = tt
+on_err (Err e) p = p
 
 -- the pieces written so far are the front of the answer
 pub record IsWritten (a b : Option (List ℕ)) (answer rest : List ℕ) : Type 0 where

@@ -1,5 +1,5 @@
 -- What is printed of what was read is printed of the text.
-use Rattle.std.proofs.Common.{◌≡◌, ℕ, ◌+◌, List, [], ◌∷◌, length, length-append, take, Option, Some, None, IfSome, Ok, Err, inl, inr, sym, ap, subst, ◌∙◌, arith}
+use Rattle.std.proofs.Common.{◌≡◌, ℕ, ◌+◌, ◌<◌, List, [], ◌∷◌, length, length-append, take, Option, Some, None, IfSome, Ok, Err, inl, inr, refl, sym, ap, subst, ◌∙◌, arith}
 use Rattle.std.proofs.lemmas.Option.{slice_get_within}
 use Rattle.lin_object.specs.declared.reply.Reply.{Reply}
 use Rattle.lin_object.specs.declared.state.ObjState.{ObjState}
@@ -15,11 +15,14 @@ use Rattle.lincheck.specs.declared.status.Status.TheVariants.{Yes, No, Undecided
 use Rattle.lincheck.specs.declared.verdict.Verdict.{Verdict}
 use Rattle.lincheck.specs.declared.verdict.Verdict.TheVariants as verdicts
 use Rattle.lincheck.specs.Reading.{IsReadOf}
-use Rattle.lincheck.specs.Verdict.{IsVerdict, IsOf, AreCalls}
+use Rattle.lin_history.specs.Verifier.Flags.{AreKnown}
+use Rattle.lincheck.specs.Verdict.{IsVerdict, IsOf}
 use Rattle.std.specs.Io.KnownBytes.{Appends}
-use Rattle.lincheck.specs.declared.fault.RunFault.TheVariants.{Write}
+use Rattle.lincheck.specs.declared.fault.RunFault.{RunFault}
+use Rattle.lincheck.specs.declared.fault.RunFault.TheVariants.{Read, Write, Memory}
+use Rattle.lincheck.proofs.Bytes.{kept}
 use Rattle.lincheck.specs.Prints.{Prints}
-use Rattle.lincheck.specs.Ran.{Ran}
+use Rattle.lincheck.specs.Ran.{RanFrom}
 
 means_history : (text read : List ℕ) (h : RecordedHistory) → IsReadOf text read → MeansHistory read h → MeansHistory text h
 means_history text read h (inl same) m = subst (λ (t : List ℕ). MeansHistory t h) (sym same) m
@@ -39,28 +42,46 @@ prints_read text read No printed r p = (p.0, means_history text read p.0 r p.1, 
 prints_read text read Undecided printed r p = absurd p
 prints_read text read Refused printed r p = (p.0, means_fault text read p.0.line p.0.cause r p.1, p.2)
 
-replayed_calls : (h : RecordedHistory) (states : ℕ → ObjState) (l : List (Placed Reply)) → Replays (whole_of h) states l → AreCalls (length h.calls) l
-replayed_calls h states [] r = tt
-replayed_calls h states (x ∷ xs) r = (slice_get_within h.calls x.call r.0 r.2.call, replayed_calls h (with_state (whole_of h) states r.0.object r.1) xs r.3)
+-- the calls of a list are known where its first and the rest are
+known_more : (h : RecordedHistory) (x : Placed Reply) (xs : List (Placed Reply)) → x.call < length h.calls → AreKnown (whole_of h) xs → AreKnown (whole_of h) (x ∷ xs)
+known_more h x xs first rest a there = elim there [
+  | inl same ↦ subst (λ (n : ℕ). n < length h.calls) same first
+  | inr more ↦ rest a more
+]
 
-placed_calls : (h : RecordedHistory) (object : ℕ) (s : ObjState) (order : List ℕ) (l : List (Placed Reply)) → Places (whole_of h) object s order l → AreCalls (length h.calls) l
-placed_calls h object s [] [] p = tt
-placed_calls h object s (c ∷ cs) (x ∷ xs) p = (slice_get_within h.calls x.call p.1.0 p.1.2.call, placed_calls h object p.1.1 cs xs p.1.3)
-placed_calls h object s [] (x ∷ xs) p = absurd p
-placed_calls h object s (c ∷ cs) [] p = absurd p
+replayed_known : (h : RecordedHistory) (states : ℕ → ObjState) (l : List (Placed Reply)) → Replays (whole_of h) states l → AreKnown (whole_of h) l
+replayed_known h states [] r = λ a there. absurd there
+replayed_known h states (x ∷ xs) r = known_more h x xs (slice_get_within h.calls x.call r.0 r.2.call) (replayed_known h (with_state (whole_of h) states r.0.object r.1) xs r.3)
+
+placed_known : (h : RecordedHistory) (object : ℕ) (s : ObjState) (order : List ℕ) (l : List (Placed Reply)) → Places (whole_of h) object s order l → AreKnown (whole_of h) l
+placed_known h object s [] [] p = λ a there. absurd there
+placed_known h object s (c ∷ cs) (x ∷ xs) p = known_more h x xs (slice_get_within h.calls x.call p.1.0 p.1.2.call) (placed_known h object p.1.1 cs xs p.1.3)
+placed_known h object s [] (x ∷ xs) p = absurd p
+placed_known h object s (c ∷ cs) [] p = absurd p
 
 -- a right verdict names calls and objects of the history
 pub verdict_of : (h : RecordedHistory) (v : Verdict) → IsVerdict h v → IsOf h v
-verdict_of h (verdicts.Yes l) v = replayed_calls h (start_at h) l v.1.legal
-verdict_of h (verdicts.No object run) v = (v.0.0.declared, placed_calls h object (start_at h object) v.0.1.order run.items v.0.1.placed)
+verdict_of h (verdicts.Yes l) v = replayed_known h (start_at h) l v.1.legal
+verdict_of h (verdicts.No object run) v = (v.0.0.declared, placed_known h object (start_at h object) v.0.1.order run.items v.0.1.placed)
 verdict_of h (verdicts.Undecided object) v = absurd v
 
 -- ---- a run on what was read
 
-pub ran_ok : (source old new : Option (List ℕ)) (read : List ℕ) (status : Status) (printed : List ℕ) → IfSome source (λ text. IsReadOf text read) → Prints read status printed → Appends old new printed → IfSome source (λ text. Ran text old new (Ok status))
-ran_ok None old new read status printed r p a = tt
-ran_ok (Some text) old new read status printed r p a = (printed, prints_read text read status printed r p, a)
+pub ran_ok : (source old new : Option (List ℕ)) (read : List ℕ) (status : Status) (printed : List ℕ) → IfSome source (λ text. IsReadOf text read) → Prints read status printed → Appends old new printed → RanFrom source old new (Ok status)
+ran_ok None old new read status printed r p a = (read, tt, (printed, p, a))
+ran_ok (Some text) old new read status printed r p a = (text, refl, (printed, prints_read text read status printed r p, a))
 
-pub ran_write : (source old new : Option (List ℕ)) (read : List ℕ) (status : Status) (printed : List ℕ) → IfSome source (λ text. IsReadOf text read) → Prints read status printed → ((n : ℕ) × Appends old new (take n printed)) → IfSome source (λ text. Ran text old new (Err Write))
-ran_write None old new read status printed r p a = tt
-ran_write (Some text) old new read status printed r p a = (status, printed, a.0, prints_read text read status printed r p, a.1)
+pub ran_write : (source old new : Option (List ℕ)) (read : List ℕ) (status : Status) (printed : List ℕ) → IfSome source (λ text. IsReadOf text read) → Prints read status printed → ((n : ℕ) × Appends old new (take n printed)) → RanFrom source old new (Err Write)
+ran_write None old new read status printed r p a = (read, tt, (status, printed, a.0, p, a.1))
+ran_write (Some text) old new read status printed r p a = (text, refl, (status, printed, a.0, prints_read text read status printed r p, a.1))
+
+-- what the source had left, or no byte where that is not known
+text_left : (source : Option (List ℕ)) → (text : List ℕ) × IfSome source (λ left. text ≡ left)
+text_left None = ([], tt)
+text_left (Some text) = (text, refl)
+
+-- a run that ended before the first write
+pub ran_nothing : (source old : Option (List ℕ)) (fault : RunFault) → (fault ≡ Write → ⊥) → RanFrom source old old (Err fault)
+ran_nothing source old Write other = absurd (other refl)
+ran_nothing source old Read other = let left = text_left source in (left.0, left.1, kept old)
+ran_nothing source old Memory other = let left = text_left source in (left.0, left.1, kept old)

@@ -1,5 +1,5 @@
 -- One line more of a report.
-use Rattle.std.proofs.Common.{◌≡◌, ℕ, zero, suc, ◌+◌, ◌<◌, ◌≤◌, true, false, List, [], ◌∷◌, ◌++◌, drop, length, Some, refl, sym, ap, subst, ◌∙◌, append_assoc, append-nil, add-one, inl, inr, arith}
+use Rattle.std.proofs.Common.{◌≡◌, ℕ, zero, suc, ◌+◌, ◌<◌, ◌≤◌, true, false, List, [], ◌∷◌, ◌++◌, drop, length, Some, refl, sym, ap, ◌∙◌, append_assoc, append-nil, add-one, inl, inr, arith}
 use Rattle.std.specs.List.{slice_get}
 use Rattle.std.proofs.lemmas.Option.{slice_get_cases}
 use Rattle.lin_object.specs.declared.op.Op.{Op}
@@ -8,8 +8,9 @@ use Rattle.lin_history.specs.declared.locality.placed.Placed.{Placed}
 use Rattle.lin_history.specs.Recorder.Events.{Call}
 use Rattle.lin_history.specs.Recorder.RecordedHistory.{RecordedHistory, is_on}
 use Rattle.lin_history.specs.Recorder.Views.{count_on}
+use Rattle.lin_history.specs.Locality.RecordedWhole.{whole_of}
+use Rattle.lin_history.specs.Verifier.Flags.{AreKnown}
 use Rattle.lincheck.specs.Report.{call_line, call_lines, dropped_line, dropped_lines, is_placed}
-use Rattle.lincheck.specs.Verdict.{AreCalls}
 
 dropped_at : {A : Type 0} (xs : List A) (n : ℕ) (x : A) → slice_get xs n ≡ Some x → drop n xs ≡ x ∷ drop (n + 1) xs
 dropped_at [] n x e = absurd (cc)
@@ -23,10 +24,10 @@ over (x ∷ xs) zero h = absurd (omega arith)
 over (x ∷ xs) (suc i) h = over xs i (omega arith)
 
 -- the calls of an order are calls of the history
-pub call_within : (n : ℕ) (xs : List (Placed Reply)) (i : ℕ) (x : Placed Reply) → AreCalls n xs → slice_get xs i ≡ Some x → x.call < n
-call_within n [] i x all e = absurd (cc)
-call_within n (y ∷ ys) zero x all e = let same : y ≡ x = cc in subst (λ (z : Placed Reply). z.call < n) same all.0
-call_within n (y ∷ ys) (suc i) x all e = call_within n ys i x all.1 e
+pub call_within : (h : RecordedHistory) (xs : List (Placed Reply)) (i : ℕ) (x : Placed Reply) → AreKnown (whole_of h) xs → slice_get xs i ≡ Some x → x.call < length h.calls
+call_within h [] i x known e = absurd (cc)
+call_within h (y ∷ ys) zero x known e = let same : y ≡ x = cc in known x.call (inl (ap (λ (z : Placed Reply). z.call) same))
+call_within h (y ∷ ys) (suc i) x known e = call_within h ys i x (λ a there. known a (inr there)) e
 
 -- the lines so far and the lines of what is left are the lines of all
 pub record CallsWritten (h : RecordedHistory) (order : List (Placed Reply)) (old out : List ℕ) (i : ℕ) : Type 0 where

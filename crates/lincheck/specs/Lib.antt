@@ -1,3 +1,4 @@
+pub mod Device
 pub mod Reading
 pub mod Options
 pub mod Report

@@ -1,5 +1,5 @@
 -- What a verdict says of a history, and what is reported of it.
-use Rattle.std.specs.Prelude.{◌≡◌, ℕ, ◌<◌, Some, List, [], ◌∷◌, length, slice_get}
+use Rattle.std.specs.Prelude.{◌≡◌, ℕ, ◌<◌, Some, List, length, slice_get}
 use Rattle.lin_object.specs.declared.reply.Reply.{Reply}
 use Rattle.lin_history.specs.declared.locality.placed.Placed.{Placed}
 use Rattle.lin_history.specs.Problems.Lists.{IsLeast}
@@ -8,6 +8,7 @@ use Rattle.lin_history.specs.Recorder.RecordedHistory.{RecordedHistory}
 use Rattle.lin_history.specs.Locality.Whole.{IsLinearizationOfWhole}
 use Rattle.lin_history.specs.Locality.JoinedOrder.{Places, IsJoined}
 use Rattle.lin_history.specs.Locality.RecordedWhole.{start_at, whole_of, part_of}
+use Rattle.lin_history.specs.Verifier.Flags.{AreKnown}
 use Rattle.lin_search.specs.LongestRun.{IsFirstLongest}
 use Rattle.lincheck.specs.declared.verdict.Verdict.{Verdict}
 use Rattle.lincheck.specs.declared.verdict.Verdict.TheVariants.{Yes, No, Undecided}
@@ -50,15 +51,10 @@ IsVerdict h (Yes l) = ((orders : List (List ℕ)) × AreLeast h orders × IsJoin
 IsVerdict h (No object run) = (IsFirstWithout h object × IsLongestRunOf h object run.items) × ((l : List (Placed Reply)) → IsLinearizationOfWhole (whole_of h) l → ⊥)
 IsVerdict h (Undecided object) = ⊥
 
--- Each of the calls is one of the first n.
-abbrev pub AreCalls : ℕ → List (Placed Reply) → Type 0
-AreCalls n [] = Unit {0}
-AreCalls n (x ∷ xs) = (x.call < n) × AreCalls n xs
-
 -- What the verdict names are calls and objects of the history.
 abbrev pub IsOf : RecordedHistory → Verdict → Type 0
-IsOf h (Yes l) = AreCalls (length h.calls) l
-IsOf h (No object run) = (object < length h.objects) × AreCalls (length h.calls) run.items
+IsOf h (Yes l) = AreKnown (whole_of h) l
+IsOf h (No object run) = (object < length h.objects) × AreKnown (whole_of h) run.items
 IsOf h (Undecided object) = object < length h.objects
 
 -- The report of the verdict.

@@ -1,9 +1,12 @@
 //! What a text is read from and what an answer is written to.
 
 ghost use Rattle.std.specs.Prelude.{◌≡◌, ℕ, ◌<◌, ◌||◌, Bool, false, Option, List, length, IfOk, is_err};
+ghost use Rattle.std.specs.Result.{result_ok};
 ghost use Rattle.std.specs.Io.{ReadsAtMost, WritesAtMost};
 ghost use Rattle.std.specs.Io.KnownBytes.{ReadConsumes, WriteAppends, Keeps};
+ghost use Rattle.lincheck.specs.Device.{count_taken};
 
+use std::io;
 use std::io::{Read, Write};
 
 /// A read or a write that failed.
@@ -46,6 +49,31 @@ pub trait Sink {
         ensures failed { failed self.new ≡ (failed self.old || is_err result) };
 }
 
+// What a call answered, and whether it or one before it has failed. Of an error no more is told than that.
+fn noted<T>(answer: io::Result<T>, failed: &mut bool) -> Result<T, DeviceFault>
+    ensures answer { result_ok result ≡ result_ok answer }
+    ensures failed { failed.new ≡ (failed.old || is_err answer) }
+{
+    match answer {
+        Ok(value) => Ok(value),
+        Err(_) => {
+            *failed = true;
+            Err(DeviceFault)
+        }
+    }
+}
+
+// What a write of this piece answered, where taking nothing of a piece that is not empty is an error.
+fn taken(answer: io::Result<usize>, from: &[u8]) -> io::Result<usize>
+    ensures { result_ok result ≡ count_taken from.now answer }
+{
+    match answer {
+        Ok(0) if !from.is_empty() => Err(io::Error::from(io::ErrorKind::WriteZero)),
+        Ok(count) => Ok(count),
+        Err(error) => Err(error),
+    }
+}
+
 /// A reader of the standard library as a source.
 #[derive(Drop)]
 pub struct StdSource<R> {
@@ -72,13 +100,7 @@ impl<R: Read> Source for StdSource<R> {
     ghost failed = { λ s. s.failed };
 
     fn read(&mut self, into: &mut [u8]) -> Result<usize, DeviceFault> {
-        match self.reader.read(into) {
-            Ok(count) => Ok(count),
-            Err(_) => {
-                self.failed = true;
-                Err(DeviceFault)
-            }
-        }
+        noted(self.reader.read(into), &mut self.failed)
     }
 }
 
@@ -108,29 +130,10 @@ impl<W: Write> Sink for StdSink<W> {
     ghost failed = { λ s. s.failed };
 
     fn write(&mut self, from: &[u8]) -> Result<usize, DeviceFault> {
-        match self.writer.write(from) {
-            Ok(count) => {
-                if count == 0 && !from.is_empty() {
-                    self.failed = true;
-                    Err(DeviceFault)
-                } else {
-                    Ok(count)
-                }
-            }
-            Err(_) => {
-                self.failed = true;
-                Err(DeviceFault)
-            }
-        }
+        noted(taken(self.writer.write(from), from), &mut self.failed)
     }
 
     fn flush(&mut self) -> Result<(), DeviceFault> {
-        match self.writer.flush() {
-            Ok(()) => Ok(()),
-            Err(_) => {
-                self.failed = true;
-                Err(DeviceFault)
-            }
-        }
+        noted(self.writer.flush(), &mut self.failed)
     }
 }

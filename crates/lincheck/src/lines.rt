@@ -6,7 +6,9 @@ ghost use Rattle.lin_object.specs.declared.reply.Reply.{Reply};
 ghost use Rattle.lin_history.specs.Recorder.Events.{Call};
 ghost use Rattle.lin_history.specs.Recorder.RecordedHistory.{calls_on};
 ghost use Rattle.lincheck.specs.Report.{mark_of, call_line, call_lines, dropped_line, dropped_lines, is_placed, name_line, length_line, yes_report, no_report, undecided_report};
-ghost use Rattle.lincheck.specs.Verdict.{AreCalls, IsOf, report_of};
+ghost use Rattle.lin_history.specs.Locality.RecordedWhole.{whole_of};
+ghost use Rattle.lin_history.specs.Verifier.Flags.{AreKnown};
+ghost use Rattle.lincheck.specs.Verdict.{IsOf, report_of};
 
 use crate::verdict::Verdict;
 use lin_history::{History, Placed};
@@ -58,7 +60,7 @@ fn write_dropped(out: &mut String, history: &History, index: usize) -> Result<()
 
 // Appends the lines of the calls of an order.
 fn write_calls(out: &mut String, history: &History, order: &[Placed]) -> Result<(), AllocError>
-    requires { AreCalls (length history.now.calls) order.now }
+    requires { AreKnown (whole_of history.now) order.now }
     ensures { OnOk result (string_bytes out.new
         ≡ string_bytes out.old ++ call_lines history.now 1 order.now) }
 {
@@ -69,13 +71,13 @@ fn write_calls(out: &mut String, history: &History, order: &[Placed]) -> Result<
 }
 
 // For each call whether it is in the order.
-fn placed_flags(alloc: Global, calls: usize, order: &[Placed]) -> Result<Vec<bool>, AllocError>
-    requires { AreCalls calls order.now }
-    ensures count { IfOk result (λ flags. vec_len flags ≡ calls) }
-    ensures flags { IfOk result (λ flags. (a : ℕ) → a < calls
+fn placed_flags(alloc: Global, history: &History, order: &[Placed]) -> Result<Vec<bool>, AllocError>
+    requires { AreKnown (whole_of history.now) order.now }
+    ensures count { IfOk result (λ flags. vec_len flags ≡ length history.now.calls) }
+    ensures flags { IfOk result (λ flags. (a : ℕ) → a < length history.now.calls
         → slice_index_or flags.items a false ≡ is_placed order.now a) }
 {
-    let mut flags = vec![in alloc; false; calls]?;
+    let mut flags = vec![in alloc; false; history.call_count()]?;
     for placed in order {
         flags[placed.call] = true;
     }
@@ -89,11 +91,11 @@ fn write_drops(
     history: &History,
     order: &[Placed],
 ) -> Result<(), AllocError>
-    requires { AreCalls (length history.now.calls) order.now }
+    requires { AreKnown (whole_of history.now) order.now }
     ensures { OnOk result (string_bytes out.new
         ≡ string_bytes out.old ++ dropped_lines history.now order.now 0 history.now.calls) }
 {
-    let flags = placed_flags(alloc, history.call_count(), order)?;
+    let flags = placed_flags(alloc, history, order)?;
     for index in 0..history.call_count() {
         if !flags[index] {
             write_dropped(out, history, index)?;
@@ -109,7 +111,7 @@ fn write_yes(
     history: &History,
     order: &[Placed],
 ) -> Result<(), AllocError>
-    requires { AreCalls (length history.now.calls) order.now }
+    requires { AreKnown (whole_of history.now) order.now }
     ensures { OnOk result (string_bytes out.new
         ≡ string_bytes out.old ++ yes_report history.now order.now) }
 {
@@ -164,7 +166,7 @@ fn write_no(
     run: &[Placed],
 ) -> Result<(), AllocError>
     requires object { object < length history.now.objects }
-    requires run { AreCalls (length history.now.calls) run.now }
+    requires run { AreKnown (whole_of history.now) run.now }
     ensures { OnOk result (string_bytes out.new
         ≡ string_bytes out.old ++ no_report history.now object run.now) }
 {

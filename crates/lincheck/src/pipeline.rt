@@ -1,13 +1,13 @@
 //! The way from the bytes of a text to the bytes of its answer.
 
-ghost use Rattle.std.specs.Prelude.{◌≡◌, ◌≢◌, ℕ, true, false, take, OnOk, IfOk, IfErr, IfSome};
+ghost use Rattle.std.specs.Prelude.{◌≡◌, ◌≢◌, ◌||◌, ℕ, false, take, is_err, OnOk, OnErr, IfOk, IfErr, IfSome};
 ghost use Rattle.std.specs.Io.KnownBytes.{Appends};
 ghost use Rattle.lin_text.specs.Words.{fault_line};
 ghost use Rattle.lincheck.specs.Prints.{Prints};
-ghost use Rattle.lincheck.specs.Ran.{Ran};
+ghost use Rattle.lincheck.specs.Ran.{is_read, is_write, is_fault, RanFrom};
 ghost use Rattle.lincheck.specs.Reading.{IsReadOf};
 
-use crate::device::{Sink, Source};
+use crate::device::{DeviceFault, Sink, Source};
 use crate::fault::RunFault;
 use crate::judgement::judge;
 use crate::lines::report;
@@ -29,7 +29,7 @@ fn read_text<S: Source>(alloc: Global, source: &mut S) -> Result<Vec<u8>, RunFau
     ensures text { IfOk result (λ read. IfSome (S.remaining source.old)
         (λ text. IsReadOf text read.items)) }
     ensures fault { IfErr result (λ fault. fault ≢ RunFault.Write) }
-    ensures read { IfErr result (λ fault. fault ≡ RunFault.Read → S.failed source.new ≡ true) }
+    ensures failed { S.failed source.new ≡ is_fault is_read result }
 {
     let mut piece = [0u8; PIECE];
     let mut text = Vec::new(alloc);
@@ -80,23 +80,18 @@ fn answer(alloc: Global, text: &[u8]) -> Result<(Status, Vec<u8>), AllocError>
 }
 
 // Writes the whole answer, and then flushes once. After an `Err` a prefix of it is written.
-fn write_answer<W: Sink>(sink: &mut W, answer: &[u8]) -> Result<(), RunFault>
+fn write_answer<W: Sink>(sink: &mut W, answer: &[u8]) -> Result<(), DeviceFault>
     ensures ok { OnOk result (Appends (W.contents sink.old) (W.contents sink.new) answer.now) }
-    ensures write { IfErr result (λ fault. (fault ≡ RunFault.Write) × (W.failed sink.new ≡ true)) }
-    ensures prefix { IfErr result (λ fault. (n : ℕ)
+    ensures failed { W.failed sink.new ≡ (W.failed sink.old || is_err result) }
+    ensures prefix { OnErr result ((n : ℕ)
         × Appends (W.contents sink.old) (W.contents sink.new) (take n answer.now)) }
 {
     let mut rest = answer;
     'pieces: while !rest.is_empty() {
-        let Ok(count) = sink.write(rest) else {
-            return Err(RunFault::Write);
-        };
+        let count = sink.write(rest)?;
         rest = &rest[count..];
     }
-    if sink.flush().is_err() {
-        return Err(RunFault::Write);
-    }
-    Ok(())
+    sink.flush()
 }
 
 /// Reads a text from the source, checks it and writes the answer to the sink.
@@ -105,7 +100,8 @@ fn write_answer<W: Sink>(sink: &mut W, answer: &[u8]) -> Result<(), RunFault>
 /// once. Faults: `Read` where the source failed, `Memory` where memory was refused; nothing was written then. `Write`
 /// where the sink failed; a prefix of the answer was written.
 ///
-/// Conditions: neither device has failed, and the options ask for no statistics.
+/// Conditions: neither device has failed, and the options ask for no statistics. Afterwards the source has failed exactly
+/// at `Read`, and the sink exactly at `Write`.
 pub fn run<R: AllocGlobal, S: Source, W: Sink>(
     rt: &R,
     source: &mut S,
@@ -115,10 +111,10 @@ pub fn run<R: AllocGlobal, S: Source, W: Sink>(
     requires source { S.failed source.old ≡ false }
     requires sink { W.failed sink.old ≡ false }
     requires stats { options.now.stats ≡ false }
-    ensures ran { IfSome (S.remaining source.old)
-        (λ text. Ran text (W.contents sink.old) (W.contents sink.new) result) }
-    ensures read { IfErr result (λ fault. fault ≡ RunFault.Read → S.failed source.new ≡ true) }
-    ensures write { IfErr result (λ fault. fault ≡ RunFault.Write → W.failed sink.new ≡ true) }
+    ensures ran { RanFrom (S.remaining source.old) (W.contents sink.old) (W.contents sink.new)
+        result }
+    ensures source { S.failed source.new ≡ is_fault is_read result }
+    ensures sink { W.failed sink.new ≡ is_fault is_write result }
 {
     let text = match read_text(rt.alloc(), source) {
         Ok(text) => text,
@@ -129,6 +125,6 @@ pub fn run<R: AllocGlobal, S: Source, W: Sink>(
     };
     match write_answer(sink, answer.as_slice()) {
         Ok(()) => Ok(status),
-        Err(fault) => Err(fault),
+        Err(_) => Err(RunFault::Write),
     }
 }

@@ -11,5 +11,5 @@ pub index_mut-requires : goal.index_mut-requires
 index_mut-requires c =
     let x : Placed Reply = get_or c.args.order.now c.loop-placed.placed-index (record { call = 0; reply = Okay }) in
     let there : slice_get c.args.order.now c.loop-placed.placed-index ≡ Some x = slice_get-get_or c.args.order.now c.loop-placed.placed-index _ c.loop-placed-test.true in
-    let within = call_within c.args.calls c.args.order.now c.loop-placed.placed-index x c.requires there in
+    let within = call_within c.args.history.now c.args.order.now c.loop-placed.placed-index x c.requires there in
     omega (arith, within, c.loop-placed.invariant.count)

@@ -1,4 +1,4 @@
-use Rattle.std.proofs.Common.{◌≡◌, Some, get_or, length}
+use Rattle.std.proofs.Common.{◌≡◌, Some, get_or}
 use Rattle.std.specs.List.{slice_get}
 use Rattle.std.proofs.lemmas.Option.{slice_get-get_or}
 use Rattle.lin_object.specs.declared.reply.Reply.TheVariants.{Okay}
@@ -11,4 +11,4 @@ pub write_call-requires : goal.write_call-requires
 write_call-requires c =
     let x : Placed Reply = get_or c.args.order.now c.loop-index.index (record { call = 0; reply = Okay }) in
     let there : slice_get c.args.order.now c.loop-index.index ≡ Some x = slice_get-get_or c.args.order.now c.loop-index.index _ c.loop-index-test.true in
-    call_within (length c.args.history.now.calls) c.args.order.now c.loop-index.index x c.requires there
+    call_within c.args.history.now c.args.order.now c.loop-index.index x c.requires there
