@@ -1,6 +1,6 @@
 //! The part of a history on one object, built by hand or taken from a history.
 
-ghost use Rattle.std.specs.Prelude.{◌≡◌, ◌≢◌, ℕ, ◌<◌, ◌≤◌, ◌↔◌, [], None, Some, slice_get, length, IsTrue, OnOk, OnErr, IfErr};
+ghost use Rattle.std.specs.Prelude.{◌≡◌, ◌≢◌, ℕ, ◌<◌, ◌≤◌, ◌↔◌, [], None, Some, slice_get, length, nat_le, IsTrue, IsFalse, OnOk, OnErr, IfErr, IfNone};
 ghost use Rattle.lin_history.specs.Refusals.{first_that_holds};
 ghost use Rattle.lin_history.specs.Problems.SameProblem.{SameReturn, SameCall, SameCalls};
 ghost use Rattle.lin_history.specs.Problems.ProblemParts.{greatest_number};
@@ -117,7 +117,7 @@ fn last_number<P, R>(calls: &[ProblemCall<P, R>]) -> u32
 
 impl<O: SeqObject> Problem<O> {
     ghost use Rattle.lin_history.specs.Problems.SameProblem.{SameProblem};
-    ghost use Rattle.lin_history.specs.Problems.ProblemParts.{ProblemParts, AreTimed, new_call_refusals, new_return_refusals, with_new_call, with_new_return};
+    ghost use Rattle.lin_history.specs.Problems.ProblemParts.{ProblemParts, AreTimed, is_pending, new_call_refusals, new_return_refusals, with_new_call, with_new_return};
 
     /// The problem of these calls. Condition: they are in the order of their call events, return after they
     /// were called, no return event has the number of a call event, and there are no more than 4,096.
@@ -151,6 +151,55 @@ impl<O: SeqObject> Problem<O> {
         }
     }
 
+    // Whether the number is not greater than every number before.
+    fn is_late(&self, number: u32) -> bool
+        ensures late { result ≡ nat_le number (greatest_number self.now.calls) }
+        ensures rises { IsFalse result → greatest_number self.now.calls < number }
+    {
+        number <= self.last
+    }
+
+    // Why a call whose event has this number is refused.
+    fn call_fault(&self, number: u32) -> Option<ProblemFault>
+        ensures fault { result ≡ first_that_holds (new_call_refusals self.now number) }
+        ensures late { IfNone result (greatest_number self.now.calls < number) }
+        ensures room { IfNone result (length self.now.calls < MAX_CALLS_ON_OBJECT) }
+    {
+        if self.is_late(number) {
+            Some(ProblemFault::Late)
+        } else if self.calls.len() >= MAX_CALLS_ON_OBJECT {
+            Some(ProblemFault::TooManyCalls)
+        } else {
+            None
+        }
+    }
+
+    // Whether the call is there and has not returned.
+    fn is_pending(&self, call: usize) -> bool
+        ensures pending { result ≡ is_pending (slice_get self.now.calls call) }
+        ensures within { IsTrue result → call < length self.now.calls }
+    {
+        match self.calls.get(call) {
+            Some(call) => call.returned.is_none(),
+            None => false,
+        }
+    }
+
+    // Why a return of the call whose event has this number is refused.
+    fn return_fault(&self, call: usize, number: u32) -> Option<ProblemFault>
+        ensures fault { result ≡ first_that_holds (new_return_refusals self.now call number) }
+        ensures late { IfNone result (greatest_number self.now.calls < number) }
+        ensures within { IfNone result (call < length self.now.calls) }
+    {
+        if self.is_late(number) {
+            Some(ProblemFault::Late)
+        } else if !self.is_pending(call) {
+            Some(ProblemFault::NoCall)
+        } else {
+            None
+        }
+    }
+
     /// Adds a pending call whose call event has this number. Refusals, in order: `Late` where the number
     /// is 0 or not greater than every number before, `TooManyCalls` where 4,096 calls are there,
     /// `OutOfMemory`. After a refusal nothing has changed.
@@ -163,11 +212,8 @@ impl<O: SeqObject> Problem<O> {
             → first_that_holds (new_call_refusals self.old number) ≡ None) }
         ensures same { OnErr result (self.new ≡ self.old) }
     {
-        if number <= self.last {
-            return Err(ProblemFault::Late);
-        }
-        if self.calls.len() >= MAX_CALLS_ON_OBJECT {
-            return Err(ProblemFault::TooManyCalls);
+        if let Some(fault) = self.call_fault(number) {
+            return Err(fault);
         }
         let call = ProblemCall {
             process,
@@ -198,17 +244,10 @@ impl<O: SeqObject> Problem<O> {
             (new_return_refusals self.old call number) ≡ Some fault) }
         ensures same { OnErr result (self.new ≡ self.old) }
     {
-        if self.last >= number {
-            return Err(ProblemFault::Late);
+        if let Some(fault) = self.return_fault(call, number) {
+            return Err(fault);
         }
-        if call >= self.calls.len() {
-            return Err(ProblemFault::NoCall);
-        }
-        let pending = &mut self.calls[call];
-        if pending.returned.is_some() {
-            return Err(ProblemFault::NoCall);
-        }
-        pending.returned = Some((number, reply));
+        self.calls[call].returned = Some((number, reply));
         self.last = number;
         Ok(())
     }
