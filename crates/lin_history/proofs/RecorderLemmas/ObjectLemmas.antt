@@ -1,5 +1,5 @@
 -- Objects by name, beside the map that holds them.
-use Rattle.std.proofs.Common.{◌≡◌, ℕ, Bool, false, not, cond, nat_lt, List, [], ◌∷◌, ◌++◌, map, length, position, Option, Some, None, is_some, bytes_eq, String, string_bytes, Global, refl, sym, ap, subst, ◌∙◌, ◌+◌}
+use Rattle.std.proofs.Common.{◌≡◌, ℕ, Bool, not, cond, nat_lt, List, [], ◌∷◌, ◌++◌, map, length, position, Option, Some, None, is_some, bytes_eq, String, string_bytes, Global, refl, sym, ap, subst, ◌∙◌, ◌+◌}
 use Rattle.std.proofs.lemmas.List.{map-append, length-map}
 use Rattle.std.specs.Map.{lookup, keys_of}
 use Rattle.std.specs.List.{position_or_len}

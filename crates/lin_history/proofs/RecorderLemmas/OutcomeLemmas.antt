@@ -1,5 +1,5 @@
 -- What holds of an outcome that is not the other one.
-use Rattle.std.proofs.Common.{◌≡◌, true, false, Option, Some, None, is_some, Result, Ok, Err, OnOk, OnErr, is_err, refl}
+use Rattle.std.proofs.Common.{◌≡◌, true, false, Result, Ok, Err, OnOk, OnErr, is_err}
 
 pub not_err : {A B : Type 0} (r : Result A B) (P : Type 0) → OnOk r P → is_err r ≡ false → P
 not_err (Ok x) P p e = p

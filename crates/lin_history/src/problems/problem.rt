@@ -1,6 +1,6 @@
 //! The part of a history on one object, built by hand or taken from a history.
 
-ghost use Rattle.std.specs.Prelude.{◌≡◌, ◌≢◌, ℕ, ◌<◌, ◌↔◌, [], None, Some, slice_get, length, IsTrue, OnOk, OnErr, IfErr};
+ghost use Rattle.std.specs.Prelude.{◌≡◌, ◌≢◌, ℕ, ◌<◌, ◌≤◌, ◌↔◌, [], None, Some, slice_get, length, nat_le, IsTrue, IsFalse, OnOk, OnErr, IfErr, IfNone};
 ghost use Rattle.lin_history.specs.Refusals.{first_that_holds};
 ghost use Rattle.lin_history.specs.Problems.SameProblem.{SameReturn, SameCall, SameCalls};
 ghost use Rattle.lin_history.specs.Problems.ProblemParts.{greatest_number};
@@ -88,14 +88,16 @@ pub struct Problem<O: SeqObject> {
 
 // Contracts see the object, the state at the start and the calls; the greatest number is kept beside them.
 impl<O: SeqObject> Model for Problem<O> {
-    ghost use Rattle.std.specs.Prelude.{◌≡◌};
+    ghost use Rattle.std.specs.Prelude.{◌≡◌, ◌≤◌, length};
+    ghost use Rattle.lin_history.specs.declared.limits.TheConstants.{MAX_CALLS_ON_OBJECT};
     ghost use Rattle.lin_history.specs.Problems.ProblemParts.{ProblemParts, AreTimed, greatest_number};
 
     ghost Value = { ProblemParts O O.State O.Op O.Reply };
 
     ghost view = { λ p. record { object = p.object; start = p.start; calls = p.calls.items } };
 
-    ghost invariant = { λ p. (p.last ≡ greatest_number p.calls.items) × AreTimed p.calls.items };
+    ghost invariant = { λ p. (p.last ≡ greatest_number p.calls.items) × AreTimed p.calls.items
+        × (length p.calls.items ≤ MAX_CALLS_ON_OBJECT) };
 }
 
 // The greatest event number of the calls; 0 where there is none.
@@ -115,16 +117,17 @@ fn last_number<P, R>(calls: &[ProblemCall<P, R>]) -> u32
 
 impl<O: SeqObject> Problem<O> {
     ghost use Rattle.lin_history.specs.Problems.SameProblem.{SameProblem};
-    ghost use Rattle.lin_history.specs.Problems.ProblemParts.{ProblemParts, AreTimed, new_call_refusals, new_return_refusals, with_new_call, with_new_return};
+    ghost use Rattle.lin_history.specs.Problems.ProblemParts.{ProblemParts, AreTimed, is_pending, new_call_refusals, new_return_refusals, with_new_call, with_new_return};
 
     /// The problem of these calls. Condition: they are in the order of their call events, return after they
-    /// were called, and no return event has the number of a call event.
+    /// were called, no return event has the number of a call event, and there are no more than 4,096.
     pub(crate) fn with_calls(
         object: O,
         start: O::State,
         calls: Vec<ProblemCall<O::Op, O::Reply>>,
     ) -> Self
-        requires { AreTimed calls.items }
+        requires timed { AreTimed calls.items }
+        requires few { length calls.items ≤ MAX_CALLS_ON_OBJECT }
         ensures { result ≡ record { object = object; start = start; calls = calls.items } }
     {
         let last = last_number(calls.as_slice());
@@ -148,6 +151,55 @@ impl<O: SeqObject> Problem<O> {
         }
     }
 
+    // Whether the number is not greater than every number before.
+    fn is_late(&self, number: u32) -> bool
+        ensures late { result ≡ nat_le number (greatest_number self.now.calls) }
+        ensures rises { IsFalse result → greatest_number self.now.calls < number }
+    {
+        number <= self.last
+    }
+
+    // Why a call whose event has this number is refused.
+    fn call_fault(&self, number: u32) -> Option<ProblemFault>
+        ensures fault { result ≡ first_that_holds (new_call_refusals self.now number) }
+        ensures late { IfNone result (greatest_number self.now.calls < number) }
+        ensures room { IfNone result (length self.now.calls < MAX_CALLS_ON_OBJECT) }
+    {
+        if self.is_late(number) {
+            Some(ProblemFault::Late)
+        } else if self.calls.len() >= MAX_CALLS_ON_OBJECT {
+            Some(ProblemFault::TooManyCalls)
+        } else {
+            None
+        }
+    }
+
+    // Whether the call is there and has not returned.
+    fn is_pending(&self, call: usize) -> bool
+        ensures pending { result ≡ is_pending (slice_get self.now.calls call) }
+        ensures within { IsTrue result → call < length self.now.calls }
+    {
+        match self.calls.get(call) {
+            Some(call) => call.returned.is_none(),
+            None => false,
+        }
+    }
+
+    // Why a return of the call whose event has this number is refused.
+    fn return_fault(&self, call: usize, number: u32) -> Option<ProblemFault>
+        ensures fault { result ≡ first_that_holds (new_return_refusals self.now call number) }
+        ensures late { IfNone result (greatest_number self.now.calls < number) }
+        ensures within { IfNone result (call < length self.now.calls) }
+    {
+        if self.is_late(number) {
+            Some(ProblemFault::Late)
+        } else if !self.is_pending(call) {
+            Some(ProblemFault::NoCall)
+        } else {
+            None
+        }
+    }
+
     /// Adds a pending call whose call event has this number. Refusals, in order: `Late` where the number
     /// is 0 or not greater than every number before, `TooManyCalls` where 4,096 calls are there,
     /// `OutOfMemory`. After a refusal nothing has changed.
@@ -160,11 +212,8 @@ impl<O: SeqObject> Problem<O> {
             → first_that_holds (new_call_refusals self.old number) ≡ None) }
         ensures same { OnErr result (self.new ≡ self.old) }
     {
-        if number <= self.last {
-            return Err(ProblemFault::Late);
-        }
-        if self.calls.len() >= MAX_CALLS_ON_OBJECT {
-            return Err(ProblemFault::TooManyCalls);
+        if let Some(fault) = self.call_fault(number) {
+            return Err(fault);
         }
         let call = ProblemCall {
             process,
@@ -195,17 +244,10 @@ impl<O: SeqObject> Problem<O> {
             (new_return_refusals self.old call number) ≡ Some fault) }
         ensures same { OnErr result (self.new ≡ self.old) }
     {
-        if self.last >= number {
-            return Err(ProblemFault::Late);
+        if let Some(fault) = self.return_fault(call, number) {
+            return Err(fault);
         }
-        if call >= self.calls.len() {
-            return Err(ProblemFault::NoCall);
-        }
-        let pending = &mut self.calls[call];
-        if pending.returned.is_some() {
-            return Err(ProblemFault::NoCall);
-        }
-        pending.returned = Some((number, reply));
+        self.calls[call].returned = Some((number, reply));
         self.last = number;
         Ok(())
     }
@@ -225,10 +267,11 @@ impl<O: SeqObject> Problem<O> {
         &self.calls[call]
     }
 
-    /// The calls, in the order of their call events.
-    pub(crate) fn calls(&self) -> &[ProblemCall<O::Op, O::Reply>]
+    /// The calls, in the order of their call events: no more than 4,096.
+    pub fn calls(&self) -> &[ProblemCall<O::Op, O::Reply>]
         ensures calls { result.now ≡ self.now.calls }
         ensures timed { AreTimed self.now.calls }
+        ensures few { length self.now.calls ≤ MAX_CALLS_ON_OBJECT }
     {
         self.calls.as_slice()
     }

@@ -5,7 +5,7 @@ ghost use Rattle.indexmap.specs.IndexMap.{get};
 ghost use Rattle.lin_history.specs.Refusals.{first_that_holds};
 ghost use Rattle.lin_history.specs.Recorder.Events.{calls, returns_};
 ghost use Rattle.lin_history.specs.Recorder.Names.{is_name};
-ghost use Rattle.lin_history.specs.Recorder.RecordedHistory.{is_pending_of, index_named, kind_named};
+ghost use Rattle.lin_history.specs.Recorder.RecordedHistory.{is_pending_of, index_named, kind_named, declaration_refusals};
 ghost use Rattle.lin_history.specs.Recorder.Views.{object_view, call_view, count_on};
 ghost use Rattle.lin_history.specs.Recorder.BuilderState.{recorded, name_refusals, KnowsPending, AreCounts};
 
@@ -70,6 +70,24 @@ fn find_object(objects: &IndexMap<String, Declaration>, name: &str) -> Result<us
         index_in(objects, name).ok_or(BuildFault::UnknownObject)
     } else {
         Err(BuildFault::BadName)
+    }
+}
+
+// Why a declaration of this name is refused.
+fn declaration_fault(objects: &IndexMap<String, Declaration>, name: &str) -> Option<BuildFault>
+    ensures fault { result ≡ first_that_holds (declaration_refusals
+        (recorded (map object_view objects.now.entries) [] 0) name.now) }
+    ensures absent { IfNone result (index_named
+        (recorded (map object_view objects.now.entries) [] 0) name.now ≡ None) }
+{
+    if !is_name(name) {
+        Some(BuildFault::BadName)
+    } else if index_in(objects, name).is_some() {
+        Some(BuildFault::Declared)
+    } else if objects.len() >= MAX_OBJECTS {
+        Some(BuildFault::TooManyObjects)
+    } else {
+        None
     }
 }
 
@@ -237,14 +255,8 @@ impl Builder {
             → first_that_holds (declaration_refusals self.old name.now) ≡ None) }
         ensures same { OnErr result (self.new ≡ self.old) }
     {
-        if !is_name(name) {
-            return Err(BuildFault::BadName);
-        }
-        if index_in(&self.objects, name).is_some() {
-            return Err(BuildFault::Declared);
-        }
-        if self.objects.len() >= MAX_OBJECTS {
-            return Err(BuildFault::TooManyObjects);
+        if let Some(fault) = declaration_fault(&self.objects, name) {
+            return Err(fault);
         }
         let declaration = Declaration::new(kind, start);
         if put(
