@@ -54,6 +54,13 @@ impl<'p, O: SeqObject> OwnMemo<'p, O> {
         }
     }
 
+    /// The problem that the memo names.
+    pub fn problem(&self) -> &'p Problem<O>
+        ensures { result.now ≡ self.now.problem }
+    {
+        self.problem
+    }
+
     /// How many configurations are stored.
     pub fn count(&self) -> u64
         ensures count { result ≡ length self.now.pairs }
