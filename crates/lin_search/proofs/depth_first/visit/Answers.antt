@@ -9,9 +9,9 @@ lift-requires-clause-outside g c = rw (calls_here _ _ _ _ _ _ _ _ c.requires.pro
 pub returns-then-is_complete-clause-step : goal.returns-then-is_complete-clause-step
 returns-then-is_complete-clause-step g c =
     ok_map _ _ c.success.result (λ step is root limit left after taken k.
-      (let lifted = calls_more (problem_of g.O.SeqObject.after g.O.State.PartialEq.eq g.O.Reply.PartialEq.eq c.args.path.now.entries.problem) c.args.path.now.entries.lifted c.lift.new.self.entries.lifted c.args.frame.call _ _ (rw c.call-call.ensures at c.lift.ensures.lifted) (calls_here _ _ _ _ _ _ _ _ k) c.requires.lifted in
-      let found = rw (c.lift.ensures.frames, c.call-call.ensures) at is in
-      rw found (way_found root _ _ c.args.child _ _ _ refl k.at c.requires.next c.requires.lifted (complete_here g.O.SeqObject.after g.O.State.PartialEq.eq g.O.Reply.PartialEq.eq _ _ c.lift.ensures.problem c.lift.new.self.entries.lifted _ lifted (c.is_complete.ensures.0 c.if-is_complete.true))))) c.success.ensures
+    (let lifted = calls_more (problem_of g.O.SeqObject.after g.O.State.PartialEq.eq g.O.Reply.PartialEq.eq c.args.path.now.entries.problem) c.args.path.now.entries.lifted c.lift.new.self.entries.lifted c.args.frame.call _ _ (rw c.call-call.ensures at c.lift.ensures.lifted) (calls_here _ _ _ _ _ _ _ _ k) c.requires.lifted in
+    let found = rw (c.lift.ensures.frames, c.call-call.ensures) at is in
+    rw found (way_found root _ _ c.args.child _ _ _ refl k.at c.requires.next c.requires.lifted (complete_here g.O.SeqObject.after g.O.State.PartialEq.eq g.O.Reply.PartialEq.eq _ _ c.lift.ensures.problem c.lift.new.self.entries.lifted _ lifted (c.is_complete.ensures.0 c.if-is_complete.true))))) c.success.ensures
 
 pub returns-then-is_complete-clause-holds : goal.returns-then-is_complete-clause-holds
 returns-then-is_complete-clause-holds g c = ok_map _ _ c.success.result (λ step is root k. rw is (λ refutation. absurd refutation)) c.success.ensures

@@ -19,3 +19,6 @@ returns-clause-each g c = rw c.problem.ensures at c.in_ok-outcome.ensures.all
 pub returns-clause-all : goal.returns-clause-all
 returns-clause-all g c =
     λ refuted closed. number_stored _ _ _ (rw c.search_root.ensures.memo.problem at c.count-stored.ensures.store) c.count-stored.ensures.count ((rw c.problem.ensures at c.in_ok-outcome.ensures.all) refuted closed)
+
+pub returns-clause-count : goal.returns-clause-count
+returns-clause-count g c = c.count-stored.ensures.count
