@@ -18,6 +18,8 @@ use Rattle.lin_search.specs.Links.{Linked, without, with_entry, HasLinks, IsRow}
 use Rattle.lin_search.specs.CallEntries.{CallEntries, AreCallEntries, without_return, without_call, with_return, with_call_entries, without_calls}
 use Rattle.lin_search.specs.Entries.{IsMinimal, IsLeastMinimal}
 use Rattle.lin_search.specs.EntryLinks.{one_completed, count_completed, one_left, count_left, call_of_event, CanTakeOut, CanPutBack, AreLifted, AreEntries}
+use Rattle.lin_search.specs.Progress.{free}
+use Rattle.lin_search.proofs.ProgressLemmas.{free_less, free_within}
 use Rattle.lin_search.proofs.LinksLemmas.{IsLinked, linked_same, linked_row, linked_without, has_links, has_links_back, with_without}
 use Rattle.lin_search.proofs.CallEntriesLemmas.{call_of, call_or_return}
 
@@ -43,31 +45,13 @@ module _ {State Op Reply : Type 0} (p : Problem State Op Reply) where
   lifted_before set [] c k = (tt, k.0, k.1)
   lifted_before set (d ∷ l) c k = let r = lifted_before (with_call set d) l c k.2 in ((k.0, k.1, r.0), r.1, r.2)
 
--- How many calls are not in the set.
-abbrev count_out : List Bool → ℕ
-count_out [] = 0
-count_out (true ∷ set) = count_out set
-count_out (false ∷ set) = count_out set + 1
-
-out_with : (set : List Bool) (c : ℕ) → c < length set → has set c ≡ false → count_out (with_call set c) + 1 ≡ count_out set
-out_with [] c h e = absurd (omega (arith, h))
-out_with (true ∷ set) zero h e = absurd (cc)
-out_with (false ∷ set) zero h e = refl
-out_with (true ∷ set) (suc c) h e = out_with set c (omega (arith, h)) e
-out_with (false ∷ set) (suc c) h e = let r = out_with set c (omega (arith, h)) e in omega (arith, r)
-
-out_within : (set : List Bool) → count_out set ≤ length set
-out_within [] = omega arith
-out_within (true ∷ set) = let r = out_within set in omega (arith, r)
-out_within (false ∷ set) = let r = out_within set in omega (arith, r)
-
 module _ {State Op Reply : Type 0} (p : Problem State Op Reply) where
-  out_lifted : (set : List Bool) (l : List ℕ) → length set ≡ length p.calls → AreLifted p set l → count_out (with_calls set l) + length l ≡ count_out set
+  out_lifted : (set : List Bool) (l : List ℕ) → length set ≡ length p.calls → AreLifted p set l → free (with_calls set l) + length l ≡ free set
   out_lifted set [] n k = omega arith
   out_lifted set (c ∷ l) n k =
       let h = k.0 in
       let r = out_lifted (with_call set c) l (length-set set c true ∙ n) k.2 in
-      let s = out_with set c (omega (arith, n, h)) k.1 in
+      let s = free_less set c (omega (arith, n, h)) k.1 in
       omega (arith, r, s)
 
   none_length : length (no_calls p) ≡ length p.calls
@@ -81,8 +65,8 @@ module _ {State Op Reply : Type 0} (p : Problem State Op Reply) where
   room_left l c k h out =
       let n = set_length l in
       let a = out_lifted (no_calls p) l none_length k in
-      let b = out_with (lifted_set p l) c (omega (arith, n, h)) out in
-      let d = out_within (no_calls p) in
+      let b = free_less (lifted_set p l) c (omega (arith, n, h)) out in
+      let d = free_within (no_calls p) in
       let e = none_length in
       omega (arith, a, b, d, e)
 

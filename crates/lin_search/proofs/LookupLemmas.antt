@@ -1,5 +1,5 @@
 -- What the look-ups of a map say of a store, and what each answer of the store says to a search.
-use Rattle.std.proofs.Common.{◌≡◌, Bool, true, false, Option, Some, None, List, [], ◌∷◌, ◌++◌, ◌⊎◌, inl, inr, refl, sym, ap, subst, ◌∙◌, cond}
+use Rattle.std.proofs.Common.{◌≡◌, ℕ, arith, length, Bool, true, false, Option, Some, None, List, [], ◌∷◌, ◌++◌, ◌⊎◌, inl, inr, refl, sym, ap, subst, ◌∙◌, cond}
 use Rattle.std.specs.Prelude.{◌↔◌, is_some, IfSome, IsSome}
 use Rattle.std.specs.Map.{lookup}
 use Rattle.std.specs.Cmp.{IsEquivalence}
@@ -8,6 +8,8 @@ use mathlib.Core.Bool.{beq}
 use Rattle.indexmap.specs.IndexMap.{insert_entry}
 use Rattle.indexmap.proofs.MapLemmas.{insert_entry-absent, absent_from_lookup}
 use Rattle.lin_history.specs.Problems.Problem.{Problem}
+use Rattle.lin_history.specs.Problems.Lists.{IsLongest, first_of}
+use Rattle.lin_history.specs.Problems.Continuations.{IsContinuation}
 use Rattle.lin_search.specs.declared.longest.Longest.{Longest}
 use Rattle.lin_search.specs.declared.memo.Noted.{Noted}
 use Rattle.lin_search.specs.declared.memo.Noted.TheVariants.{New, Known, Busy, NoRoom, Stranger}
@@ -78,6 +80,58 @@ module _ {State : Type 0} (same : State → State → Bool) (k : Configuration S
   pub inserted : (l : Longest) → is_some (lookup (same_configuration same k) es) ≡ false → insert_entry (same_configuration same) es k l ≡ es ++ (k, l) ∷ []
   inserted l e = insert_entry-absent (same_configuration same) k l es (absent_from_lookup (same_configuration same k) es (none_of (lookup (same_configuration same k) es) e))
 
+-- what the longest lists tell is one
+longest_one : (P : List ℕ → Type 0) (m n : ℕ) (f h : Option ℕ) → IsLongest P m f → IsLongest P n h → (m ≡ n) × (f ≡ h)
+longest_one P m n f h a b = (same, firsts f h refl refl)
+  where
+    same : m ≡ n
+    same =
+        let q = a.greatest b.there.0 b.there.1 in
+        let r = b.greatest a.there.0 a.there.1 in
+        omega (arith, q, r, a.there.2, b.there.2)
+
+    empty : (l : List ℕ) → first_of l ≡ None → length l ≡ 0
+    empty [] e = refl
+    empty (c ∷ cs) e = absurd (cc)
+
+    full : (l : List ℕ) (c : ℕ) → first_of l ≡ Some c → length l ≡ 0 → ⊥
+    full [] c e k = cc
+    full (d ∷ ds) c e k = omega (arith, k)
+
+    firsts : (x y : Option ℕ) → x ≡ f → y ≡ h → f ≡ h
+    firsts None None e k = sym e ∙ k
+    firsts None (Some d) e k = absurd (full b.there.0 d (b.there.3 ∙ sym k) (let q = empty a.there.0 (a.there.3 ∙ sym e) in omega (arith, q, same, a.there.2, b.there.2)))
+    firsts (Some c) None e k = absurd (full a.there.0 c (a.there.3 ∙ sym e) (let q = empty b.there.0 (b.there.3 ∙ sym k) in omega (arith, q, same, a.there.2, b.there.2)))
+    firsts (Some c) (Some d) e k =
+        let low = a.least b.there.0 b.there.1 (b.there.2 ∙ sym same) c d (sym e) (b.there.3 ∙ sym k) in
+        let high = b.least a.there.0 a.there.1 (a.there.2 ∙ same) d c (sym k) (a.there.3 ∙ sym e) in
+        let one : c ≡ d = omega (arith, low, high) in
+        sym e ∙ (ap (λ (x : ℕ). Some x) one ∙ k)
+
+-- what is told, by its two parts
+abbrev told : ℕ → Option ℕ → Longest
+told m g = record { more = m; first = g }
+
+same_longest : (a b : Longest) → a.more ≡ b.more → a.first ≡ b.first → a ≡ b
+same_longest a b e f = by a.more b.more a.first b.first e f
+  where
+    by : (m n : ℕ) (g h : Option ℕ) → m ≡ n → g ≡ h → told m g ≡ told n h
+    by m n g h e f = rw (e, f) refl
+
+-- a configuration is refuted with one longest
+refuted_one : {State Op Reply : Type 0} (p : Problem State Op Reply) (set : List Bool) (s : State) (a b : Longest) → IsRefutedWith p set s a → IsRefutedWith p set s b → a ≡ b
+refuted_one p set s a b k h = let q = longest_one (IsContinuation p set s) a.more b.more a.first b.first k.longest_is h.longest_is in same_longest a b q.0 q.1
+
+-- to store again what is stored changes nothing
+module _ {State : Type 0} (same : State → State → Bool) (k : Configuration State) where
+  inserted_again : (es : List (Configuration State × Longest)) (l : Longest) → lookup (same_configuration same k) es ≡ Some l → insert_entry (same_configuration same) es k l ≡ es
+  inserted_again [] l e = absurd (cc)
+  inserted_again (x ∷ es) l e = by (same_configuration same k x.0) refl e (λ f. inserted_again es l f)
+    where
+      by : (b : Bool) → same_configuration same k x.0 ≡ b → cond b (Some x.1) (lookup (same_configuration same k) es) ≡ Some l → (lookup (same_configuration same k) es ≡ Some l → insert_entry (same_configuration same) es k l ≡ es) → insert_entry (same_configuration same) (x ∷ es) k l ≡ x ∷ es
+      by true f e rest = let one : x.1 ≡ l = cc in rw (f, ← one) refl
+      by false f e rest = rw (f, rest e) refl
+
 module _ {State Op Reply : Type 0} (p : Problem State Op Reply) where
   refuted_more : (es : List (Configuration State × Longest)) (e : Configuration State × Longest) → AllRefuted p es → IsRefutedWith p e.0.lifted e.0.state e.1 → AllRefuted p (es ++ e ∷ [])
   refuted_more [] e all r = (r, tt)
@@ -142,3 +196,11 @@ noted_ours same ours old new config longest Known o k = (o, k.1, k.2)
 noted_ours same ours old new config longest NoRoom o k = (o, k.1, k.2)
 noted_ours same ours old new config longest Stranger o k = absurd (k.0 tt)
 noted_ours same ours old new config longest Busy o k = absurd k
+
+module _ {State Op Reply : Type 0} {p : Problem State Op Reply} (alike : AreAlike p p) where
+  -- a refuted configuration that is stored is stored with its longest
+  pub stored_again : (k : Configuration State) (es : List (Configuration State × Longest)) (o : Option Longest) (l m : Longest) → AllRefuted p es → IsRefutedWith p k.lifted k.state l → o ≡ lookup (same_configuration p.same_state k) es → o ≡ Some m → insert_entry (same_configuration p.same_state) es k l ≡ es
+  stored_again k es o l m all r there e =
+      let stored = sym there ∙ e in
+      let one = refuted_one p k.lifted k.state m l (found_refuted alike k es all (Some m) (sym stored)) r in
+      inserted_again p.same_state k es l (stored ∙ ap (λ (x : Longest). Some x) one)

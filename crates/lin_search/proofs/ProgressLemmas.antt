@@ -10,7 +10,7 @@ use Rattle.lin_search.specs.CallSet.{with_call}
 use Rattle.lin_search.specs.declared.longest.Longest.{Longest}
 use Rattle.lin_search.specs.NextCall.{IsNext, HasEveryCompleted}
 use Rattle.lin_search.specs.Progress.{IsBelow, IsSearchedTo, free}
-use Rattle.lin_search.specs.FirstCallLemmas.{continuation_split, continuation_join, completion_split, completion_join, none_continues, none_completes, complete_none, next_one, next_within}
+use Rattle.lin_search.specs.FirstCallLemmas.{continuation_split, continuation_join, completion_join, none_continues, none_completes, complete_none, next_within, tail_continues, tail_completes}
 
 pub below_more : (i : ℕ) (l : List ℕ) → IsBelow i l → IsBelow (i + 1) l
 below_more i [] b = tt
@@ -105,23 +105,16 @@ module _ {State Op Reply : Type 0} (p : Problem State Op Reply) where
 
   -- the call i leads to a configuration that has no completion and this longest continuation
   module _ (set : List Bool) (s : State) (i : ℕ) (t : State) (below : ℕ) (below_first : Option ℕ) (flags : length set ≡ length p.calls) (is_next : IsNext p set s i t) (refuted : (l : List ℕ) → IsCompletion p (with_call set i) t l → ⊥) (deep : IsLongest (IsContinuation p (with_call set i) t) below below_first) where
-    -- a continuation that begins with i goes on from that configuration
-    tail_continues : (cs : List ℕ) → IsContinuation p set s (i ∷ cs) → IsContinuation p (with_call set i) t cs
-    tail_continues cs k = let n = continuation_split p set s i cs flags k in subst (λ (u : State). IsContinuation p (with_call set i) u cs) (next_one p set s i n.0 t n.1 is_next) n.2
-
-    tail_completes : (cs : List ℕ) → IsCompletion p set s (i ∷ cs) → IsCompletion p (with_call set i) t cs
-    tail_completes cs k = let n = completion_split p set s i cs flags k in subst (λ (u : State). IsCompletion p (with_call set i) u cs) (next_one p set s i n.0 t n.1 is_next) n.2
-
     none_more : (more : ℕ) (first : Option ℕ) → IsSearchedTo p set s i more first → (l : List ℕ) → IsCompletion p set s l → IsBelow (i + 1) l → ⊥
     none_more more first searched l k b = elim (below_cases i l b) [
       | inl h ↦ searched.none l k h
-      | inr q ↦ refuted q.0 (tail_completes q.0 (subst (λ (m : List ℕ). IsCompletion p set s m) q.1 k))
+      | inr q ↦ refuted q.0 (tail_completes p set s i t flags is_next q.0 (subst (λ (m : List ℕ). IsCompletion p set s m) q.1 k))
     ]
 
     -- such a list is no longer than one more
     deep_short : (l cs : List ℕ) → l ≡ i ∷ cs → IsContinuation p set s l → length l ≤ below + 1
     deep_short l cs e k =
-        let h = deep.greatest cs (tail_continues cs (subst (λ (m : List ℕ). IsContinuation p set s m) e k)) in
+        let h = deep.greatest cs (tail_continues p set s i t flags is_next cs (subst (λ (m : List ℕ). IsContinuation p set s m) e k)) in
         let n : length l ≡ suc (length cs) = ap length e in
         omega (arith, h, n)
 
@@ -203,15 +196,12 @@ module _ {State Op Reply : Type 0} (p : Problem State Op Reply) where
       up_to [] k = absurd (searched.none [] k tt)
       up_to (c ∷ cs) k = elim (three c i) [
         | inl h ↦ absurd (searched.none (c ∷ cs) k h)
-        | inr (inl h) ↦ inr (sym h, least.1 cs (tail cs (subst (λ (x : ℕ). IsCompletion p set s (x ∷ cs)) h k)))
+        | inr (inl h) ↦ inr (sym h, least.1 cs (tail_completes p set s i t flags is_next cs (subst (λ (x : ℕ). IsCompletion p set s (x ∷ cs)) h k)))
         | inr (inr h) ↦ inl h
       ]
         where
           three : (c i : ℕ) → (c < i) ⊎ ((c ≡ i) ⊎ (i < c))
           three c i = grind arith
-
-          tail : (cs : List ℕ) → IsCompletion p set s (i ∷ cs) → IsCompletion p (with_call set i) t cs
-          tail cs k = let n = completion_split p set s i cs flags k in subst (λ (u : State). IsCompletion p (with_call set i) u cs) (next_one p set s i n.0 t n.1 is_next) n.2
 
   pub least_none : (set : List Bool) (s : State) → HasEveryCompleted p set → IsLeast (IsCompletion p set s) []
   least_none set s h = (none_completes p set s h, λ l k. tt)

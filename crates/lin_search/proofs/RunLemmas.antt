@@ -6,7 +6,7 @@ use Rattle.lin_history.specs.Problems.Continuations.{IsContinuation, IsCompletio
 use Rattle.lin_search.specs.CallSet.{with_call}
 use Rattle.lin_search.specs.NextCall.{IsNext}
 use Rattle.lin_search.specs.LongestRun.{IsFirstLongest}
-use Rattle.lin_search.specs.FirstCallLemmas.{continuation_split, continuation_join, completion_join, next_one}
+use Rattle.lin_search.specs.FirstCallLemmas.{continuation_split, continuation_join, completion_join, tail_continues}
 use Rattle.lin_search.specs.AlikeLemmas.{AreAlike, turned, like_continuation}
 
 -- a longest list with no first call is empty
@@ -33,9 +33,6 @@ module _ {State Op Reply : Type 0} (p : Problem State Op Reply) (set : List Bool
       (q.0, q.1)
 
   module _ (c : ℕ) (t : State) (is_next : IsNext p set s c t) where
-    tail : (cs : List ℕ) → IsContinuation p set s (c ∷ cs) → IsContinuation p (with_call set c) t cs
-    tail cs k = let n = continuation_split p set s c cs flags k in subst (λ (u : State). IsContinuation p (with_call set c) u cs) (next_one p set s c n.0 t n.1 is_next) n.2
-
     -- the longest continuation begins with that call, and goes on with the longest after it
     pub longest_step : (more : ℕ) → IsLongest (IsContinuation p set s) more (Some c) → (m : List ℕ) → IsFirstLongest (IsContinuation p (with_call set c) t) m → IsFirstLongest (IsContinuation p set s) (c ∷ m)
     longest_step more k m best = record {
@@ -47,7 +44,7 @@ module _ {State Op Reply : Type 0} (p : Problem State Op Reply) (set : List Bool
         fits : more ≤ length m + 1
         fits =
             let b = begins_with k.there.0 c k.there.3 in
-            let n = best.greatest b.0 (tail b.0 (subst (λ (l : List ℕ). IsContinuation p set s l) b.1 k.there.1)) in
+            let n = best.greatest b.0 (tail_continues p set s c t flags is_next b.0 (subst (λ (l : List ℕ). IsContinuation p set s l) b.1 k.there.1)) in
             let e : length k.there.0 ≡ suc (length b.0) = ap length b.1 in
             let f = k.there.2 in
             omega (arith, n, e, f)
@@ -62,7 +59,7 @@ module _ {State Op Reply : Type 0} (p : Problem State Op Reply) (set : List Bool
             let all : length (d ∷ ds) ≡ more = omega (arith, n, e, fits) in
             elim (order c d (k.least (d ∷ ds) h all c d refl refl)) [
               | inl q ↦ inl q
-              | inr q ↦ inr (q, best.least ds (tail ds (subst (λ (x : ℕ). IsContinuation p set s (x ∷ ds)) (sym q) h)) (omega (arith, e)))
+              | inr q ↦ inr (q, best.least ds (tail_continues p set s c t flags is_next ds (subst (λ (x : ℕ). IsContinuation p set s (x ∷ ds)) (sym q) h)) (omega (arith, e)))
             ]
 
     -- no completion after the call, where there is none before it

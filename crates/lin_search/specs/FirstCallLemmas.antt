@@ -15,6 +15,11 @@ begins : (c : ℕ) (cs early : List ℕ) (b : ℕ) (late : List ℕ) → c ∷ c
 begins c cs [] b late e = inl (refl, cc)
 begins c cs (d ∷ rest) b late e = inr (rest, (cc), cc)
 
+-- the empty list has no part with a call in it
+pub no_part : (early : List ℕ) (b : ℕ) (late : List ℕ) → [] ≡ early ++ b ∷ late → ⊥
+no_part [] b late e = cc
+no_part (d ∷ early) b late e = cc
+
 module _ {State Op Reply : Type 0} (p : Problem State Op Reply) where
   -- a call with a step is a call of the problem
   pub next_within : (s t : State) (c : ℕ) → next p s c ≡ Some t → c < length p.calls
@@ -89,12 +94,8 @@ module _ {State Op Reply : Type 0} (p : Problem State Op Reply) where
     distinct = tt;
     outside = λ c h. absurd h;
     legal = (s, refl);
-    ordered = λ early b late e a before. absurd (not_empty early b late e);
+    ordered = λ early b late e a before. absurd (no_part early b late e);
   }
-    where
-      not_empty : (early : List ℕ) (b : ℕ) (late : List ℕ) → [] ≡ early ++ b ∷ late → ⊥
-      not_empty [] b late e = cc
-      not_empty (d ∷ early) b late e = cc
 
   pub completion_split : (set : List Bool) (s : State) (c : ℕ) (cs : List ℕ) → length set ≡ length p.calls → IsCompletion p set s (c ∷ cs) → (t : State) × IsNext p set s c t × IsCompletion p (with_call set c) t cs
   completion_split set s c cs flags k =
@@ -130,3 +131,10 @@ module _ {State Op Reply : Type 0} (p : Problem State Op Reply) where
   -- a call leads to one state
   pub next_one : (set : List Bool) (s : State) (c : ℕ) (t u : State) → IsNext p set s c t → IsNext p set s c u → t ≡ u
   next_one set s c t u a b = let e = a.step in let f = b.step in cc
+
+  -- what begins with a call goes on from the state that the call leads to
+  pub tail_continues : (set : List Bool) (s : State) (c : ℕ) (t : State) → length set ≡ length p.calls → IsNext p set s c t → (cs : List ℕ) → IsContinuation p set s (c ∷ cs) → IsContinuation p (with_call set c) t cs
+  tail_continues set s c t flags is_next cs k = let n = continuation_split set s c cs flags k in subst (λ (u : State). IsContinuation p (with_call set c) u cs) (next_one set s c n.0 t n.1 is_next) n.2
+
+  pub tail_completes : (set : List Bool) (s : State) (c : ℕ) (t : State) → length set ≡ length p.calls → IsNext p set s c t → (cs : List ℕ) → IsCompletion p set s (c ∷ cs) → IsCompletion p (with_call set c) t cs
+  tail_completes set s c t flags is_next cs k = let n = completion_split set s c cs flags k in subst (λ (u : State). IsCompletion p (with_call set c) u cs) (next_one set s c n.0 t n.1 is_next) n.2

@@ -10,7 +10,7 @@ use Rattle.lin_history.specs.Problems.Configurations.{IsReachable}
 use Rattle.lin_search.specs.CallSet.{with_call}
 use Rattle.lin_search.specs.CallSetLemmas.{no_calls_has, has_same, has_with, has_still}
 use Rattle.lin_search.specs.NextCall.{IsNext}
-use Rattle.lin_search.specs.FirstCallLemmas.{next_within, none_continues}
+use Rattle.lin_search.specs.FirstCallLemmas.{next_within, no_part, none_continues}
 use Rattle.lin_search.specs.AlikeLemmas.{AreAlike, turned}
 use Rattle.std.proofs.lemmas.List.{length-set, length-replicate}
 
@@ -34,14 +34,10 @@ distinct_end (d ∷ l) c k fresh =
 -- a place in l and then c: it is in l, or it is c
 place_at_end : (l : List ℕ) (c : ℕ) (early : List ℕ) (b : ℕ) (late : List ℕ) → l ++ c ∷ [] ≡ early ++ b ∷ late → ((rest : List ℕ) × (l ≡ early ++ b ∷ rest)) ⊎ ((early ≡ l) × (b ≡ c))
 place_at_end [] c [] b late e = inr (refl, cc)
-place_at_end [] c (d ∷ early) b late e = absurd (not_one early b late (tails e))
+place_at_end [] c (d ∷ early) b late e = absurd (no_part early b late (tails e))
   where
     tails : c ∷ [] ≡ d ∷ (early ++ b ∷ late) → [] ≡ early ++ b ∷ late
     tails e = cc
-
-    not_one : (early : List ℕ) (b : ℕ) (late : List ℕ) → [] ≡ early ++ b ∷ late → ⊥
-    not_one [] b late e = cc
-    not_one (d ∷ early) b late e = cc
 place_at_end (x ∷ l) c [] b late e = inl (l, (let h : x ≡ b = cc in ap (λ (y : ℕ). y ∷ l) h))
 place_at_end (x ∷ l) c (d ∷ early) b late e =
     let h : x ≡ d = cc in

@@ -1,15 +1,17 @@
 //! The depth-first search over a memo (Wing and Gong 1993; Lowe 2017), step by step.
-ghost use Rattle.std.specs.Prelude.{◌≡◌, ℕ, ◌⊎◌, Bool, List, Option, Some, None, [], length, true, IfOk, IfSome, IfNone, IsTrue};
+ghost use Rattle.std.specs.Prelude.{◌≡◌, ℕ, ◌⊎◌, ◌++◌, ◌∷◌, Bool, List, Option, Some, None, [], length, true, IfOk, IfSome, IfNone, IsTrue};
 ghost use Rattle.lin_history.specs.Problems.Problem.{problem_of};
 ghost use Rattle.lin_history.specs.Problems.Configurations.{IsReachable};
 ghost use Rattle.lin_search.specs.Answer.{IsAnswer, IsRefutation};
 ghost use Rattle.lin_search.specs.CallSet.{with_call, lifted_set};
 ghost use Rattle.lin_search.specs.Memo.{IsClosed};
 ghost use Rattle.lin_search.specs.Configuration.{Configuration};
-ghost use Rattle.lin_search.specs.NextCall.{IsNext};
+ghost use Rattle.lin_search.specs.NextCall.{IsNext, HasEveryCompleted};
 ghost use Rattle.lin_search.specs.Refutation.{IsRefutedWith};
 ghost use Rattle.lin_search.specs.Memo.{IsKept};
-ghost use Rattle.lin_search.specs.Path.{Frame as PathFrame};
+ghost use Rattle.lin_search.specs.Path.{Frame as PathFrame, calls_of};
+ghost use Rattle.lin_search.specs.declared.outcome.Outcome.TheVariants.{Found};
+ghost use Rattle.std.proofs.Common.{Break};
 ghost use Rattle.lin_search.specs.Progress.{IsProgress, IsStep, HoldsSearched, HoldsStep, IsTaken, IsRefusal, bound, work};
 
 use crate::config::Config;
@@ -110,6 +112,64 @@ fn refusal<S: Stop>(left: &mut Option<u64>, stop: &mut S) -> Option<Outcome>
     }
 }
 
+// Goes on from the child that the frame's call, which was lifted last, leads to: asks the memo for it, and goes on after
+// the call where the memo has it, or else from the child.
+fn go_on<O: SeqObject, M: Memo<O>>(
+    path: &mut Path<'_, O>,
+    frame: Frame<O>,
+    child: Config<O>,
+    memo: &mut M,
+    is_for_problem: bool,
+) -> Result<ControlFlow<Outcome, Position<O>>, AllocError>
+    requires of { IsTrue is_for_problem → M.is_of memo.old path.old.entries.problem }
+    requires last { (before : List ℕ) × (path.old.entries.lifted ≡ before ++ frame.call ∷ [])
+        × (root : Configuration O.State) × (limit left : Option ℕ)
+        × IsProgress (problem_of O.after O.State.eq O.Reply.eq path.old.entries.problem) root limit
+        before path.old.frames.items left frame.config frame.longest (Some frame.call) }
+    requires lifted { child.lifted ≡ with_call frame.config.lifted frame.call }
+    requires next { IsNext (problem_of O.after O.State.eq O.Reply.eq path.old.entries.problem)
+        frame.config.lifted frame.config.state frame.call child.state }
+    requires reachable { IsReachable (problem_of O.after O.State.eq O.Reply.eq
+        path.old.entries.problem) child.lifted child.state }
+    requires incomplete { HasEveryCompleted (problem_of O.after O.State.eq O.Reply.eq
+        path.old.entries.problem) child.lifted → ⊥ }
+    ensures problem { path.new.entries.problem ≡ path.old.entries.problem }
+    ensures step { IfOk result (λ step. (before : List ℕ)
+        → path.old.entries.lifted ≡ before ++ frame.call ∷ []
+        → (root : Configuration O.State) (limit left after : Option ℕ)
+        → IsTaken left after → IsProgress
+        (problem_of O.after O.State.eq O.Reply.eq path.old.entries.problem) root limit before
+        path.old.frames.items left frame.config frame.longest (Some frame.call)
+        → IsStep (problem_of O.after O.State.eq O.Reply.eq path.old.entries.problem) root limit
+        path.new.entries.lifted path.new.frames.items after (λ told. ⊥)
+        (work (length path.old.entries.problem.calls) path.old.frames.items frame.config.lifted
+        frame.call) step) }
+    ensures holds { IfOk result (λ step. (root : Configuration O.State)
+        → HoldsSearched (problem_of O.after O.State.eq O.Reply.eq path.old.entries.problem)
+        (M.holds memo.old) path.old.frames.items frame.config (Some frame.call)
+        → HoldsStep (problem_of O.after O.State.eq O.Reply.eq path.old.entries.problem) root
+        (M.holds memo.new) path.new.frames.items step) }
+    ensures changes { M.changes memo.old memo.new }
+{
+    match look_at(path.problem(), &child, memo, is_for_problem) {
+        Some(deep) => Ok(ControlFlow::Continue(path.leave(frame, deep))),
+        None => Ok(ControlFlow::Continue(path.descend(frame, child)?)),
+    }
+}
+
+// The success of a search that the call ends: the calls on the path, and then that one.
+fn success<O: SeqObject>(
+    alloc: Global,
+    path: &Path<'_, O>,
+    call: usize,
+) -> Result<ControlFlow<Outcome, Position<O>>, AllocError>
+    ensures { IfOk result (λ step. step
+        ≡ Break (Found (calls_of path.now.frames.items ++ call ∷ []))) }
+{
+    let order = path.order_through(alloc, call)?;
+    Ok(ControlFlow::Break(Outcome::Found(order)))
+}
+
 // Lifts the frame's call, which leads to the child: that is a success where the child is complete. Else the memo
 // is asked for the child, and the search goes on after the call or from the child.
 fn visit<O: SeqObject, M: Memo<O>>(
@@ -147,17 +207,12 @@ fn visit<O: SeqObject, M: Memo<O>>(
         (M.holds memo.new) path.new.frames.items step) }
     ensures changes { M.changes memo.old memo.new }
 {
-    let problem = path.problem();
     let call = frame.call();
     path.lift(call);
     if path.is_complete() {
-        let order = path.order_through(alloc, call)?;
-        return Ok(ControlFlow::Break(Outcome::Found(order)));
+        return success(alloc, path, call);
     }
-    match look_at(problem, &child, memo, is_for_problem) {
-        Some(deep) => Ok(ControlFlow::Continue(path.leave(frame, deep))),
-        None => Ok(ControlFlow::Continue(path.descend(frame, child)?)),
-    }
+    go_on(path, frame, child, memo, is_for_problem)
 }
 
 // Tries the frame's call: passes it over where it can't follow, and else visits what it leads to, where

@@ -1,11 +1,14 @@
 //! The list of call and return entries from which calls are lifted (Wing and Gong 1993).
-ghost use Rattle.std.specs.Prelude.{◌≡◌, ℕ, ◌+◌, ◌-◌, ◌<◌, ◌++◌, ◌∷◌, ◌↔◌, [], List, false, length, slice_get, IfOk, IsTrue};
+ghost use Rattle.std.specs.Prelude.{◌≡◌, ℕ, ◌+◌, ◌-◌, ◌<◌, ◌++◌, ◌∷◌, ◌↔◌, ◌^◌, [], List, Some, false, length, slice_get, IfOk, IsTrue};
 ghost use Rattle.lin_history.specs.Problems.Problem.{problem_of};
 ghost use Rattle.lin_history.specs.Problems.Continuations.{has};
 ghost use Rattle.lin_search.specs.CallSet.{lifted_set};
 ghost use Rattle.lin_search.specs.NextCall.{HasEveryCompleted};
 ghost use Rattle.lin_search.specs.Entries.{IsMinimal, IsLeastMinimal};
-ghost use Rattle.lin_search.specs.CallEntries.{without_call, with_call_entries};
+ghost use Rattle.lin_history.specs.declared.problems.timeline.ProblemEvent.{ProblemEvent as Event};
+ghost use Rattle.lin_history.specs.declared.problems.timeline.ProblemEvent.TheVariants.{Call, Return};
+ghost use Rattle.lin_search.specs.CallEntries.{AreCallEntries, without_call, with_call_entries};
+ghost use Rattle.lin_search.specs.Links.{IsRow};
 ghost use Rattle.lin_search.specs.EntryLinks.{CanTakeOut, CanPutBack, call_of_event, count_completed};
 
 use crate::call_entries::CallEntries;
@@ -97,15 +100,33 @@ fn put_back(links: &mut Links, places: &CallEntries, call: usize)
     links.put_back(places.called(call));
 }
 
+// Where the entries of so many calls are, and the row of all entries, whose events are these, each once.
+fn row_of(
+    alloc: Global,
+    calls: usize,
+    events: &[ProblemEvent],
+) -> Result<(CallEntries, Links), AllocError>
+    requires room { length events.now < 2 ^ 63 }
+    requires called { (i c : ℕ) → slice_get events.now i ≡ Some (Call c) → c < calls }
+    requires returned { (i c : ℕ) → slice_get events.now i ≡ Some (Return c) → c < calls }
+    requires once { (i j : ℕ) (e : Event) → slice_get events.now i ≡ Some e
+        → slice_get events.now j ≡ Some e → i ≡ j }
+    ensures places { IfOk result (λ r. AreCallEntries calls events.now r.0) }
+    ensures row { IfOk result (λ r. IsRow (length events.now) r.1) }
+{
+    let places = CallEntries::of(alloc, calls, events)?;
+    let links = Links::row(alloc, events.len())?;
+    Ok((places, links))
+}
+
 impl<'p, O: SeqObject> Entries<'p, O> {
     /// The entries of all the problem's calls. `AllocError` where memory was refused.
     pub fn new(alloc: Global, problem: &'p Problem<O>) -> Result<Entries<'p, O>, AllocError>
         ensures { IfOk result (λ entries. entries ≡ record { problem = problem.now; lifted = [] }) }
     {
-        let events = problem.timeline(alloc)?;
-        let places = CallEntries::of(alloc, problem.len(), events.as_slice())?;
-        let links = Links::row(alloc, events.len())?;
         let lifted = Vec::with_capacity(alloc, problem.len())?;
+        let events = problem.timeline(alloc)?;
+        let (places, links) = row_of(alloc, problem.len(), events.as_slice())?;
         Ok(Entries {
             problem,
             events,

@@ -28,7 +28,7 @@ pub use longest_runs::longest_run;
 pub use memo::{Memo, Noted};
 pub use outcome::Outcome;
 pub use own_memo::OwnMemo;
-pub use own_search::search_alone;
+pub use own_search::{search_alone, search_over};
 pub use plain::search_plain;
 pub use refutation::Refutation;
 pub use stop::{NoStop, Stop};

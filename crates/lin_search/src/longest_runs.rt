@@ -1,11 +1,13 @@
 //! The longest run of a problem that has no linearization.
-ghost use Rattle.std.specs.Prelude.{ℕ, List, IfOk, IsTrue};
+ghost use Rattle.std.specs.Prelude.{◌≡◌, ℕ, List, IfOk, IsTrue};
 ghost use Rattle.lin_history.specs.Problems.Lists.{IsLongest};
 ghost use Rattle.lin_history.specs.Problems.Problem.{problem_of};
 ghost use Rattle.lin_history.specs.Problems.Continuations.{IsContinuation};
 ghost use Rattle.lin_history.specs.Problems.Configurations.{IsReachable};
 ghost use Rattle.lin_history.specs.Problems.Linearizations.{IsLinearization, IsRun};
 ghost use Rattle.lin_search.specs.Answer.{HasNoCompletion};
+ghost use Rattle.lin_search.specs.CallSet.{with_call};
+ghost use Rattle.lin_search.specs.NextCall.{IsNext};
 ghost use Rattle.lin_search.specs.LongestRun.{IsFirstLongest};
 
 use crate::config::Config;
@@ -59,6 +61,60 @@ fn longest_of<O: SeqObject, M: Memo<O>>(
     }
 }
 
+// Lifts the call, which can follow: makes the configuration the one that the call leads to.
+fn follow<O: SeqObject>(
+    alloc: Global,
+    problem: &Problem<O>,
+    config: &mut Config<O>,
+    call: usize,
+) -> Result<(), AllocError>
+    requires reachable { IsReachable (problem_of O.after O.State.eq O.Reply.eq problem.now)
+        config.old.lifted config.old.state }
+    requires next { (t : O.State) × IsNext (problem_of O.after O.State.eq O.Reply.eq problem.now)
+        config.old.lifted config.old.state call t }
+    ensures lifted { IfOk result (λ done. config.new.lifted ≡ with_call config.old.lifted call) }
+    ensures next { IfOk result (λ done. IsNext
+        (problem_of O.after O.State.eq O.Reply.eq problem.now) config.old.lifted config.old.state
+        call config.new.state) }
+    ensures reachable { IfOk result (λ done. IsReachable
+        (problem_of O.after O.State.eq O.Reply.eq problem.now) config.new.lifted
+        config.new.state) }
+{
+    let Some(child) = config.child_of_minimal(alloc, problem, call)? else {
+        unreachable!()
+    };
+    *config = child;
+    Ok(())
+}
+
+// The first of the longest continuations of a configuration with no completion, which is left at the end of it.
+fn longest_from<O: SeqObject, M: Memo<O>>(
+    alloc: Global,
+    problem: &Problem<O>,
+    config: &mut Config<O>,
+    memo: &mut M,
+    is_for_problem: bool,
+) -> Result<Order, AllocError>
+    requires reachable { IsReachable (problem_of O.after O.State.eq O.Reply.eq problem.now)
+        config.old.lifted config.old.state }
+    requires none { HasNoCompletion (problem_of O.after O.State.eq O.Reply.eq problem.now)
+        config.old.lifted config.old.state }
+    requires of { IsTrue is_for_problem → M.is_of memo.old problem.now }
+    ensures run { IfOk result (λ order. IsFirstLongest
+        (IsContinuation (problem_of O.after O.State.eq O.Reply.eq problem.now) config.old.lifted
+        config.old.state) order) }
+    ensures memo { M.changes memo.old memo.new }
+{
+    let mut calls = Vec::new(alloc);
+    let mut longest = longest_of(alloc, problem, config, memo, is_for_problem)?;
+    while let Some(call) = longest.first {
+        calls.push(call)?;
+        follow(alloc, problem, config, call)?;
+        longest = longest_of(alloc, problem, config, memo, is_for_problem)?;
+    }
+    Ok(Order::new(calls))
+}
+
 /// The first, in lexicographic order, of the longest runs of a problem that has no linearization. The root
 /// and each configuration of the run is searched where the memo does not know it, with no limit and no stop;
 /// a hit never cuts the run short. `AllocError` where memory was refused; what was noted before stays in the
@@ -78,16 +134,6 @@ pub fn longest_run<O: SeqObject, M: Memo<O>>(
 {
     lawful::<O>();
     let is_for_problem = memo.is_for(problem);
-    let mut calls = Vec::new(alloc);
     let mut config = Config::root(alloc, problem)?;
-    let mut longest = longest_of(alloc, problem, &config, memo, is_for_problem)?;
-    while let Some(call) = longest.first {
-        calls.push(call)?;
-        let Some(child) = config.child_of_minimal(alloc, problem, call)? else {
-            unreachable!()
-        };
-        config = child;
-        longest = longest_of(alloc, problem, &config, memo, is_for_problem)?;
-    }
-    Ok(Order::new(calls))
+    longest_from(alloc, problem, &mut config, memo, is_for_problem)
 }

@@ -151,8 +151,8 @@ pub trait Memo<O: SeqObject> {
         ensures changes { changes self.old self.new }
     {
         let (problem, config, longest) = refutation.into_parts();
-        let (lifted, state) = config.into_parts();
-        self.note_parts(problem, lifted, state, longest)
+        let (calls, state) = config.into_parts();
+        self.note_parts(problem, calls, state, longest)
     }
 
     ghost unchanged: { (m : Self) → changes m m };

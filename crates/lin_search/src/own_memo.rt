@@ -54,6 +54,13 @@ impl<'p, O: SeqObject> OwnMemo<'p, O> {
         }
     }
 
+    /// The problem that the memo names.
+    pub fn problem(&self) -> &'p Problem<O>
+        ensures { result.now ≡ self.now.problem }
+    {
+        self.problem
+    }
+
     /// How many configurations are stored.
     pub fn count(&self) -> u64
         ensures count { result ≡ length self.now.pairs }
@@ -84,11 +91,10 @@ impl<'p, O: SeqObject> OwnMemo<'p, O> {
             result }
     {
         lawful::<O>();
-        if self.pairs.contains_key(&config) {
-            return Noted::Known;
-        }
+        // Where the configuration is stored, its longest is this one, and the pair stays what it is.
         match self.pairs.insert(config, longest) {
-            Ok(_) => Noted::New,
+            Ok(None) => Noted::New,
+            Ok(Some(_)) => Noted::Known,
             Err(_) => Noted::NoRoom,
         }
     }

@@ -38,6 +38,7 @@ impl<O: SeqObject> Model for Frame<O> {
 }
 
 impl<O: SeqObject> Frame<O> {
+    // The configuration, the call that leads on from it, and what the calls before that one tell.
     pub(crate) fn new(config: Config<O>, call: usize, longest: Longest) -> Self
         ensures { result ≡ record { config = config; call = call; longest = longest } }
     {

@@ -29,10 +29,7 @@ pub fn search_plain<O: SeqObject>(
     if config.is_complete(problem) {
         return Ok(Outcome::Found(Order::new(Vec::new(alloc))));
     }
-    let mut longest = Longest {
-        more: 0,
-        first: None,
-    };
+    let mut longest = Longest::none();
     for call in 0..problem.len() {
         let Some(child) = config.child(alloc, problem, call)? else {
             continue;
@@ -43,14 +40,7 @@ pub fn search_plain<O: SeqObject>(
                 calls.insert(0, call)?;
                 return Ok(Outcome::Found(Order::new(calls)));
             }
-            Outcome::Refuted(below) => {
-                if longest.more < below.more + 1 {
-                    longest = Longest {
-                        more: below.more + 1,
-                        first: Some(call),
-                    };
-                }
-            }
+            Outcome::Refuted(below) => longest = longest.or_after(call, below),
             Outcome::Undecided | Outcome::Stopped(_) => unreachable!(),
         }
     }

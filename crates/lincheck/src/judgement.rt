@@ -7,8 +7,35 @@ ghost use Rattle.lincheck.specs.Verdict.{IsObjectVerdict, IsVerdict};
 use crate::verdict::{ObjectVerdict, Verdict};
 use lin_history::{History, Problem, join, place};
 use lin_object::AnyObject;
-use lin_search::{Outcome, OwnMemo, longest_run, search_alone};
+use lin_search::{Outcome, OwnMemo, longest_run, search_over};
 use std::alloc::{AllocError, Global};
+
+// The verdict on the object of this index, where the memo names the part of the history on it. After a refutation the
+// memo has every configuration of the longest run, so that nothing is searched twice.
+fn judge_over(
+    alloc: Global,
+    history: &History,
+    object: usize,
+    memo: &mut OwnMemo<'_, AnyObject>,
+) -> Result<ObjectVerdict, AllocError>
+    requires object { object < length history.now.objects }
+    requires start { option_map start_of (slice_get history.now.objects object)
+        ≡ Some memo.old.problem.start }
+    requires calls { memo.old.problem.calls ≡ part_calls history.now object }
+    ensures { IfOk result (IsObjectVerdict history.now object) }
+{
+    let problem = memo.problem();
+    let (outcome, _) = search_over(alloc, memo)?;
+    match outcome {
+        Outcome::Found(order) => Ok(ObjectVerdict::Yes(order)),
+        Outcome::Refuted(_) => {
+            let order = longest_run(alloc, problem, memo)?;
+            let run = place(alloc, history, object, &order)?;
+            Ok(ObjectVerdict::No(run))
+        }
+        Outcome::Undecided | Outcome::Stopped(_) => unreachable!(),
+    }
+}
 
 // The verdict on the object of this index, where the part of the history on it is known.
 fn judge_object(
@@ -23,16 +50,7 @@ fn judge_object(
     requires calls { problem.now.calls ≡ part_calls history.now object }
     ensures { IfOk result (IsObjectVerdict history.now object) }
 {
-    let (outcome, _) = search_alone(alloc, problem)?;
-    match outcome {
-        Outcome::Found(order) => Ok(ObjectVerdict::Yes(order)),
-        Outcome::Refuted(_) => {
-            let order = longest_run(alloc, problem, &mut OwnMemo::new(alloc, problem))?;
-            let run = place(alloc, history, object, &order)?;
-            Ok(ObjectVerdict::No(run))
-        }
-        Outcome::Undecided | Outcome::Stopped(_) => unreachable!(),
-    }
+    judge_over(alloc, history, object, &mut OwnMemo::new(alloc, problem))
 }
 
 /// The verdict on a history. The objects are searched in the order of declaration; the first without a linearization ends

@@ -20,3 +20,6 @@ returns-in_err-ended-clause-memo g c = g.met.M.Memo.chained _ _ _ c.look_at.ensu
 
 pub returns-clause-memo : goal.returns-clause-memo
 returns-clause-memo g c = g.met.M.Memo.chained _ _ _ c.look_at.ensures.changes c.search_from.ensures.memo
+
+pub returns-in-Some-clause-longest : goal.returns-in-Some-clause-longest
+returns-in-Some-clause-longest g c = c.in-Some.ensures.refuted.longest_is

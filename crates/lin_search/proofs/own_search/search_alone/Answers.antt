@@ -1,18 +1,12 @@
+use Rattle.std.proofs.Common.{refl}
 use Rattle.lin_history.specs.Problems.Problem.{problem_of}
-use Rattle.lin_search.specs.AlikeLemmas.{alike_reachable}
-use Rattle.lin_search.specs.SameLemmas.{alike_itself}
-use Rattle.lin_search.specs.CountLemmas.{has_stored, number_stored, number_at_most}
+use Rattle.lin_search.proofs.MemoLemmas.{closed_empty}
+use Rattle.lin_search.proofs.PathLemmas.{ok_map}
 use Rattle.lin_search.proofs.own_search.search_alone.Goals as goal
 
-pub returns-clause-stored : goal.returns-clause-stored
-returns-clause-stored g c = has_stored _ _ _ (rw c.search_root.ensures.problem at c.count-stored.ensures.store) c.count-stored.ensures.count
-
 pub returns-clause-at_most : goal.returns-clause-at_most
-returns-clause-at_most g c =
-    λ n number.
-    number_at_most (problem_of g.O.SeqObject.after g.O.State.PartialEq.eq g.O.Reply.PartialEq.eq c.args.problem.now) c.lawful.ensures.states (alike_reachable (alike_itself c.lawful.ensures c.args.problem.now)) _ n
-    (has_stored _ _ _ (rw c.search_root.ensures.problem at c.count-stored.ensures.store) c.count-stored.ensures.count) number
+returns-clause-at_most g c = rw c.new.ensures at c.search_over.ensures.at_most
 
 pub returns-clause-all : goal.returns-clause-all
 returns-clause-all g c =
-    λ refuted. number_stored _ _ _ (rw c.search_root.ensures.problem at c.count-stored.ensures.store) c.count-stored.ensures.count (c.in_ok-outcome.ensures.all refuted)
+    ok_map _ _ c.search_over.result (λ r k refuted. k refuted (closed_empty (problem_of g.O.SeqObject.after g.O.State.PartialEq.eq g.O.Reply.PartialEq.eq c.args.problem.now) _ refl)) (rw c.new.ensures at c.search_over.ensures.all)

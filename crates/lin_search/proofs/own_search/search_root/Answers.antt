@@ -1,10 +1,10 @@
-use Rattle.std.proofs.Common.{None, refl}
+use Rattle.std.proofs.Common.{None}
 use Rattle.lin_history.specs.Problems.Problem.{problem_of}
 use Rattle.lin_search.specs.Store.{Holds}
 use Rattle.lin_search.specs.StoreLemmas.{held_at_equal}
 use Rattle.lin_search.specs.AlikeLemmas.{alike_answer}
 use Rattle.lin_search.specs.SameLemmas.{alike_itself, same_itself}
-use Rattle.lin_search.proofs.MemoLemmas.{closed_has_all, closed_empty, was_true}
+use Rattle.lin_search.proofs.MemoLemmas.{closed_has_all, was_true}
 use Rattle.lin_search.proofs.own_search.search_root.Goals as goal
 
 pub search_from-requires-clause-of : goal.search_from-requires-clause-of
@@ -17,7 +17,7 @@ returns-clause-answer g c =
 
 pub returns-clause-all : goal.returns-clause-all
 returns-clause-all g c =
-    λ refuted.
-    let closed = c.in_ok-ended.ensures.closed (was_true _ c.if-not-ended.false) refuted (closed_empty (problem_of g.O.SeqObject.after g.O.State.PartialEq.eq g.O.Reply.PartialEq.eq c.args.problem.now) c.args.memo.now.pairs (rw c.requires refl)) in
-    let root = held_at_equal g.O.State.PartialEq.eq c.lawful.ensures.states _ _ _ _ c.in_ok-root.ensures.state (rw c.in_ok-root.ensures.lifted at closed.1) in
-    closed_has_all (problem_of g.O.SeqObject.after g.O.State.PartialEq.eq g.O.Reply.PartialEq.eq c.args.problem.now) (Holds g.O.State.PartialEq.eq c.search_from.new.memo.pairs) (held_at_equal g.O.State.PartialEq.eq c.lawful.ensures.states c.search_from.new.memo.pairs) closed.0 root
+    λ refuted closed.
+    let held = c.in_ok-ended.ensures.closed (was_true _ c.if-not-ended.false) refuted closed in
+    let root = held_at_equal g.O.State.PartialEq.eq c.lawful.ensures.states _ _ _ _ c.in_ok-root.ensures.state (rw c.in_ok-root.ensures.lifted at held.1) in
+    closed_has_all (problem_of g.O.SeqObject.after g.O.State.PartialEq.eq g.O.Reply.PartialEq.eq c.args.problem.now) (Holds g.O.State.PartialEq.eq c.search_from.new.memo.pairs) (held_at_equal g.O.State.PartialEq.eq c.lawful.ensures.states c.search_from.new.memo.pairs) held.0 root

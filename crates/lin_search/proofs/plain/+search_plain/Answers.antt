@@ -1,14 +1,13 @@
 use Rattle.std.proofs.Common.{rules, arith, ap, List, ◌∷◌, ℕ, ◌<◌, ◌∙◌}
 use Rattle.lin_search.specs.Progress.{free}
-use Rattle.lin_search.proofs.ProgressLemmas.{least_none, searched_start, searched_skip, searched_longer, searched_no_longer, searched_all, found_least, leads_down, room}
+use Rattle.lin_search.proofs.ProgressLemmas.{least_none, searched_start, searched_skip, searched_after, searched_all, found_least, leads_down, room}
 use Rattle.lin_search.proofs.plain.+search_plain.Goals as goal
-use Rattle.lin_search.proofs.plain.+search_plain.Goals.{then-longest-below, else-longest-below}
 
 pub returns-then-is_complete : goal.returns-then-is_complete
 returns-then-is_complete g t c = rw (c.new-then-is_complete.ensures ∙ c.new.ensures.items) (least_none _ _ _ (c.is_complete.ensures.0 c.if-is_complete.true))
 
 pub loop-call-init : goal.loop-call-init
-loop-call-init g t c = searched_start _ _ _ (λ h. let e = c.is_complete.ensures.1 h in let f = c.if-is_complete.false in cc)
+loop-call-init g t c = rw c.none-longest.ensures (searched_start _ _ _ (λ h. let e = c.is_complete.ensures.1 h in let f = c.if-is_complete.false in cc))
 
 pub loop-call-preserved-in_default : goal.loop-call-preserved-in_default
 loop-call-preserved-in_default g t c = searched_skip _ _ _ _ _ _ c.requires.flags c.loop-call.invariant (rw c.in_default.is at c.in_ok-child.ensures.none)
@@ -27,15 +26,8 @@ returns-in-Found g t c =
     let least = rw (child.0) at (rw c.in-Found.is at c.in_ok-order.ensures) in
     rw (c.new-in-Found.ensures ∙ (c.in_ok-insert-in-Found.ensures.items ∙ ap (λ (l : List ℕ). c.loop-call.call ∷ l) c.into_calls-calls.ensures)) (found_least _ _ _ _ _ _ _ _ c.requires.flags c.loop-call.invariant child.1 least)
 
-pub overflow_add-below : goal.overflow_add-below
-overflow_add-below g t c =
-    let child = rw c.in-Some.is at c.in_ok-child.ensures.some in
-    let refuted = rw (child.0) at (rw c.in-Refuted.is at c.in_ok-order.ensures) in
-    let fits = room _ _ _ _ _ _ _ c.requires.flags child.1 refuted.1 in
-    omega (arith, fits, c.len-call-end.ensures, c.len-call-end.type_inv)
-
-pub overflow_add-longest : goal.overflow_add-longest
-overflow_add-longest g t c =
+pub or_after-longest-requires : goal.or_after-longest-requires
+or_after-longest-requires g t c =
     let child = rw c.in-Some.is at c.in_ok-child.ensures.some in
     let refuted = rw (child.0) at (rw c.in-Refuted.is at c.in_ok-order.ensures) in
     let fits = room _ _ _ _ _ _ _ c.requires.flags child.1 refuted.1 in
@@ -45,10 +37,7 @@ pub loop-call-preserved : goal.loop-call-preserved
 loop-call-preserved g t c =
     let child = rw c.in-Some.is at c.in_ok-child.ensures.some in
     let refuted = rw (child.0) at (rw c.in-Refuted.is at c.in_ok-order.ensures) in
-    elim c.if-longest-below.branch [
-      | then-longest-below w ↦ rw w.longest-is (searched_longer _ _ _ _ _ _ _ c.requires.flags child.1 refuted.0 refuted.1 _ _ c.loop-call.invariant w.if-longest-below.true)
-      | else-longest-below w ↦ rw w.longest-is (searched_no_longer _ _ _ _ _ _ _ c.requires.flags child.1 refuted.0 refuted.1 _ _ c.loop-call.invariant w.if-longest-below.false)
-    ]
+    searched_after _ _ _ _ _ _ _ _ c.requires.flags child.1 refuted.0 refuted.1 c.loop-call.invariant c.or_after-longest.ensures.longer c.or_after-longest.ensures.not_longer
 
 pub returns : goal.returns
 returns g t c = searched_all _ _ _ _ _ _ (omega (arith, c.len-call-end.ensures)) c.requires.flags c.loop-call.invariant

@@ -1,24 +1,36 @@
-use Rattle.std.proofs.Common.{sym, ◌∙◌, refl}
-use Rattle.lin_search.proofs.LookupLemmas.{held_if, not_held_if, inserted, store_added, store_kept}
+use Rattle.std.proofs.Common.{ap, sym, ◌∙◌}
+use Rattle.std.specs.Prelude.{is_some}
+use Rattle.lin_search.specs.SameLemmas.{alike_itself}
+use Rattle.lin_search.proofs.LookupLemmas.{stored_again, held_if, not_held_if, inserted, store_added, store_kept}
 use Rattle.lin_search.proofs.own_memo.OwnMemo.add.Goals as goal
-use Rattle.lin_search.proofs.own_memo.OwnMemo.add.Goals.{in-Ok, in-Err}
-
-pub returns-then-contains_key-clause-exact : goal.returns-then-contains_key-clause-exact
-returns-then-contains_key-clause-exact g c =
-    rw (← c.self.view_is) (tt, held_if _ _ _ (sym c.contains_key.ensures ∙ c.if-contains_key.true), refl)
+use Rattle.lin_search.proofs.own_memo.OwnMemo.add.Goals.{in-Ok-None, in-Ok-Some, in-Err}
 
 pub invariant_of-self : goal.invariant_of-self
 invariant_of-self g c =
-    let absent = sym c.contains_key.ensures ∙ c.if-contains_key.false in
+    let refuted = rw (← c.self.view_is) at c.requires in
     elim c.match-insert.branch [
-      | in-Ok w ↦ store_added _ c.lawful.ensures.states _ _ _ ((rw w.in-Ok.is at c.insert.ensures.entries) ∙ inserted _ _ _ _ absent) c.self.invariant (rw (← c.self.view_is) at c.requires) (not_held_if _ _ _ absent)
-      | in-Err w ↦ store_kept _ _ _ (rw w.in-Err.is at c.insert.ensures.err) c.self.invariant
+      | in-Ok-None w ↦ (
+          let absent = ap is_some (sym w.in-Ok-None.ensures.old ∙ w.in-Ok-None.field-0-is) in
+          store_added _ c.lawful.ensures.states _ _ _ (w.in-Ok-None.ensures.entries ∙ inserted _ _ _ _ absent) c.self.invariant refuted (not_held_if _ _ _ absent)
+          )
+      | in-Ok-Some w ↦ store_kept _ _ _ (w.in-Ok-Some.ensures.entries ∙ stored_again (alike_itself c.lawful.ensures _) _ _ _ _ _ c.self.invariant.refuted refuted w.in-Ok-Some.ensures.old w.in-Ok-Some.field-0-is) c.self.invariant
+      | in-Err w ↦ store_kept _ _ _ w.in-Err.ensures.err c.self.invariant
     ]
 
 pub returns-clause-exact : goal.returns-clause-exact
 returns-clause-exact g c =
-    let absent = sym c.contains_key.ensures ∙ c.if-contains_key.false in
+    let refuted = rw (← c.self.view_is) at c.requires in
     rw (← c.self.view_is) (elim c.match-insert.branch [
-      | in-Ok w ↦ rw w.result-is (tt, not_held_if _ _ _ absent, (rw w.in-Ok.is at c.insert.ensures.entries) ∙ inserted _ _ _ _ absent)
-      | in-Err w ↦ rw w.result-is (tt, not_held_if _ _ _ absent, rw w.in-Err.is at c.insert.ensures.err)
+      | in-Ok-None w ↦ (
+          let absent = ap is_some (sym w.in-Ok-None.ensures.old ∙ w.in-Ok-None.field-0-is) in
+          rw w.result-is (tt, not_held_if _ _ _ absent, w.in-Ok-None.ensures.entries ∙ inserted _ _ _ _ absent)
+          )
+      | in-Ok-Some w ↦ (
+          let there = ap is_some (sym w.in-Ok-Some.ensures.old ∙ w.in-Ok-Some.field-0-is) in
+          rw w.result-is (tt, held_if _ _ _ there, w.in-Ok-Some.ensures.entries ∙ stored_again (alike_itself c.lawful.ensures _) _ _ _ _ _ c.self.invariant.refuted refuted w.in-Ok-Some.ensures.old w.in-Ok-Some.field-0-is)
+          )
+      | in-Err w ↦ (
+          let absent = ap is_some w.in-Err.ensures.absent in
+          rw w.result-is (tt, not_held_if _ _ _ absent, w.in-Err.ensures.err)
+          )
     ])

@@ -1,3 +1,4 @@
+use Rattle.std.proofs.Common.{true≢false, sym, ◌∙◌, refl}
 use Rattle.lin_history.specs.Problems.SameProblem.{SameProblem}
 use Rattle.lin_search.specs.AlikeLemmas.{alike_refuted}
 use Rattle.lin_search.specs.SameLemmas.{alike_of_same, same_back}
@@ -18,3 +19,7 @@ returns-clause-exact g c =
 
 pub returns-clause-only : goal.returns-clause-only
 returns-clause-only g c = noted_only _ c.lawful.ensures.states _ _ _ _ _ _ (rw c.from_parts.ensures at c.add.ensures.exact)
+
+pub returns-then-not-same-clause-exact : goal.returns-then-not-same-clause-exact
+returns-then-not-same-clause-exact g c =
+    rw (← c.self.view_is) (λ ours. true≢false (sym (c.same.ensures.1 ours) ∙ c.if-not-same.true), refl)

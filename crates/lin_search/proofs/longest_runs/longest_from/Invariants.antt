@@ -2,11 +2,10 @@ use Rattle.std.proofs.Common.{ℕ, List, ◌++◌}
 use Rattle.lin_history.specs.Problems.Problem.{problem_of}
 use Rattle.lin_history.specs.Problems.Lists.{IsLongest}
 use Rattle.lin_history.specs.Problems.Continuations.{IsCompletion, IsContinuation}
-use Rattle.lin_history.specs.Problems.Linearizations.{IsRun}
 use Rattle.lin_history.specs.Problems.Configurations.{IsReachable}
 use Rattle.lin_search.specs.LongestRun.{IsFirstLongest}
 use Rattle.lin_search.specs.Progress.{free}
-use Rattle.lin_search.proofs.longest_runs.longest_run.Given as goal
+use Rattle.lin_search.proofs.longest_runs.longest_from.Given as goal
 
 abbrev pub decreases-loop-longest : goal.decreases-loop-longest
 decreases-loop-longest g l = free l.config.lifted
@@ -16,6 +15,6 @@ invariant-loop-longest g l = record {
   reachable : IsReachable (problem_of g.O.SeqObject.after g.O.State.PartialEq.eq g.O.Reply.PartialEq.eq l.problem) l.config.lifted l.config.state;
   none : (m : List ℕ) → IsCompletion (problem_of g.O.SeqObject.after g.O.State.PartialEq.eq g.O.Reply.PartialEq.eq l.problem) l.config.lifted l.config.state m → ⊥;
   longest : IsLongest (IsContinuation (problem_of g.O.SeqObject.after g.O.State.PartialEq.eq g.O.Reply.PartialEq.eq l.problem) l.config.lifted l.config.state) l.longest.more l.longest.first;
-  rest : (m : List ℕ) → IsFirstLongest (IsContinuation (problem_of g.O.SeqObject.after g.O.State.PartialEq.eq g.O.Reply.PartialEq.eq l.problem) l.config.lifted l.config.state) m → IsFirstLongest (IsRun (problem_of g.O.SeqObject.after g.O.State.PartialEq.eq g.O.Reply.PartialEq.eq l.problem)) (l.calls.items ++ m);
+  rest : (m : List ℕ) → IsFirstLongest (IsContinuation (problem_of g.O.SeqObject.after g.O.State.PartialEq.eq g.O.Reply.PartialEq.eq l.problem) l.config.lifted l.config.state) m → IsFirstLongest (IsContinuation (problem_of g.O.SeqObject.after g.O.State.PartialEq.eq g.O.Reply.PartialEq.eq l.problem) l.fn.config.lifted l.fn.config.state) (l.calls.items ++ m);
   memo : g.M.Memo.changes l.fn.memo l.memo;
 }
