@@ -1,5 +1,5 @@
 -- What is printed of what was read is printed of the text.
-use Rattle.std.proofs.Common.{◌≡◌, ℕ, ◌+◌, ◌<◌, List, [], ◌∷◌, length, length-append, take, Option, Some, None, IfSome, Ok, Err, inl, inr, refl, sym, ap, subst, ◌∙◌, arith}
+use Rattle.std.proofs.Common.{◌≡◌, ℕ, ◌+◌, ◌<◌, List, [], ◌∷◌, length, length-append, take, Option, Some, None, IfSome, Result, Ok, Err, OnOk, OnErr, false, inl, inr, refl, sym, ap, subst, ◌∙◌, arith}
 use Rattle.std.proofs.lemmas.Option.{slice_get_within}
 use Rattle.lin_object.specs.declared.reply.Reply.{Reply}
 use Rattle.lin_object.specs.declared.state.ObjState.{ObjState}
@@ -22,7 +22,8 @@ use Rattle.lincheck.specs.declared.fault.RunFault.{RunFault}
 use Rattle.lincheck.specs.declared.fault.RunFault.TheVariants.{Read, Write, Memory}
 use Rattle.lincheck.proofs.Bytes.{kept}
 use Rattle.lincheck.specs.Prints.{Prints}
-use Rattle.lincheck.specs.Ran.{RanFrom}
+use Rattle.std.specs.Result.{result_map_both, is_err}
+use Rattle.lincheck.specs.Ran.{is_read, is_write, is_fault, RanFrom}
 
 means_history : (text read : List ℕ) (h : RecordedHistory) → IsReadOf text read → MeansHistory read h → MeansHistory text h
 means_history text read h (inl same) m = subst (λ (t : List ℕ). MeansHistory t h) (sym same) m
@@ -67,11 +68,11 @@ verdict_of h (verdicts.Undecided object) v = absurd v
 
 -- ---- a run on what was read
 
-pub ran_ok : (source old new : Option (List ℕ)) (read : List ℕ) (status : Status) (printed : List ℕ) → IfSome source (λ text. IsReadOf text read) → Prints read status printed → Appends old new printed → RanFrom source old new (Ok status)
+ran_ok : (source old new : Option (List ℕ)) (read : List ℕ) (status : Status) (printed : List ℕ) → IfSome source (λ text. IsReadOf text read) → Prints read status printed → Appends old new printed → RanFrom source old new (Ok status)
 ran_ok None old new read status printed r p a = (read, tt, (printed, p, a))
 ran_ok (Some text) old new read status printed r p a = (text, refl, (printed, prints_read text read status printed r p, a))
 
-pub ran_write : (source old new : Option (List ℕ)) (read : List ℕ) (status : Status) (printed : List ℕ) → IfSome source (λ text. IsReadOf text read) → Prints read status printed → ((n : ℕ) × Appends old new (take n printed)) → RanFrom source old new (Err Write)
+ran_write : (source old new : Option (List ℕ)) (read : List ℕ) (status : Status) (printed : List ℕ) → IfSome source (λ text. IsReadOf text read) → Prints read status printed → ((n : ℕ) × Appends old new (take n printed)) → RanFrom source old new (Err Write)
 ran_write None old new read status printed r p a = (read, tt, (status, printed, a.0, p, a.1))
 ran_write (Some text) old new read status printed r p a = (text, refl, (status, printed, a.0, prints_read text read status printed r p, a.1))
 
@@ -85,3 +86,17 @@ pub ran_nothing : (source old : Option (List ℕ)) (fault : RunFault) → (fault
 ran_nothing source old Write other = absurd (other refl)
 ran_nothing source old Read other = let left = text_left source in (left.0, left.1, kept old)
 ran_nothing source old Memory other = let left = text_left source in (left.0, left.1, kept old)
+
+-- a run whose answer was written so
+pub ran_ended : {A E : Type 0} (source old new : Option (List ℕ)) (read : List ℕ) (status : Status) (printed : List ℕ) (written : Result A E) → IfSome source (λ text. IsReadOf text read) → Prints read status printed → OnOk written (Appends old new printed) → OnErr written ((n : ℕ) × Appends old new (take n printed)) → RanFrom source old new (result_map_both (λ (x : A). status) (λ (e : E). Write) written)
+ran_ended source old new read status printed (Ok x) r p ok err = ran_ok source old new read status printed r p ok
+ran_ended source old new read status printed (Err e) r p ok err = ran_write source old new read status printed r p err
+
+-- no answer that was written so is a failed read; it is a failed write where the write failed
+pub no_read : {A E : Type 0} (status : Status) (written : Result A E) → is_fault is_read (result_map_both (λ (x : A). status) (λ (e : E). Write) written) ≡ false
+no_read status (Ok x) = refl
+no_read status (Err e) = refl
+
+pub is_written : {A E : Type 0} (status : Status) (written : Result A E) → is_fault is_write (result_map_both (λ (x : A). status) (λ (e : E). Write) written) ≡ is_err written
+is_written status (Ok x) = refl
+is_written status (Err e) = refl

@@ -1,6 +1,7 @@
 //! The way from the bytes of a text to the bytes of its answer.
 
 ghost use Rattle.std.specs.Prelude.{◌≡◌, ◌≢◌, ◌||◌, ℕ, false, take, is_err, OnOk, OnErr, IfOk, IfErr, IfSome};
+ghost use Rattle.std.specs.Result.{result_map_both};
 ghost use Rattle.std.specs.Io.KnownBytes.{Appends};
 ghost use Rattle.lin_text.specs.Words.{fault_line};
 ghost use Rattle.lincheck.specs.Prints.{Prints};
@@ -94,6 +95,16 @@ fn write_answer<W: Sink>(sink: &mut W, answer: &[u8]) -> Result<(), DeviceFault>
     sink.flush()
 }
 
+// How a run ends whose answer was written so.
+fn ended(status: Status, written: Result<(), DeviceFault>) -> Result<Status, RunFault>
+    ensures { result ≡ result_map_both (λ done. status) (λ fault. RunFault.Write) written }
+{
+    match written {
+        Ok(()) => Ok(status),
+        Err(_) => Err(RunFault::Write),
+    }
+}
+
 /// Reads a text from the source, checks it and writes the answer to the sink.
 ///
 /// The text is read whole, or until it is too long; then the whole answer is made, and then it is written and flushed
@@ -123,8 +134,5 @@ pub fn run<R: AllocGlobal, S: Source, W: Sink>(
     let Ok((status, answer)) = answer(rt.alloc(), text.as_slice()) else {
         return Err(RunFault::Memory);
     };
-    match write_answer(sink, answer.as_slice()) {
-        Ok(()) => Ok(status),
-        Err(_) => Err(RunFault::Write),
-    }
+    ended(status, write_answer(sink, answer.as_slice()))
 }
