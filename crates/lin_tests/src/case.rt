@@ -1,8 +1,10 @@
 //! A case: a text, what is printed of it, the exit status, and the options of the run.
 
+ghost use Rattle.std.specs.Prelude.{◌≡◌, false};
+
 use crate::choice::options_of;
 use crate::repeat::repeated;
-use lincheck::{StdSink, StdSource, run, status_code};
+use lincheck::{Options, StdSink, StdSource, run, status_code};
 use std::{fs, io};
 
 // A file of the case, whole: `NAME.ENDING`, or what `NAME.ENDING.repeat` stands for.
@@ -29,16 +31,30 @@ fn words_of(rt: &HostRuntime, name: &str) -> io::Result<String> {
     Ok(fs::read_to_string(rt, path.as_str()).unwrap_or(String::new(rt.alloc())))
 }
 
-/// Whether `run` answers the text of a case with its status and prints its answer, byte for byte.
-pub fn is_answered(rt: &HostRuntime, name: &str) -> io::Result<bool> {
+// Whether `run` answers the text with this status and prints this answer.
+fn gives(rt: &HostRuntime, text: &[u8], options: &Options, answer: &[u8], status: u8) -> bool
+    requires { options.now.stats ≡ false }
+{
+    let mut written = Vec::new(rt.alloc());
+    let mut source = StdSource::new(text);
+    let ran = run(rt, &mut source, &mut StdSink::new(&mut written), options);
+    status_code(&ran) == status && written.as_slice() == answer
+}
+
+// The same of a case, with these options.
+fn is_answered_with(rt: &HostRuntime, name: &str, options: &Options) -> io::Result<bool>
+    requires { options.now.stats ≡ false }
+{
+    let status = status_of(rt, name)?;
     let text = text_of(rt, name, "jsonl")?;
     let answer = text_of(rt, name, "answer")?;
-    let status = status_of(rt, name)?;
-    let Some(options) = options_of(words_of(rt, name)?.as_str()) else {
-        return Ok(false);
-    };
-    let mut written = Vec::new(rt.alloc());
-    let mut source = StdSource::new(text.as_slice());
-    let ran = run(rt, &mut source, &mut StdSink::new(&mut written), &options);
-    Ok(status_code(&ran) == status && written == answer)
+    Ok(gives(rt, text.as_slice(), options, answer.as_slice(), status))
+}
+
+/// Whether `run` answers the text of a case with its status and prints its answer, byte for byte.
+pub fn is_answered(rt: &HostRuntime, name: &str) -> io::Result<bool> {
+    match options_of(words_of(rt, name)?.as_str()) {
+        Some(options) => is_answered_with(rt, name, &options),
+        None => Ok(false),
+    }
 }
