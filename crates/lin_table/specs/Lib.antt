@@ -1,0 +1,4 @@
+pub mod Totals
+pub mod Home
+pub mod Rule
+pub mod Steps
