@@ -1,34 +1,39 @@
 -- How a set is kept: with no call, with one more, and that equal sets are kept alike.
-use Rattle.std.proofs.Common.{◌≡◌, ℕ, ◌+◌, ◌%◌, ◌^◌, ◌<◌, inl, inr, Bool, true, false, List, [], length, get_or, set, refl, sym, ◌∙◌, ap}
+use Rattle.std.proofs.Common.{◌≡◌, ℕ, ◌+◌, ◌*◌, ◌%◌, ◌^◌, ◌<◌, ◌≤◌, inl, inr, Bool, true, false, List, [], length, get_or, set, refl, sym, ◌∙◌, ap}
 use Rattle.std.specs.Prelude.{IsTrue}
 use lib.Pointwise.{pointwise}
 use mathlib.Core.Bool.{beq}
+use Rattle.lin_history.specs.declared.limits.TheConstants.{MAX_CALLS_ON_OBJECT}
 use Rattle.lin_search.specs.CallSet.{hash_of, sum_of, weight_of}
 use Rattle.lin_search.specs.CallSetLemmas.{flags_same, flags_itself, true_or_false}
 use Rattle.lin_search.specs.Window.{word_at, has_bit, flags_of, IsWindow, IsCallSet, Adds}
-use Rattle.lin_search.proofs.WeightLemmas.{hash_none, sum_none, hash_with, sum_with}
+use Rattle.lin_search.proofs.WeightLemmas.{hash_none, sum_none, hash_with, sum_with, sum_within}
 use Rattle.lin_search.proofs.WindowLemmas.{length_flags, flag_is, flags_none, flags_with, same_full, same_kept, window_none}
 
-pub kept_none : (calls : ℕ) → calls < 2 ^ 64 → IsCallSet calls 0 [] 0 0
-kept_none calls fits = record {
-  fits = fits;
+pub kept_none : (calls : ℕ) → calls ≤ MAX_CALLS_ON_OBJECT → IsCallSet calls 0 [] 0 0
+kept_none calls few = record {
+  few = few;
   window = window_none calls;
   hashed = sym (ap hash_of (flags_none calls) ∙ hash_none calls);
   summed = sym (ap sum_of (flags_none calls) ∙ sum_none calls);
 }
 
-pub kept_with : (calls f g : ℕ) (ws vs : List ℕ) (hash sum c : ℕ) → IsCallSet calls f ws hash sum → c < calls → has_bit (word_at f ws) c ≡ false → IsWindow calls g vs → Adds (word_at f ws) (word_at g vs) c → IsCallSet calls g vs ((hash + weight_of c) % 2 ^ 64) ((sum + c) % 2 ^ 64)
+pub kept_with : (calls f g : ℕ) (ws vs : List ℕ) (hash sum c : ℕ) → IsCallSet calls f ws hash sum → c < calls → has_bit (word_at f ws) c ≡ false → IsWindow calls g vs → Adds (word_at f ws) (word_at g vs) c → IsCallSet calls g vs ((hash + weight_of c) % 2 ^ 64) (sum + c)
 kept_with calls f g ws vs hash sum c kept below out window adds =
     let flags : List Bool = flags_of calls f ws in
     let new : flags_of calls g vs ≡ set flags c true = flags_with calls f g ws vs c below adds in
     let here : c < length flags = rw length_flags below in
     let absent : get_or flags c false ≡ false = flag_is calls f ws kept.window c ∙ out in
     record {
-      fits = kept.fits;
+      few = kept.few;
       window = window;
       hashed = rw kept.hashed (hash_with flags c here absent ∙ sym (ap hash_of new));
       summed = rw kept.summed (sum_with flags c here absent ∙ sym (ap sum_of new));
     }
+
+-- the sum that is kept is far from the end of its type
+pub sum_small : (calls full : ℕ) (words : List ℕ) (hash sum : ℕ) → IsCallSet calls full words hash sum → sum ≤ MAX_CALLS_ON_OBJECT * MAX_CALLS_ON_OBJECT
+sum_small calls full words hash sum kept = rw kept.summed (sum_within (flags_of calls full words) (rw length_flags kept.few))
 
 -- equal sets have equal fields
 module _ {m n f g : ℕ} {ws vs : List ℕ} {h k s t : ℕ} (one : IsCallSet m f ws h s) (two : IsCallSet n g vs k t) (same : flags_of m f ws ≡ flags_of n g vs) where

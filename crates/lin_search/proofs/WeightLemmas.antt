@@ -1,6 +1,7 @@
--- What the calls of a set weigh together: with none, and with one more.
-use Rattle.std.proofs.Common.{◌≡◌, ℕ, zero, suc, ◌+◌, ◌%◌, ◌^◌, ◌<◌, Bool, true, false, List, [], ◌∷◌, length, replicate, get_or, set, refl, arith}
+-- What the calls of a set weigh together: with none, with one more, and at most.
+use Rattle.std.proofs.Common.{◌≡◌, ℕ, zero, suc, ◌+◌, ◌*◌, ◌%◌, ◌^◌, ◌<◌, ◌≤◌, Bool, true, false, List, [], ◌∷◌, length, replicate, get_or, set, refl, arith}
 use Rattle.std.proofs.Math.Nat.{mod-add-mod}
+use Rattle.lin_history.specs.declared.limits.TheConstants.{MAX_CALLS_ON_OBJECT}
 use Rattle.lin_search.specs.CallSet.{total_from, sum_of, hash_of, weight_of}
 
 module _ (weight : ℕ → ℕ) where
@@ -40,6 +41,17 @@ pub hash_with : (flags : List Bool) (c : ℕ) → c < length flags → get_or fl
 unfolding hash_of
 hash_with flags c h e = total_with_wrapped weight_of flags c h e
 
-pub sum_with : (flags : List Bool) (c : ℕ) → c < length flags → get_or flags c false ≡ false → (sum_of flags + c) % 2 ^ 64 ≡ sum_of (set flags c true)
+pub sum_with : (flags : List Bool) (c : ℕ) → c < length flags → get_or flags c false ≡ false → sum_of flags + c ≡ sum_of (set flags c true)
 unfolding sum_of
-sum_with flags c h e = total_with_wrapped (λ c. c) flags c h e
+sum_with flags c h e = let more = total_with (λ c. c) 0 flags c h e in omega (arith, more)
+
+-- the sum of the numbers of calls that are below a limit
+total_within : (n : ℕ) (flags : List Bool) → n + length flags ≤ MAX_CALLS_ON_OBJECT → total_from (λ c. c) n flags ≤ MAX_CALLS_ON_OBJECT * length flags
+unfolding total_from
+total_within n [] h = omega arith
+total_within n (true ∷ flags) h = let rest = total_within (n + 1) flags (omega (arith, h)) in omega (arith, rest, h)
+total_within n (false ∷ flags) h = let rest = total_within (n + 1) flags (omega (arith, h)) in omega (arith, rest, h)
+
+pub sum_within : (flags : List Bool) → length flags ≤ MAX_CALLS_ON_OBJECT → sum_of flags ≤ MAX_CALLS_ON_OBJECT * MAX_CALLS_ON_OBJECT
+unfolding sum_of
+sum_within flags h = let total = total_within 0 flags (omega (arith, h)) in omega (arith, total, h)

@@ -24,9 +24,9 @@ unfoldable pub total_from : (ℕ → ℕ) → ℕ → List Bool → ℕ
 total_from weight n [] = 0
 total_from weight n (flag ∷ flags) = cond flag (weight n) 0 + total_from weight (n + 1) flags
 
--- The sum of the numbers of the calls in the set, modulo 2 ^ 64.
+-- The sum of the numbers of the calls in the set.
 unfoldable pub sum_of : List Bool → ℕ
-sum_of set = total_from (λ c. c) 0 set % 2 ^ 64
+sum_of set = total_from (λ c. c) 0 set
 
 -- A number whose lower half depends on its upper half too.
 unfoldable pub folded : ℕ → ℕ

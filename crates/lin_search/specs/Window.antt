@@ -3,6 +3,7 @@ use Rattle.std.specs.Prelude.{◌≡◌, ◌≢◌, ℕ, ◌-◌, ◌*◌, ◌/�
 use Rattle.std.specs.Int.{bit_at}
 use Rattle.std.specs.List.{range_with_len}
 use mathlib.Core.Bool.{cond}
+use Rattle.lin_history.specs.declared.limits.TheConstants.{MAX_CALLS_ON_OBJECT}
 use Rattle.lin_search.specs.CallSet.{hash_of, sum_of}
 
 -- The word at an index: so many leading words are full, then those of the list come, and no call is in any word after them.
@@ -31,7 +32,7 @@ pub record Adds (old new : ℕ → ℕ) (c : ℕ) : Type 0 where
 
 -- How a set is kept: its words in that one way, with its hash and the sum of its calls.
 pub record IsCallSet (calls full : ℕ) (words : List ℕ) (hash sum : ℕ) : Type 0 where
-  pub fits : calls < 2 ^ 64
+  pub few : calls ≤ MAX_CALLS_ON_OBJECT
   pub window : IsWindow calls full words
   pub hashed : hash ≡ hash_of (flags_of calls full words)
   pub summed : sum ≡ sum_of (flags_of calls full words)

@@ -4,6 +4,7 @@ ghost use Rattle.lin_history.specs.Problems.Continuations.{has};
 ghost use Rattle.lin_search.specs.CallSet.{with_call, sum_of, folded, weight_of};
 ghost use Rattle.lin_search.specs.Window.{word_at};
 
+use lin_history::MAX_CALLS_ON_OBJECT;
 use smallvec::SmallVec;
 use std::alloc::{AllocError, Global};
 use std::hash::{Hash, Hasher};
@@ -163,8 +164,9 @@ fn with_word(
 }
 
 impl CallSet {
-    // The set with none of so many calls.
+    // The set with none of so many calls, which are no more than a problem may have.
     pub(crate) fn none(alloc: Global, calls: usize) -> Result<CallSet, AllocError>
+        requires { calls ≤ MAX_CALLS_ON_OBJECT }
         ensures { IfOk result (λ set. set ≡ replicate calls false) }
     {
         Ok(CallSet {
@@ -195,7 +197,7 @@ impl CallSet {
         word(self.full, self.words.as_slice(), call / 64) & bit(call) != 0
     }
 
-    /// The sum of the numbers of the calls in the set, modulo 2^64.
+    /// The sum of the numbers of the calls in the set.
     pub fn sum(&self) -> u64
         ensures { result ≡ sum_of self.now }
     {
@@ -214,7 +216,7 @@ impl CallSet {
         let index = call / 64 - self.full;
         let word = word_or_zero(words, index) | bit(call);
         let hash = self.hash.wrapping_add(weight(call));
-        let sum = self.sum.wrapping_add(call as u64);
+        let sum = self.sum + call as u64;
         if index == 0 && word == u64::MAX {
             let end = end_of_full(words);
             return Ok(CallSet {

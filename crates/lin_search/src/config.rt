@@ -5,7 +5,7 @@ ghost use Rattle.lin_history.specs.Problems.LegalLists.{next};
 ghost use Rattle.lin_history.specs.Problems.Precedence.{Before};
 ghost use Rattle.lin_history.specs.Problems.Continuations.{has, no_calls};
 ghost use Rattle.lin_history.specs.Problems.Configurations.{IsReachable};
-ghost use Rattle.lin_search.specs.CallSet.{with_call};
+ghost use Rattle.lin_search.specs.CallSet.{with_call, sum_of};
 ghost use Rattle.lin_search.specs.NextCall.{IsNext, HasEveryCompleted};
 ghost use Rattle.lin_search.specs.Entries.{IsMinimal};
 
@@ -155,7 +155,7 @@ impl<O: SeqObject> Config<O> {
     {
         lawful::<O>();
         Ok(Config {
-            lifted: CallSet::none(alloc, problem.len())?,
+            lifted: CallSet::none(alloc, problem.calls().len())?,
             state: problem.object().copy_state(alloc, problem.start())?,
         })
     }
@@ -262,6 +262,13 @@ impl<O: SeqObject> Config<O> {
         ensures { result ≡ has self.now.lifted call }
     {
         self.lifted.has(call)
+    }
+
+    /// The sum of the numbers of the lifted calls.
+    pub fn sum(&self) -> u64
+        ensures { result ≡ sum_of self.now.lifted }
+    {
+        self.lifted.sum()
     }
 
     /// The state that the lifted calls lead to.

@@ -4,13 +4,13 @@ use Rattle.std.proofs.lemmas.Bool.{eq-eqb, eqb-true}
 use Rattle.std.proofs.lemmas.Bool.Decides.{eqb_tells}
 use Rattle.std.proofs.lemmas.List.{map-append, map-set, length-set, take-append-le, take_at}
 use Rattle.std.proofs.lemmas.Option.{slice_get_within, slice_get-map, slice_get_read}
-use Rattle.lin_history.specs.declared.limits.TheConstants.{MAX_CALLS}
+use Rattle.lin_history.specs.declared.limits.TheConstants.{MAX_CALLS, MAX_CALLS_ON_OBJECT}
 use Rattle.lin_object.specs.declared.op.Op.{Op}
 use Rattle.lin_object.specs.declared.reply.Reply.{Reply}
 use Rattle.lin_history.specs.declared.recorder.history.CallInfo.{CallInfo}
 use Rattle.lin_history.specs.Recorder.Events.{calls, returns_, Call}
 use Rattle.lin_history.specs.Recorder.RecordedHistory.{RecordedHistory, DeclaredObject, IsHistoryOf, is_pending_of, is_on, completed, with_call, with_return}
-use Rattle.lin_history.specs.Recorder.Views.{call_view, count_on, AreNumbered}
+use Rattle.lin_history.specs.Recorder.Views.{call_view, count_on, AreNumbered, AreWithinLimit}
 use Rattle.lin_history.specs.Recorder.BuilderState.{recorded, is_open, KnowsPending, AreCounts, IsBuilderState}
 use Rattle.lin_history.proofs.ListLemmas.{slice_get-push, slice_get-set, slice_get-mapped, map-set_one, find-one, find-none, length_filter-push, length_filter-less, length_filter-set, length_filter-set_all, length_filter-none}
 use Rattle.lin_history.proofs.RecorderLemmas.NextEventLemmas.{adds-object, adds-call, adds-return}
@@ -124,6 +124,7 @@ module _ (objects : List DeclaredObject) (made : List CallInfo) (events : ℕ) (
         ];
         each = (let e = kept.each in omega (arith, e, length-append counts (0 ∷ []), length-append objects (o ∷ [])));
         few = kept.few;
+        limited = kept.limited;
         events_are = kept.events_are;
       }
 
@@ -137,6 +138,7 @@ module _ (objects : List DeclaredObject) (made : List CallInfo) (events : ℕ) (
         counted = kept.counted;
         each = kept.each;
         few = kept.few;
+        limited = kept.limited;
         events_are = kept.events_are;
       }
     where
@@ -189,9 +191,23 @@ module _ (objects : List DeclaredObject) (made : List CallInfo) (events : ℕ) (
               omega (arith, was, now))
         ]
 
-    pub kept-call : find (is_pending_of p) (map call_view made) ≡ None → slice_get counts object ≡ Some number → length made < MAX_CALLS → last p ≡ Some (length made)
+    limited-call : slice_get counts object ≡ Some number → number < MAX_CALLS_ON_OBJECT → AreWithinLimit (map call_view (made ++ new_call ∷ []))
+    limited-call counted room q =
+        let count = count-call q in
+        elim (eqb_tells object q) [
+          | inl own ↦ (
+              let was = kept.counted q number (subst (λ k. slice_get counts k ≡ Some number) own.1 counted) in
+              let now : count_on q (map call_view (made ++ new_call ∷ [])) ≡ count_on q (map call_view made) + 1 = rw own.0 at count in
+              omega (arith, was, now, room))
+          | inr other ↦ (
+              let old = kept.limited q in
+              let now : count_on q (map call_view (made ++ new_call ∷ [])) ≡ count_on q (map call_view made) + 0 = rw other.0 at count in
+              omega (arith, old, now))
+        ]
+
+    pub kept-call : find (is_pending_of p) (map call_view made) ≡ None → slice_get counts object ≡ Some number → length made < MAX_CALLS → number < MAX_CALLS_ON_OBJECT → last p ≡ Some (length made)
         → IsBuilderState objects (made ++ new_call ∷ []) (events + 1) last (set counts object (number + 1))
-    kept-call idle counted room known =
+    kept-call idle counted room room_on known =
         let was = kept.history in
         let within = slice_get_within counts object number counted in
         let each = kept.each in
@@ -204,6 +220,7 @@ module _ (objects : List DeclaredObject) (made : List CallInfo) (events : ℕ) (
           counted = counted-call counted;
           each = length-set counts object (number + 1) ∙ each;
           few = omega (arith, more, room);
+          limited = limited-call counted room_on;
           events_are = (let more_open = length_filter-push is_open made new_call in let were = kept.events_are in omega (arith, more, more_open, were));
         }
 
@@ -263,6 +280,7 @@ module _ (objects : List DeclaredObject) (made : List CallInfo) (events : ℕ) (
           counted = λ q n at. kept.counted q n at ∙ sym (count-return q);
           each = kept.each;
           few = (let few = kept.few in omega (arith, few, same));
+          limited = λ q. (let count = count-return q in let old = kept.limited q in omega (arith, count, old));
           events_are = (let were = kept.events_are in omega (arith, fewer, same, were));
         }
 

@@ -2,14 +2,16 @@
 use Rattle.std.proofs.Common.{◌≡◌, ℕ, zero, suc, ◌+◌, ◌<◌, ◌≤◌, ◌==◌, Bool, true, false, cond, List, [], ◌∷◌, ◌++◌, length, map, filter, drop, get_or, Some, refl, sym, subst, ap, ◌∙◌, append_assoc, append-nil, add-one, arith}
 use Rattle.std.specs.List.{slice_get}
 use Rattle.std.specs.Option.{option_map}
-use Rattle.std.proofs.lemmas.List.{drop_all}
+use Rattle.std.proofs.lemmas.List.{drop_all, length-map}
 use Rattle.std.proofs.lemmas.Option.{slice_get-get_or, slice_get_within}
+use Rattle.lin_history.specs.declared.limits.TheConstants.{MAX_CALLS_ON_OBJECT}
 use Rattle.lin_object.specs.declared.op.Op.{Op}
 use Rattle.lin_object.specs.declared.reply.Reply.{Reply}
 use Rattle.lin_object.specs.declared.state.ObjState.{ObjState}
 use Rattle.lin_history.specs.declared.problems.problem.ProblemCall.{ProblemCall}
 use Rattle.lin_history.specs.Recorder.Events.{Call}
-use Rattle.lin_history.specs.Recorder.RecordedHistory.{RecordedHistory}
+use Rattle.lin_history.specs.Recorder.RecordedHistory.{RecordedHistory, is_on}
+use Rattle.lin_history.specs.Recorder.Views.{count_on}
 use Rattle.lin_history.specs.Problems.ProblemParts.{ProblemParts}
 use Rattle.lin_history.specs.Recorder.Parts.{start_of, problem_call, part_calls}
 use Rattle.lin_history.specs.Locality.JoinedOrder.{indices_from}
@@ -68,6 +70,10 @@ module _ {Op Reply : Type 0} (object : ℕ) where
       → front ++ drop k (calls_of_part object calls) ≡ calls_of_part object calls → front ≡ calls_of_part object calls
   part_done calls indices k front are over so_far =
       no_more (calls_of_part object calls) front k (let e = as_many 0 calls in let m = ap (λ (l : List ℕ). length l) are in omega (arith, e, m, over)) so_far
+
+-- a part has as many calls as are on its object
+pub few_in_part : (object : ℕ) (calls : List (Call Op Reply)) → count_on object calls ≤ MAX_CALLS_ON_OBJECT → length (calls_of_part object calls) ≤ MAX_CALLS_ON_OBJECT
+few_in_part object calls few = let same = length-map (filter (is_on object) calls) problem_call in omega (arith, same, few)
 
 module _ {O : Type 0} where
   -- each problem is the part of the history on the object of its index

@@ -6,7 +6,7 @@ use Rattle.lin_history.specs.declared.recorder.fault.BuildFault.{BuildFault}
 use Rattle.lin_history.specs.declared.recorder.fault.BuildFault.TheVariants.{BadName, UnknownObject}
 use Rattle.lin_history.specs.Recorder.Names.{is_name}
 use Rattle.lin_history.specs.Recorder.RecordedHistory.{DeclaredObject, RecordedHistory, IsHistory, index_named}
-use Rattle.lin_history.specs.Recorder.Views.{call_view, count_on, AreNumbered}
+use Rattle.lin_history.specs.Recorder.Views.{call_view, count_on, AreNumbered, AreWithinLimit}
 
 -- The call has not returned.
 abbrev pub is_open : CallInfo → Bool
@@ -36,5 +36,6 @@ pub record IsBuilderState (objects : List DeclaredObject) (calls : List CallInfo
   pub counted : AreCounts counts calls
   pub each : length counts ≡ length objects
   pub few : length calls ≤ MAX_CALLS
+  pub limited : AreWithinLimit (map call_view calls)
   -- each call has an event, and one more where it has returned
   pub events_are : events + length (filter is_open calls) ≡ length calls + length calls

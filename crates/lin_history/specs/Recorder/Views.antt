@@ -1,8 +1,9 @@
 -- What contracts see of the objects and the calls that the program keeps.
-use Rattle.std.specs.Prelude.{◌≡◌, ℕ, Some, List, map, take, filter, length, slice_get, String, string_bytes}
+use Rattle.std.specs.Prelude.{◌≡◌, ℕ, ◌≤◌, Some, List, map, take, filter, length, slice_get, String, string_bytes}
 use Rattle.std.specs.declared.alloc.Global.{Global}
 use Rattle.lin_object.specs.declared.op.Op.{Op}
 use Rattle.lin_object.specs.declared.reply.Reply.{Reply}
+use Rattle.lin_history.specs.declared.limits.TheConstants.{MAX_CALLS_ON_OBJECT}
 use Rattle.lin_history.specs.declared.recorder.history.CallInfo.{CallInfo}
 use Rattle.lin_history.specs.declared.recorder.history.Declaration.{Declaration}
 use Rattle.lin_history.specs.Recorder.Events.{Call}
@@ -19,6 +20,10 @@ call_view c = record { process = c.process; object = c.object; op = c.op; called
 -- How many of the calls are on the object.
 abbrev pub count_on : ℕ → List (Call Op Reply) → ℕ
 count_on object calls = length (filter (is_on object) calls)
+
+-- No object has more calls than are allowed on one.
+abbrev pub AreWithinLimit : List (Call Op Reply) → Type 0
+AreWithinLimit calls = (object : ℕ) → count_on object calls ≤ MAX_CALLS_ON_OBJECT
 
 -- Each call has as its number how many calls before it are on its object.
 abbrev pub AreNumbered : List CallInfo → Type 0

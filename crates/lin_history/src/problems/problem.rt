@@ -1,6 +1,6 @@
 //! The part of a history on one object, built by hand or taken from a history.
 
-ghost use Rattle.std.specs.Prelude.{◌≡◌, ◌≢◌, ℕ, ◌<◌, ◌↔◌, [], None, Some, slice_get, length, IsTrue, OnOk, OnErr, IfErr};
+ghost use Rattle.std.specs.Prelude.{◌≡◌, ◌≢◌, ℕ, ◌<◌, ◌≤◌, ◌↔◌, [], None, Some, slice_get, length, IsTrue, OnOk, OnErr, IfErr};
 ghost use Rattle.lin_history.specs.Refusals.{first_that_holds};
 ghost use Rattle.lin_history.specs.Problems.SameProblem.{SameReturn, SameCall, SameCalls};
 ghost use Rattle.lin_history.specs.Problems.ProblemParts.{greatest_number};
@@ -88,14 +88,16 @@ pub struct Problem<O: SeqObject> {
 
 // Contracts see the object, the state at the start and the calls; the greatest number is kept beside them.
 impl<O: SeqObject> Model for Problem<O> {
-    ghost use Rattle.std.specs.Prelude.{◌≡◌};
+    ghost use Rattle.std.specs.Prelude.{◌≡◌, ◌≤◌, length};
+    ghost use Rattle.lin_history.specs.declared.limits.TheConstants.{MAX_CALLS_ON_OBJECT};
     ghost use Rattle.lin_history.specs.Problems.ProblemParts.{ProblemParts, AreTimed, greatest_number};
 
     ghost Value = { ProblemParts O O.State O.Op O.Reply };
 
     ghost view = { λ p. record { object = p.object; start = p.start; calls = p.calls.items } };
 
-    ghost invariant = { λ p. (p.last ≡ greatest_number p.calls.items) × AreTimed p.calls.items };
+    ghost invariant = { λ p. (p.last ≡ greatest_number p.calls.items) × AreTimed p.calls.items
+        × (length p.calls.items ≤ MAX_CALLS_ON_OBJECT) };
 }
 
 // The greatest event number of the calls; 0 where there is none.
@@ -118,13 +120,14 @@ impl<O: SeqObject> Problem<O> {
     ghost use Rattle.lin_history.specs.Problems.ProblemParts.{ProblemParts, AreTimed, new_call_refusals, new_return_refusals, with_new_call, with_new_return};
 
     /// The problem of these calls. Condition: they are in the order of their call events, return after they
-    /// were called, and no return event has the number of a call event.
+    /// were called, no return event has the number of a call event, and there are no more than 4,096.
     pub(crate) fn with_calls(
         object: O,
         start: O::State,
         calls: Vec<ProblemCall<O::Op, O::Reply>>,
     ) -> Self
-        requires { AreTimed calls.items }
+        requires timed { AreTimed calls.items }
+        requires few { length calls.items ≤ MAX_CALLS_ON_OBJECT }
         ensures { result ≡ record { object = object; start = start; calls = calls.items } }
     {
         let last = last_number(calls.as_slice());
@@ -225,10 +228,11 @@ impl<O: SeqObject> Problem<O> {
         &self.calls[call]
     }
 
-    /// The calls, in the order of their call events.
-    pub(crate) fn calls(&self) -> &[ProblemCall<O::Op, O::Reply>]
+    /// The calls, in the order of their call events: no more than 4,096.
+    pub fn calls(&self) -> &[ProblemCall<O::Op, O::Reply>]
         ensures calls { result.now ≡ self.now.calls }
         ensures timed { AreTimed self.now.calls }
+        ensures few { length self.now.calls ≤ MAX_CALLS_ON_OBJECT }
     {
         self.calls.as_slice()
     }

@@ -76,7 +76,7 @@ pub struct History {
 impl Model for History {
     ghost use Rattle.std.specs.Prelude.{map};
     ghost use Rattle.lin_history.specs.Recorder.RecordedHistory.{RecordedHistory, IsHistory};
-    ghost use Rattle.lin_history.specs.Recorder.Views.{object_view, call_view, AreNumbered};
+    ghost use Rattle.lin_history.specs.Recorder.Views.{object_view, call_view, AreNumbered, AreWithinLimit};
 
     ghost Value = { RecordedHistory };
 
@@ -90,7 +90,7 @@ impl Model for History {
       objects = map object_view h.objects.entries;
       calls = map call_view h.calls.items;
       events = h.events;
-    }) × AreNumbered h.calls.items };
+    }) × AreNumbered h.calls.items × AreWithinLimit (map call_view h.calls.items) };
 }
 
 // The object of this index.
@@ -138,10 +138,10 @@ fn problem_at(
 
 impl History {
     ghost use Rattle.lin_history.specs.Recorder.RecordedHistory.{IsHistory};
-    ghost use Rattle.lin_history.specs.Recorder.Views.{count_on, AreNumbered};
+    ghost use Rattle.lin_history.specs.Recorder.Views.{count_on, AreNumbered, AreWithinLimit};
 
-    /// The history of these objects, calls and number of events. Condition: it is one, and each call has
-    /// its number among the calls on its object.
+    /// The history of these objects, calls and number of events. Condition: it is one, each call has its
+    /// number among the calls on its object, and no object has more than 4,096 calls.
     pub(crate) fn new(
         objects: IndexMap<String, Declaration>,
         calls: Vec<CallInfo>,
@@ -153,6 +153,7 @@ impl History {
           events = events;
         }) }
         requires numbers { AreNumbered calls.items }
+        requires limited { AreWithinLimit (map call_view calls.items) }
         ensures { result ≡ record {
           objects = map object_view objects.entries;
           calls = map call_view calls.items;

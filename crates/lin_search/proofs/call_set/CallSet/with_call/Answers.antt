@@ -3,7 +3,7 @@ use Rattle.std.specs.Prelude.{max, bit_or}
 use Rattle.std.proofs.lemmas.List.{take_all, length-drop}
 use Rattle.lin_search.specs.Window.{word_at, has_bit, IsWindow, Adds}
 use Rattle.lin_search.proofs.WindowLemmas.{length_flags, flag_is, flags_with, place_past, full_within, some_kept, adds_set, window_set, adds_dropped, window_dropped}
-use Rattle.lin_search.proofs.CallSetFieldsLemmas.{kept_with}
+use Rattle.lin_search.proofs.CallSetFieldsLemmas.{kept_with, sum_small}
 use Rattle.lin_search.proofs.call_set.CallSet.with_call.Goals as goal
 use Rattle.lin_search.proofs.call_set.CallSet.with_call.Goals.{After-as_slice-words, Then-word, After-end_of_full-end, In_ok-from_slice, In_ok-with_word, else-index-eq0-via-then-index-eq0+else-word, else-index-eq0-via-else-index-eq0}
 
@@ -22,6 +22,12 @@ out c =
     ∙ ap (λ flags. get_or flags c.args.call false) c.self.view_is
     ∙ sym c.has.ensures
     ∙ c.if-has.false
+
+pub overflow_add-sum : goal.overflow_add-sum
+overflow_add-sum c =
+    let set = c.self.inside in
+    let small = sum_small set.calls set.full set.words.items set.hash set.sum c.self.invariant in
+    omega (arith, small, c.self.invariant.few, below (goal.at.overflow_add-sum c).After-as_slice-words)
 
 pub overflow_sub-index : goal.overflow_sub-index
 overflow_sub-index c = place_past c.self.inside.full c.self.inside.words.items c.args.call (out c)
@@ -59,7 +65,7 @@ dropped_window c =
 
 pub overflow_add-result : goal.overflow_add-result
 overflow_add-result c =
-    omega (arith, full_within c.self.inside.calls (c.self.inside.full + c.end_of_full-end.result) (drop c.end_of_full-end.result c.self.inside.words.items) (dropped_window c).within, c.self.invariant.fits)
+    omega (arith, full_within c.self.inside.calls (c.self.inside.full + c.end_of_full-end.result) (drop c.end_of_full-end.result c.self.inside.words.items) (dropped_window c).within, c.self.invariant.few)
 
 -- the words that the new set keeps
 left : (c : In_ok-from_slice) → c.in_ok-from_slice.field-0.items ≡ drop c.end_of_full-end.result c.self.inside.words.items

@@ -1,7 +1,7 @@
 use Rattle.std.proofs.Common.{◌≡◌, ◌<◌, true, Some, None, IsSomeAnd, map, length, slice_get, nat_eq, sym, subst, ◌∙◌, rules, refl}
 use Rattle.std.proofs.lemmas.Option.{slice_get_read}
 use Rattle.indexmap.specs.IndexMap.{get}
-use Rattle.lin_history.specs.declared.limits.TheConstants.{MAX_CALLS}
+use Rattle.lin_history.specs.declared.limits.TheConstants.{MAX_CALLS, MAX_CALLS_ON_OBJECT}
 use Rattle.lin_history.specs.declared.recorder.fault.BuildFault.TheVariants.{TooManyCalls}
 use Rattle.lin_history.specs.Refusals.{first_that_holds}
 use Rattle.lin_history.specs.Recorder.Events.{calls}
@@ -34,8 +34,9 @@ invariant_of-self-2 c =
     let kept = kept-last (map object_view c.self.inside.objects.entries) c.self.inside.calls.items c.self.inside.events (get nat_eq c.self.inside.last) c.self.inside.counts.items c.self.invariant c.args.process (get nat_eq c.add.new.last) idle c.add.ensures.others in
     let counted : slice_get c.self.inside.counts.items c.in_ok-object.object ≡ Some c.index-number.result.now = search (rules, slice_get_read) in
     let room : length c.self.inside.calls.items < MAX_CALLS = rw c.as_slice-2.ensures.value at (c.is_full.ensures.room c.if-is_full.false) in
+    let room_on : c.index-number.result.now < MAX_CALLS_ON_OBJECT = rw (c.as_slice-3.ensures.value, counted) at (c.is_full.ensures.room_on c.if-is_full.false) in
     rw (not_err c.add.result _ c.add.ensures.calls done, not_err c.add.result _ c.add.ensures.counts done, not_err c.add.result _ c.add.ensures.events done)
-    (kept-call (map object_view c.self.inside.objects.entries) c.self.inside.calls.items c.self.inside.events (get nat_eq c.add.new.last) c.self.inside.counts.items kept c.args.process c.in_ok-object.object c.index-number.result.now c.args.op idle counted room (not_err c.add.result _ c.add.ensures.own done))
+    (kept-call (map object_view c.self.inside.objects.entries) c.self.inside.calls.items c.self.inside.events (get nat_eq c.add.new.last) c.self.inside.counts.items kept c.args.process c.in_ok-object.object c.index-number.result.now c.args.op idle counted room room_on (not_err c.add.result _ c.add.ensures.own done))
 
 pub returns-clause-ok : goal.returns-clause-ok
 returns-clause-ok c =
