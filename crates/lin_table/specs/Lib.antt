@@ -2,3 +2,4 @@ pub mod Totals
 pub mod Home
 pub mod Rule
 pub mod Steps
+pub mod Hand

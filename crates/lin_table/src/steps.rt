@@ -118,3 +118,70 @@ pub(crate) fn note_out<'p, O: SeqObject>(
     }
     noted
 }
+
+/// Looks for a configuration in this shard. `None` where it is not there, or the shard was not got.
+pub(crate) fn look_in<'p, O: SeqObject>(
+    shards: &Shards<'p, O>,
+    token: &mut Token<'p, O>,
+    shard: usize,
+    problem: &Problem<O>,
+    config: &Config<O>,
+) -> Option<Longest>
+    requires table { (token.old.table_id ≡ shards.now.table_id)
+        × (shard < shards.now.table_id.words) × (shard < shards.now.key.shards) }
+    requires free { (0 < token.old.me.0.parts) × (token.old.me.0.out ≡ None)
+        × (token.old.me.1 ≡ []) }
+    requires here { SameProblem O.eq O.State.eq O.Op.eq O.Reply.eq token.old.me.0.problem
+        problem.now }
+    ensures refuted { IfSome result (λ longest. IsRefutedWith
+        (problem_of O.after O.State.eq O.Reply.eq problem.now) config.now.lifted
+        config.now.state longest) }
+    ensures table { token.new.table_id ≡ token.old.table_id }
+    ensures same { token.new.me ≡ token.old.me }
+{
+    if !take_out(&*shards, &mut *token, shard) {
+        return None;
+    }
+    let found = look_out(&*shards, &mut *token, shard, problem, config);
+    give_back(&*shards, &mut *token, shard);
+    found
+}
+
+/// Adds a pair to this shard, which is its configuration's home. `Busy` where the shard was not got.
+pub(crate) fn note_in<'p, O: SeqObject>(
+    shards: &Shards<'p, O>,
+    token: &mut Token<'p, O>,
+    shard: usize,
+    problem: &Problem<O>,
+    lifted: CallSet,
+    state: O::State,
+    longest: Longest,
+) -> Noted
+    requires table { (token.old.table_id ≡ shards.now.table_id)
+        × (shard < shards.now.table_id.words) × (shard < shards.now.key.shards) }
+    requires free { (0 < token.old.me.0.parts) × (token.old.me.0.out ≡ None)
+        × (token.old.me.1 ≡ []) }
+    requires here { SameProblem O.eq O.State.eq O.Op.eq O.Reply.eq token.old.me.0.problem
+        problem.now }
+    requires refuted { IsRefutedWith (problem_of O.after O.State.eq O.Reply.eq problem.now) lifted
+        state longest }
+    requires home { home_of lifted shards.now.key.shards ≡ shard }
+    ensures table { token.new.table_id ≡ token.old.table_id }
+    ensures empty { token.new.me.1 ≡ [] }
+    ensures new { result ≡ Noted.New → (p : ℕ) × (token.new.me.0 ≡ with_entry token.old.me.0
+        (record { shard = shard; place = p; config = record { lifted = lifted; state = state } })) }
+    ensures same { result ≢ Noted.New → token.new.me.0 ≡ token.old.me.0 }
+{
+    if !take_out(&*shards, &mut *token, shard) {
+        return Noted::Busy;
+    }
+    note_out(
+        &*shards,
+        &mut *token,
+        shard,
+        problem,
+        lifted,
+        state,
+        longest,
+    )
+}

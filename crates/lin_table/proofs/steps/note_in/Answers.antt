@@ -1,0 +1,7 @@
+use Rattle.std.proofs.Common.{◌≡◌, ℕ, ◌∷◌, [], sym, ap, ◌∙◌, rules, Some, None}
+use Rattle.lin_table.proofs.steps.note_in.Goals as goal
+
+pub note_out-requires-clause-out : goal.note_out-requires-clause-out
+note_out-requires-clause-out g c =
+    let t = c.take_out.ensures.yes (search rules) in
+    (t.0, t.1 ∙ ap (λ l. (c.args.shard, t.0) ∷ l) c.requires.free.2, t.2 ∙ sym (ap (λ v. v.problem) t.3), ap (λ v. v.out) t.3)
