@@ -23,6 +23,9 @@ use Rattle.lin_table.specs.Rule.{out_at, outs, named_by, names_of, Stands, Fits,
 use Rattle.lin_table.specs.Steps.{with_out, with_none_out, with_entry, TakeTells, GiveBackTells, GiveMoreTells, added}
 use Rattle.lin_table.proofs.TotalLemmas.{total_set, total_at, total_append, one_where_same, none_where_other, once_more}
 
+pub some_same : {X : Type 0} {x y : X} → Some x ≡ Some y → x ≡ y
+some_same e = cc (e)
+
 -- a pair by its parts
 abbrev pub pair_of : {S : Type 0} → List Bool → S → Longest → Configuration S × Longest
 pair_of lifted state longest = (record { lifted = lifted; state = state }, longest)
@@ -125,7 +128,7 @@ module _ {O S A R : Type 0} where
         takes i home.shard,
         home.is_there,
         subst (λ (z : ℕ). Q (either (eqb z 0) 1 z)) (sym hit) (lists, take_holds a.problem.now a.shards a.hands s.words s.homes s.views lists h id v at i below part no_out (omega arith) home.shard home.pairs_are),
-        ((λ _. (home.shard, refl, home.problem_is ∙ sym mine, refl)), (λ no. absurd (no hit))),
+        ((λ _. (home.shard, refl, ap Some home.problem_is ∙ sym mine, refl)), (λ no. absurd (no hit))),
       ))
       (λ (miss : r ≢ 0). (
         v,
@@ -137,7 +140,7 @@ module _ {O S A R : Type 0} where
       ))
       (cases_eq r 0)
 
-  pub gives_back : (a : Plan O S A R) (slots id : ℕ) (me : Me (Store O S A R) (View O S A R)) (i : ℕ) (y : Store O S A R) (rest : List (ℕ × Store O S A R)) → 0 < me.0.parts → me.1 ≡ (i, y) ∷ rest → y.problem ≡ me.0.problem → me.0.out ≡ Some (record { shard = i; pairs = y.pairs })
+  pub gives_back : (a : Plan O S A R) (slots id : ℕ) (me : Me (Store O S A R) (View O S A R)) (i : ℕ) (y : Store O S A R) (rest : List (ℕ × Store O S A R)) → 0 < me.0.parts → me.1 ≡ (i, y) ∷ rest → Some y.problem ≡ me.0.problem → me.0.out ≡ Some (record { shard = i; pairs = y.pairs })
       → Allows (KeepsRule a) slots id me i (λ _. 0) (λ _. GiveBackTells (step slots i 0 0 none) me 0)
   gives_back a slots id me i y rest part holds theirs has s k len at small =
       let v : View O S A R = me.0 in
@@ -147,7 +150,7 @@ module _ {O S A R : Type 0} where
         with_none_out v,
         gives,
         tt,
-        (lists, subst (λ (c : List (ℕ × Store O S A R)). RuleHolds a.problem.now a.shards a.hands (set s.words i 0) (put_back s.homes c) (set s.views id (with_none_out v)) lists) (sym holds) (give_holds a.problem.now a.shards a.hands s.words s.homes s.views lists h id v at i y.pairs part has y (theirs ∙ mine) refl)),
+        (lists, subst (λ (c : List (ℕ × Store O S A R)). RuleHolds a.problem.now a.shards a.hands (set s.words i 0) (put_back s.homes c) (set s.views id (with_none_out v)) lists) (sym holds) (give_holds a.problem.now a.shards a.hands s.words s.homes s.views lists h id v at i y.pairs part has y (some_same (theirs ∙ mine)) refl)),
         (refl, refl),
       )
 
@@ -240,7 +243,7 @@ module _ {O S A R : Type 0} where
       ∙ ap (added i (Some (record { shard = i; pairs = old }))) holds
       ∙ ap (map (λ (p : Configuration S × Longest). record { shard = i; place = length old; config = p.0 })) (ap (drop (length old)) longer ∙ drop-append_seam old (q ∷ []))
 
-  pub gives_more : (a : Plan O S A R) (slots id : ℕ) (me : Me (Store O S A R) (View O S A R)) (i : ℕ) (y : Store O S A R) (old : List (Configuration S × Longest)) (q : Configuration S × Longest) (rest : List (ℕ × Store O S A R)) → 0 < me.0.parts → me.1 ≡ (i, y) ∷ rest → y.problem ≡ me.0.problem
+  pub gives_more : (a : Plan O S A R) (slots id : ℕ) (me : Me (Store O S A R) (View O S A R)) (i : ℕ) (y : Store O S A R) (old : List (Configuration S × Longest)) (q : Configuration S × Longest) (rest : List (ℕ × Store O S A R)) → 0 < me.0.parts → me.1 ≡ (i, y) ∷ rest → Some y.problem ≡ me.0.problem
       → me.0.out ≡ Some (record { shard = i; pairs = old }) → y.pairs ≡ old ++ q ∷ [] → home_of q.0.lifted a.shards ≡ i
       → Allows (KeepsRule a) slots id me i (λ _. 0) (λ _. GiveMoreTells (step slots i 0 0 none) me 0)
   gives_more a slots id me i y old q rest part holds theirs has longer home s k len at small =
@@ -254,7 +257,7 @@ module _ {O S A R : Type 0} where
         (
           (λ m. cond (eqb m i) (old ++ q ∷ []) (k.0 m)),
           subst (λ (c : List (ℕ × Store O S A R)). RuleHolds a.problem.now a.shards a.hands (set s.words i 0) (put_back s.homes c) (set s.views id (with_entry v e)) (λ m. cond (eqb m i) (old ++ q ∷ []) (k.0 m))) (sym holds)
-              (more_holds a.problem.now a.shards a.hands s.words s.homes s.views k.0 h id v at i old q part has y (theirs ∙ mine) longer home),
+              (more_holds a.problem.now a.shards a.hands s.words s.homes s.views k.0 h id v at i old q part has y (some_same (theirs ∙ mine)) longer home),
         ),
         (ap (λ (l : List (Entry O S A R)). view v.problem v.parts (v.entries ++ l) None) (sym (one_added i me.0.out me.1 y rest old q has holds longer)), refl),
       )

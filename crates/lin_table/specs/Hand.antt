@@ -6,11 +6,12 @@ use Rattle.lin_search.specs.Configuration.{Configuration}
 use Rattle.lin_table.specs.declared.rule.Entry.{Entry}
 use Rattle.lin_table.specs.declared.rule.View.{View}
 
--- Which table it is, its problem, and how many shards it has.
+-- Which table it is, its problem, and how many shards and hands it has.
 pub record TableFacts (O S A R : Type 0) : Type 0 where
   pub id : TableId
   pub problem : ProblemParts O S A R
   pub shards : ℕ
+  pub hands : ℕ
 
 -- Which table a hand came with, the problem of that table where it has a view of it, and an entry for each configuration that it stored, in order.
 pub record HandFacts (O S A R : Type 0) : Type 0 where
@@ -25,7 +26,7 @@ IsHandOf t h = (h.table ≡ t.id) × (h.problem ≡ Some t.problem)
 -- The facts of the hand that has this view at this table.
 abbrev pub facts_of : {O S A R : Type 0} → TableId → List (View O S A R) → HandFacts O S A R
 facts_of id [] = record { table = id; problem = None; entries = [] }
-facts_of id (v ∷ vs) = record { table = id; problem = Some v.problem; entries = v.entries }
+facts_of id (v ∷ vs) = record { table = id; problem = v.problem; entries = v.entries }
 
 -- A hand between two calls: one view, with a part of its own, no shard out, and as many entries as the hand counts.
 pub record IsFree {O S A R : Type 0} (views : List (View O S A R)) (count : ℕ) : Type 0 where

@@ -42,7 +42,7 @@ module _ {O S A R : Type 0} where
 
   -- what holds of one view by itself: a shard that it has out has the pairs of that shard, its entries tell what stands where, and a view with no part is empty
   pub record Fits (problem : ProblemParts O S A R) (n : ℕ) (lists : ℕ → Pairs S) (v : View O S A R) : Type 0 where
-    pub problem_is : 0 < v.parts → v.problem ≡ problem
+    pub problem_is : 0 < v.parts → v.problem ≡ Some problem
     pub out : (o : ShardOut O S A R) → v.out ≡ Some o → (o.shard < n) × (o.pairs ≡ lists o.shard)
     pub entries : (j : ℕ) (e : Entry O S A R) → get_elem? v.entries j ≡ some e → Stands lists n e
     pub empty : v.parts ≡ 0 → (v.entries ≡ []) × (v.out ≡ None)
@@ -73,9 +73,9 @@ module _ {O S A R : Type 0} where
   KeepsRule plan s = (lists : ℕ → Pairs S) × RuleHolds plan.problem.now plan.shards plan.hands s.words s.homes s.views lists
 
   -- a view by its parts
-  abbrev pub view : ProblemParts O S A R → ℕ → List (Entry O S A R) → Option (ShardOut O S A R) → View O S A R
+  abbrev pub view : Option (ProblemParts O S A R) → ℕ → List (Entry O S A R) → Option (ShardOut O S A R) → View O S A R
   view problem parts entries out = record { problem = problem; parts = parts; entries = entries; out = out }
 
   -- the view of the first hand, which has a part for each hand
   abbrev pub opening_view : Plan O S A R → View O S A R
-  opening_view plan = view plan.problem.now plan.hands [] None
+  opening_view plan = view (Some plan.problem.now) plan.hands [] None

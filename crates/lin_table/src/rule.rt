@@ -1,7 +1,7 @@
 //! The rule of a table's words and its hands' views, and what each step tells its caller.
 
 use crate::shard::Shard;
-use atomic_table::{Play, TableRule};
+use atomic_table::{Join, Play, Split, TableRule};
 use lin_history::Problem;
 use lin_object::SeqObject;
 use lin_search::{Config, Longest};
@@ -29,9 +29,9 @@ pub struct ShardOut<O: SeqObject> {
 }
 
 /// What a hand has done so far. It exists in proofs alone: no value of it is made. The first view has a part for each
-/// hand of the table.
+/// hand of the table, and `Parts` deals them out; a view with no part need not name the problem.
 pub struct View<O: SeqObject> {
-    pub problem: Problem<O>,
+    pub problem: Option<Problem<O>>,
     pub parts: u64,
     pub entries: LinkedList<Entry<O>>,
     pub out: Option<ShardOut<O>>,
@@ -73,4 +73,23 @@ impl<'p, O: SeqObject> Play<Shard<'p, O>, View<O>> for GiveMoreStep {
     ghost use Rattle.lin_table.specs.Steps.{GiveMoreTells};
 
     ghost then = { GiveMoreTells };
+}
+
+/// One part of a view becomes a new hand's, or two views become one.
+pub struct Parts;
+
+impl<O: SeqObject> Split<View<O>> for Parts {
+    ghost use Rattle.lin_table.specs.Steps.{one_part_less, one_part};
+
+    ghost left = { one_part_less };
+
+    ghost right = { one_part };
+}
+
+impl<O: SeqObject> Join<View<O>> for Parts {
+    ghost use Rattle.lin_table.specs.Steps.{both_views, no_part};
+
+    ghost both = { both_views };
+
+    ghost spent = { no_part };
 }

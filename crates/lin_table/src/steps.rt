@@ -54,7 +54,7 @@ pub(crate) fn give_back<'p, O: SeqObject>(
     requires table { (token.old.table_id ≡ shards.now.table_id)
         × (shard < shards.now.table_id.words) × (0 < token.old.me.0.parts) }
     requires out { (y : _) × (token.old.me.1 ≡ (shard, y) ∷ [])
-        × (y.problem ≡ token.old.me.0.problem)
+        × (Some y.problem ≡ token.old.me.0.problem)
         × (token.old.me.0.out ≡ Some (record { shard = shard; pairs = y.pairs })) }
     ensures table { token.new.table_id ≡ token.old.table_id }
     ensures me { token.new.me ≡ (with_none_out token.old.me.0, []) }
@@ -96,10 +96,10 @@ pub(crate) fn note_out<'p, O: SeqObject>(
     requires table { (token.old.table_id ≡ shards.now.table_id)
         × (shard < shards.now.table_id.words) × (0 < token.old.me.0.parts) }
     requires out { (y : _) × (token.old.me.1 ≡ (shard, y) ∷ [])
-        × (y.problem ≡ token.old.me.0.problem)
+        × (Some y.problem ≡ token.old.me.0.problem)
         × (token.old.me.0.out ≡ Some (record { shard = shard; pairs = y.pairs })) }
-    requires here { SameProblem O.eq O.State.eq O.Op.eq O.Reply.eq token.old.me.0.problem
-        problem.now }
+    requires here { (own : _) × (token.old.me.0.problem ≡ Some own)
+        × SameProblem O.eq O.State.eq O.Op.eq O.Reply.eq own problem.now }
     requires refuted { IsRefutedWith (problem_of O.after O.State.eq O.Reply.eq problem.now) lifted
         state longest }
     requires home { home_of lifted shards.now.key.shards ≡ shard }
@@ -131,8 +131,8 @@ pub(crate) fn look_in<'p, O: SeqObject>(
         × (shard < shards.now.table_id.words) × (shard < shards.now.key.shards) }
     requires free { (0 < token.old.me.0.parts) × (token.old.me.0.out ≡ None)
         × (token.old.me.1 ≡ []) }
-    requires here { SameProblem O.eq O.State.eq O.Op.eq O.Reply.eq token.old.me.0.problem
-        problem.now }
+    requires here { (own : _) × (token.old.me.0.problem ≡ Some own)
+        × SameProblem O.eq O.State.eq O.Op.eq O.Reply.eq own problem.now }
     ensures refuted { IfSome result (λ longest. IsRefutedWith
         (problem_of O.after O.State.eq O.Reply.eq problem.now) config.now.lifted
         config.now.state longest) }
@@ -161,8 +161,8 @@ pub(crate) fn note_in<'p, O: SeqObject>(
         × (shard < shards.now.table_id.words) × (shard < shards.now.key.shards) }
     requires free { (0 < token.old.me.0.parts) × (token.old.me.0.out ≡ None)
         × (token.old.me.1 ≡ []) }
-    requires here { SameProblem O.eq O.State.eq O.Op.eq O.Reply.eq token.old.me.0.problem
-        problem.now }
+    requires here { (own : _) × (token.old.me.0.problem ≡ Some own)
+        × SameProblem O.eq O.State.eq O.Op.eq O.Reply.eq own problem.now }
     requires refuted { IsRefutedWith (problem_of O.after O.State.eq O.Reply.eq problem.now) lifted
         state longest }
     requires home { home_of lifted shards.now.key.shards ≡ shard }

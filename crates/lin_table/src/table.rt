@@ -29,6 +29,7 @@ pub struct Table<'p, O: SeqObject> {
     inner: AtomicTable<Shard<'p, O>, View<O>, Plan<'p, O>, ShardRule, Global>,
     problem: &'p Problem<O>,
     shards: u64,
+    hands: u64,
 }
 
 impl<'p, O: SeqObject> Model for Table<'p, O> {
@@ -37,10 +38,10 @@ impl<'p, O: SeqObject> Model for Table<'p, O> {
 
     ghost Value = { TableFacts O O.State O.Op O.Reply };
 
-    ghost view = { λ t. record { id = t.inner.shared.table_id; problem = t.problem.now; shards = t.shards } };
+    ghost view = { λ t. record { id = t.inner.shared.table_id; problem = t.problem.now; shards = t.shards; hands = t.hands } };
 
     ghost invariant = { λ t. (t.inner.shared.table_id.words ≡ t.shards)
-        × (t.inner.shared.key.shards ≡ t.shards)
+        × (t.inner.shared.key.shards ≡ t.shards) × (t.inner.shared.key.hands ≡ t.hands)
         × (t.inner.shared.key.problem.now ≡ t.problem.now) × (0 < t.shards) };
 }
 

@@ -1,11 +1,12 @@
 use Rattle.std.proofs.Common.{◌≡◌, ℕ, ◌∷◌, [], sym, ap, ◌∙◌, rules, Some, None}
 use Rattle.lin_table.specs.Steps.{with_none_out}
+use Rattle.lin_table.proofs.StepLemmas.{some_same}
 use Rattle.lin_table.proofs.steps.look_in.Goals as goal
 
 pub look_out-found-requires-clause-out : goal.look_out-found-requires-clause-out
 look_out-found-requires-clause-out g c =
     let t = c.take_out.ensures.yes (search rules) in
-    (t.0, t.1 ∙ ap (λ l. (c.args.shard, t.0) ∷ l) c.requires.free.2, rw t.2 c.requires.here)
+    (t.0, t.1 ∙ ap (λ l. (c.args.shard, t.0) ∷ l) c.requires.free.2, rw (some_same (t.2 ∙ c.requires.here.1)) c.requires.here.2)
 
 pub give_back-requires-clause-out : goal.give_back-requires-clause-out
 give_back-requires-clause-out g c =

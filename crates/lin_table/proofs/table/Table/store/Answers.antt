@@ -1,5 +1,5 @@
 use Rattle.std.proofs.Common.{rules, ◌≡◌, ℕ, ◌∷◌, [], List, sym, ap, ◌∙◌}
-use Rattle.lin_table.specs.Hand.{IsFree}
+use Rattle.lin_table.specs.Hand.{IsFree, facts_of}
 use Rattle.lin_table.proofs.HandLemmas.{free_still, free_with_entry}
 use Rattle.lin_table.proofs.table.Table.store.Goals as goal
 use Rattle.lin_table.proofs.table.Table.store.Goals.{then-eq, else-eq}
@@ -20,3 +20,8 @@ invariant_of-hand g c =
           let same = c.note_in-noted.ensures.same (search rules) in
           rw w.hand-inside-is (free_still _ _ _ _ free same c.into_badge.ensures.2)
     ]
+
+pub note_in-noted-requires-clause-here : goal.note_in-noted-requires-clause-here
+note_in-noted-requires-clause-here g c =
+    let mine = sym c.into_seat-token.ensures.2 ∙ ap (λ b. b.views) c.replace.ensures.value in
+    (c.args.self.now.problem, ap (λ views. (facts_of c.hand.inside.badge.table_id views).problem) mine ∙ ap (λ h. h.problem) c.hand.view_is ∙ c.requires.hand.1, c.requires.here)
