@@ -1,9 +1,11 @@
 -- A hand after a look, and after it stored a configuration.
-use Rattle.std.proofs.Common.{◌≡◌, ℕ, ◌+◌, List, [], ◌∷◌, ◌++◌, length, sym, ap, ◌∙◌, refl, arith, length-append}
+use Rattle.std.proofs.Common.{◌≡◌, ℕ, ◌+◌, List, [], ◌∷◌, ◌++◌, length, sym, ap, ◌∙◌, refl, arith, length-append, Option}
 use Rattle.lin_table.specs.declared.rule.Entry.{Entry}
 use Rattle.lin_table.specs.declared.rule.View.{View}
 use Rattle.lin_table.specs.Steps.{with_entry}
-use Rattle.lin_table.specs.Hand.{IsFree}
+use Rattle.atomic_table.specs.Seated.{TableId}
+use Rattle.lin_history.specs.Problems.ProblemParts.{ProblemParts}
+use Rattle.lin_table.specs.Hand.{HandFacts, IsFree}
 
 module _ {O S A R : Type 0} where
   pub free_still : (before after : View O S A R) (views : List (View O S A R)) (n : ℕ) → IsFree (before ∷ []) n → after ≡ before → views ≡ after ∷ [] → IsFree views n
@@ -21,3 +23,10 @@ module _ {O S A R : Type 0} where
         free = refl;
         counted = let c = h.counted in omega arith;
       }
+
+-- the facts of a hand that has stored nothing
+abbrev pub nothing_stored : {O S A R : Type 0} → TableId → Option (ProblemParts O S A R) → HandFacts O S A R
+nothing_stored id problem = record { table = id; problem = problem; entries = [] }
+
+abbrev pub HasNothing : {O S A R : Type 0} → TableId → Option (ProblemParts O S A R) → HandFacts O S A R → Type 0
+HasNothing id problem hand = hand ≡ nothing_stored id problem

@@ -36,7 +36,7 @@ same_word (w ∷ ws) zero h = refl
 same_word (w ∷ ws) (suc i) h = ap (λ (l : List ℕ). w ∷ l) (same_word ws i (omega arith))
 
 module _ {O S A R : Type 0} where
-  each_set : (problem : ProblemParts O S A R) (n : ℕ) (lists : ℕ → List (Configuration S × Longest)) (views : List (View O S A R)) (id : ℕ) (w : View O S A R) → ((j : ℕ) (u : View O S A R) → get_elem? views j ≡ some u → Fits problem n lists u) → Fits problem n lists w → (j : ℕ) (u : View O S A R) → get_elem? (set views id w) j ≡ some u → Fits problem n lists u
+  pub each_set : (problem : ProblemParts O S A R) (n : ℕ) (lists : ℕ → List (Configuration S × Longest)) (views : List (View O S A R)) (id : ℕ) (w : View O S A R) → ((j : ℕ) (u : View O S A R) → get_elem? views j ≡ some u → Fits problem n lists u) → Fits problem n lists w → (j : ℕ) (u : View O S A R) → get_elem? (set views id w) j ≡ some u → Fits problem n lists u
   each_set problem n lists views id w all mine j u e =
       ⊎_elim
       (λ (t : (j ≡ id) × (w ≡ u)). subst (Fits problem n lists) t.1 mine)

@@ -23,6 +23,10 @@ pub record HandFacts (O S A R : Type 0) : Type 0 where
 abbrev pub IsHandOf : {O S A R : Type 0} → TableFacts O S A R → HandFacts O S A R → Type 0
 IsHandOf t h = (h.table ≡ t.id) × (h.problem ≡ Some t.problem)
 
+-- A hand of the table that has stored nothing.
+abbrev pub new_hand : {O S A R : Type 0} → TableFacts O S A R → HandFacts O S A R
+new_hand t = record { table = t.id; problem = Some t.problem; entries = [] }
+
 -- The facts of the hand that has this view at this table.
 abbrev pub facts_of : {O S A R : Type 0} → TableId → List (View O S A R) → HandFacts O S A R
 facts_of id [] = record { table = id; problem = None; entries = [] }

@@ -1,8 +1,11 @@
 //! What a worker steps on a table with.
 
-ghost use Rattle.std.specs.Prelude.{◌≡◌, length};
+ghost use Rattle.std.specs.Prelude.{◌≡◌, ◌<◌, ◌≤◌, [], None, All, length, vec_len, vec_capacity};
+ghost use Rattle.lin_table.specs.Rule.{view};
+ghost use Rattle.lin_table.specs.Steps.{one_part};
 
-use crate::rule::View;
+use crate::rule::{Parts, View};
+use crate::steps::{Shards, Token};
 use atomic_table::Badge;
 use lin_object::SeqObject;
 use std::marker::Model;
@@ -33,4 +36,46 @@ impl<O: SeqObject> Hand<O> {
     {
         self.count
     }
+
+    // A hand that has stored nothing yet.
+    pub(crate) fn of(token: Token<'_, O>) -> Hand<O>
+        requires { token.me ≡ (one_part token.me.0, []) }
+        ensures { result ≡ record {
+          table = token.entry.table_id;
+          problem = token.entry.me.0.problem;
+          entries = [];
+        } }
+    {
+        Hand {
+            badge: token.into_badge(),
+            count: 0,
+        }
+    }
+}
+
+// Deals out the parts of the first view: so many hands.
+pub(crate) fn deal<'p, O: SeqObject>(
+    shards: &Shards<'p, O>,
+    mut first: Token<'p, O>,
+    mut hands: Vec<Hand<O>>,
+    count: usize,
+) -> Vec<Hand<O>>
+    requires words { 0 < shards.now.table_id.words }
+    requires count { 1 ≤ count }
+    requires room { (hands.items ≡ []) × (count ≤ vec_capacity hands) }
+    requires first { (first.table_id ≡ shards.now.table_id)
+        × (first.me ≡ (view first.me.0.problem count [] None, [])) }
+    ensures count { vec_len result ≡ count }
+    ensures hands { All (λ hand. hand ≡ record {
+      table = first.entry.table_id;
+      problem = first.entry.me.0.problem;
+      entries = [];
+    }) result.items }
+{
+    for _ in 1..count {
+        let token = shards.split_seat::<Parts>(&mut first);
+        hands.push_reserved(Hand::of(token));
+    }
+    hands.push_reserved(Hand::of(first));
+    hands
 }

@@ -1,6 +1,6 @@
 //! One shard: refuted configurations of one problem.
 
-ghost use Rattle.std.specs.Prelude.{◌≡◌, ◌≢◌, ◌↔◌, ◌++◌, ◌∷◌, [], IfSome, IsSome, length};
+ghost use Rattle.std.specs.Prelude.{◌≡◌, ◌≢◌, ◌↔◌, ◌++◌, ◌∷◌, [], IfOk, IfSome, IsSome, length, replicate};
 ghost use Rattle.lin_history.specs.Problems.Problem.{problem_of};
 ghost use Rattle.lin_history.specs.Problems.SameProblem.{SameProblem};
 ghost use Rattle.lin_search.specs.Refutation.{IsRefutedWith};
@@ -9,7 +9,7 @@ ghost use Rattle.lin_search.specs.Store.{Holds, IsNoted, IsStore};
 use lin_history::Problem;
 use lin_object::SeqObject;
 use lin_search::{CallSet, Config, Longest, Memo, Noted, OwnMemo, Refutation};
-use std::alloc::Global;
+use std::alloc::{AllocError, Global};
 use std::marker::Model;
 
 /// Refuted configurations of one problem, each once. Contracts see the problem, and the pairs of a configuration and
@@ -101,4 +101,22 @@ impl<'p, O: SeqObject> Shard<'p, O> {
     {
         self.memo.note_here(problem, lifted, state, longest)
     }
+}
+
+// So many shards of the problem, with nothing in them.
+pub(crate) fn empty_shards<'p, O: SeqObject>(
+    alloc: Global,
+    problem: &'p Problem<O>,
+    count: usize,
+) -> Result<Vec<Shard<'p, O>>, AllocError>
+    ensures { IfOk result (λ shards. shards.items ≡ replicate count (record {
+      problem = problem.now;
+      pairs = [];
+    })) }
+{
+    let mut shards = Vec::with_capacity(alloc, count)?;
+    for _ in 0..count {
+        shards.push_reserved(Shard::new(alloc, problem));
+    }
+    Ok(shards)
 }

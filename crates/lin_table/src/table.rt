@@ -1,21 +1,21 @@
 //! The table as its callers see it.
 
-ghost use Rattle.std.specs.Prelude.{◌≡◌, ◌≢◌, ◌%◌, ◌<◌, length, IfSome};
+ghost use Rattle.std.specs.Prelude.{◌≡◌, ◌≢◌, ◌%◌, ◌<◌, ◌≤◌, All, length, vec_len, IfOk, IfSome};
 ghost use Rattle.lin_history.specs.Problems.Problem.{problem_of};
 ghost use Rattle.lin_history.specs.Problems.SameProblem.{SameProblem};
 ghost use Rattle.lin_search.specs.Refutation.{IsRefutedWith};
-ghost use Rattle.lin_table.specs.Hand.{IsHandOf, HasStored};
+ghost use Rattle.lin_table.specs.Hand.{IsHandOf, HasStored, new_hand};
 ghost use Rattle.lin_table.specs.Home.{home_of};
 
-use crate::hand::Hand;
+use crate::hand::{Hand, deal};
 use crate::rule::{Plan, ShardRule, View};
-use crate::shard::Shard;
+use crate::shard::{Shard, empty_shards};
 use crate::steps::{look_in, note_in};
 use atomic_table::{Badge, Table as AtomicTable};
 use lin_history::Problem;
 use lin_object::SeqObject;
 use lin_search::{CallSet, Config, Longest, Noted, Refutation};
-use std::alloc::Global;
+use std::alloc::{AllocError, Global};
 use std::marker::Model;
 use std::mem;
 
@@ -46,6 +46,42 @@ impl<'p, O: SeqObject> Model for Table<'p, O> {
 }
 
 impl<'p, O: SeqObject> Table<'p, O> {
+    /// A table of the problem with so many empty shards, and its hands, none of which has stored anything. There are 1 to
+    /// 256 shards and 1 to 65 hands. `AllocError` where memory was refused.
+    pub fn new(
+        alloc: Global,
+        problem: &'p Problem<O>,
+        shards: usize,
+        hands: usize,
+    ) -> Result<(Table<'p, O>, Vec<Hand<O>>), AllocError>
+        requires shards { (1 ≤ shards) × (shards ≤ 256) }
+        requires hands { (1 ≤ hands) × (hands ≤ 65) }
+        ensures table { IfOk result (λ made. (made.0.problem ≡ problem.now)
+            × (made.0.shards ≡ shards) × (made.0.hands ≡ hands)) }
+        ensures count { IfOk result (λ made. vec_len made.1 ≡ hands) }
+        ensures hands { IfOk result (λ made. All (λ hand. hand ≡ new_hand made.0) made.1.items) }
+    {
+        let dealt = Vec::with_capacity(alloc, hands)?;
+        let plan = Plan {
+            problem,
+            shards: shards as u64,
+            hands: hands as u64,
+        };
+        let words = vec![in alloc; 0u64; shards]?;
+        let homes = empty_shards(alloc, problem, shards)?;
+        let Ok((inner, first)) = AtomicTable::new(alloc, words.as_slice(), homes, &plan) else {
+            return Err(AllocError);
+        };
+        let dealt = deal(&inner.shared, first, dealt, hands);
+        let table = Table {
+            inner,
+            problem,
+            shards: shards as u64,
+            hands: hands as u64,
+        };
+        Ok((table, dealt))
+    }
+
     /// The problem. It takes no memory.
     pub fn problem(&self) -> &'p Problem<O>
         ensures { result.now ≡ self.now.problem }
