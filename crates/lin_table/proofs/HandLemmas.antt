@@ -1,5 +1,5 @@
 -- A hand after a look, and after it stored a configuration.
-use Rattle.std.proofs.Common.{◌≡◌, ℕ, ◌+◌, List, [], ◌∷◌, ◌++◌, length, sym, ap, ◌∙◌, refl, arith, length-append, Option}
+use Rattle.std.proofs.Common.{◌≡◌, ℕ, ◌+◌, List, [], ◌∷◌, ◌++◌, length, ap, ◌∙◌, refl, arith, length-append, Option}
 use Rattle.lin_table.specs.declared.rule.Entry.{Entry}
 use Rattle.lin_table.specs.declared.rule.View.{View}
 use Rattle.lin_table.specs.Steps.{with_entry}

@@ -1,6 +1,6 @@
 -- A table at its start, and how its hands' views are split and joined.
-use Rattle.std.proofs.Common.{◌≡◌, ◌≢◌, ℕ, zero, suc, ◌+◌, ◌-◌, ◌*◌, ◌<◌, ◌≤◌, List, [], ◌∷◌, ◌++◌, length, get_or, set, replicate, map, refl, sym, ap, ◌∙◌, subst, ⊎_elim, ◌⊎◌, inl, inr, arith, length-append, cond, Option, Some, None, All}
-use mathlib.Core.Option.{Option as Maybe, none, some, some-ne-none, some-injective}
+use Rattle.std.proofs.Common.{◌≡◌, ◌≢◌, ℕ, zero, suc, ◌+◌, ◌<◌, List, [], ◌∷◌, ◌++◌, set, replicate, map, refl, sym, ap, ◌∙◌, subst, ⊎_elim, ◌⊎◌, inl, inr, arith, cond, None}
+use mathlib.Core.Option.{Option as Maybe, some, some-ne-none, some-injective}
 use lib.ListN.{get_elem?}
 use Rattle.std.proofs.lemmas.Bool.{le-ltb}
 use Rattle.std.proofs.lemmas.List.{length-replicate, get_or-replicate, length-map}
@@ -11,11 +11,10 @@ use Rattle.lin_search.specs.declared.longest.Longest.{Longest}
 use Rattle.lin_search.specs.Configuration.{Configuration}
 use Rattle.lin_search.specs.Store.{Store}
 use Rattle.lin_table.specs.declared.rule.Entry.{Entry}
-use Rattle.lin_table.specs.declared.rule.ShardOut.{ShardOut}
 use Rattle.lin_table.specs.declared.rule.View.{View}
 use Rattle.lin_table.specs.declared.rule.Plan.{Plan}
-use Rattle.lin_table.specs.Totals.{total, once_below, one_if_same}
-use Rattle.lin_table.specs.Rule.{out_at, outs, named_by, names_of, Stands, Fits, IsHome, RuleHolds, KeepsRule, opening_view}
+use Rattle.lin_table.specs.Totals.{total}
+use Rattle.lin_table.specs.Rule.{out_at, outs, named_by, names_of, Fits, RuleHolds, KeepsRule, opening_view}
 use Rattle.lin_table.specs.Steps.{one_part_less, one_part, both_views, no_part}
 use Rattle.lin_table.proofs.TotalLemmas.{total_set, total_append}
 use Rattle.lin_table.proofs.StepLemmas.{each_set}

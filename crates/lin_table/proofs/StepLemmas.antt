@@ -1,10 +1,10 @@
 -- Each step keeps the rule of the shards.
-use Rattle.std.proofs.Common.{◌≡◌, ◌≢◌, ◌⊎◌, Bool, ℕ, zero, suc, ◌+◌, ◌-◌, ◌*◌, ◌^◌, ◌<◌, ◌≤◌, List, [], ◌∷◌, ◌++◌, length, get_or, set, refl, sym, ap, ◌∙◌, subst, inl, inr, ⊎_elim, arith, length-append, length-set, get_or-set_same, cond, eqb, eq-eqb, ne_eqb, Option, Some, None, All, map, drop}
-use mathlib.Core.Option.{Option as Maybe, none, some, some-ne-none, some-injective}
+use Rattle.std.proofs.Common.{◌≡◌, ◌≢◌, Bool, ℕ, zero, suc, ◌+◌, ◌*◌, ◌<◌, ◌≤◌, List, [], ◌∷◌, ◌++◌, length, get_or, set, refl, sym, ap, ◌∙◌, subst, ⊎_elim, arith, length-append, length-set, get_or-set_same, cond, eqb, eq-eqb, ne_eqb, Option, Some, None, All, map, drop}
+use mathlib.Core.Option.{Option as Maybe, none, some}
 use lib.ListN.{get_elem?}
 use Rattle.std.proofs.lemmas.List.{get_or-set_other}
-use Rattle.std.proofs.lemmas.Bool.{cases_lt, cases_eq}
-use Rattle.atomic_table.specs.Table.{State, Me, step, keeps, takes, gives, put_back, stepped, Allows}
+use Rattle.std.proofs.lemmas.Bool.{cases_eq}
+use Rattle.atomic_table.specs.Table.{Me, step, keeps, takes, gives, put_back, stepped, Allows}
 use Rattle.atomic_table.proofs.Lists.{at_set, at_snoc, at_longer, at_last, set_again, set_here, set_else, exchanged}
 use Rattle.std.proofs.lemmas.List.Elements.{All-push, All-same}
 use Rattle.std.proofs.Math.Seq.{drop-append_seam}
@@ -18,7 +18,7 @@ use Rattle.lin_table.specs.declared.rule.ShardOut.{ShardOut}
 use Rattle.lin_table.specs.declared.rule.View.{View}
 use Rattle.lin_table.specs.declared.rule.Plan.{Plan}
 use Rattle.lin_table.specs.Home.{home_of}
-use Rattle.lin_table.specs.Totals.{total, once_below, one_if_same}
+use Rattle.lin_table.specs.Totals.{once_below, one_if_same}
 use Rattle.lin_table.specs.Rule.{out_at, outs, named_by, names_of, Stands, Fits, IsHome, RuleHolds, KeepsRule, view}
 use Rattle.lin_table.specs.Steps.{with_out, with_none_out, with_entry, TakeTells, GiveBackTells, GiveMoreTells, added}
 use Rattle.lin_table.proofs.TotalLemmas.{total_set, total_at, total_append, one_where_same, none_where_other, once_more}

@@ -1,5 +1,5 @@
 -- What contracts see of a table and of its hands (this project's own).
-use Rattle.std.specs.Prelude.{◌≡◌, ℕ, ◌<◌, List, [], ◌∷◌, ◌++◌, length, Option, Some, None}
+use Rattle.std.specs.Prelude.{◌≡◌, ℕ, List, [], ◌∷◌, ◌++◌, length, Option, Some, None}
 use Rattle.atomic_table.specs.Seated.{TableId}
 use Rattle.lin_history.specs.Problems.ProblemParts.{ProblemParts}
 use Rattle.lin_search.specs.Configuration.{Configuration}

@@ -1,4 +1,4 @@
-use Rattle.std.proofs.Common.{◌≡◌, ◌+◌, ◌∷◌, ◌++◌, [], replicate, sym, ap, ◌∙◌, arith, rules}
+use Rattle.std.proofs.Common.{◌≡◌, [], replicate, ap, ◌∙◌, arith, rules}
 use Rattle.lin_table.proofs.PartLemmas.{replicate-push}
 use Rattle.lin_table.proofs.shard.empty_shards.Goals as goal
 

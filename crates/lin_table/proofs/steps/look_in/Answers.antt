@@ -1,5 +1,4 @@
-use Rattle.std.proofs.Common.{◌≡◌, ℕ, ◌∷◌, [], sym, ap, ◌∙◌, rules, Some, None}
-use Rattle.lin_table.specs.Steps.{with_none_out}
+use Rattle.std.proofs.Common.{◌∷◌, sym, ap, ◌∙◌, rules}
 use Rattle.lin_table.proofs.StepLemmas.{some_same}
 use Rattle.lin_table.proofs.steps.look_in.Goals as goal
 

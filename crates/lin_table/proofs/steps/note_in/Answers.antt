@@ -1,4 +1,4 @@
-use Rattle.std.proofs.Common.{◌≡◌, ℕ, ◌∷◌, [], sym, ap, ◌∙◌, rules, Some, None}
+use Rattle.std.proofs.Common.{◌∷◌, sym, ap, ◌∙◌, rules}
 use Rattle.lin_table.proofs.steps.note_in.Goals as goal
 
 pub note_out-requires-clause-out : goal.note_out-requires-clause-out

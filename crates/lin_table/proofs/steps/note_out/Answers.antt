@@ -1,4 +1,4 @@
-use Rattle.std.proofs.Common.{◌≡◌, ℕ, ◌∷◌, ◌++◌, [], List, length, sym, ap, ◌∙◌, refl, rules, Some, None}
+use Rattle.std.proofs.Common.{◌∷◌, ◌++◌, [], length, sym, ap, ◌∙◌, refl, rules, Some, None}
 use Rattle.atomic_table.specs.Table.{rest}
 use Rattle.lin_table.specs.Rule.{view}
 use Rattle.lin_table.proofs.StepLemmas.{gives_more, gives_back, one_added, pair_of, some_same, value_at}

@@ -1,4 +1,4 @@
-use Rattle.std.proofs.Common.{◌≡◌, ℕ, ◌<◌, ◌∷◌, rules, sym, ap, ◌∙◌, arith}
+use Rattle.std.proofs.Common.{◌∷◌, ap, ◌∙◌, arith}
 use Rattle.lin_table.specs.Steps.{with_out}
 use Rattle.lin_table.proofs.StepLemmas.{takes_out}
 use Rattle.lin_table.proofs.steps.take_out.Goals as goal

@@ -1,4 +1,4 @@
-use Rattle.std.proofs.Common.{◌≡◌, ℕ, ◌∷◌, [], List, sym, ap, ◌∙◌}
+use Rattle.std.proofs.Common.{sym, ap, ◌∙◌}
 use Rattle.lin_table.specs.Hand.{facts_of}
 use Rattle.lin_table.proofs.table.Table.look_here.Goals as goal
 

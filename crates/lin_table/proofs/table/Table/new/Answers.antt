@@ -1,4 +1,4 @@
-use Rattle.std.proofs.Common.{◌≡◌, rules}
+use Rattle.std.proofs.Common.{rules}
 use Rattle.lin_table.proofs.PartLemmas.{opens}
 use Rattle.lin_table.proofs.table.Table.new.Goals as goal
 

@@ -1,5 +1,5 @@
-use Rattle.std.proofs.Common.{rules, ◌≡◌, ℕ, ◌∷◌, [], List, sym, ap, ◌∙◌}
-use Rattle.lin_table.specs.Hand.{IsFree, facts_of}
+use Rattle.std.proofs.Common.{rules, sym, ap, ◌∙◌}
+use Rattle.lin_table.specs.Hand.{facts_of}
 use Rattle.lin_table.proofs.HandLemmas.{free_still, free_with_entry}
 use Rattle.lin_table.proofs.table.Table.store.Goals as goal
 use Rattle.lin_table.proofs.table.Table.store.Goals.{then-eq, else-eq}
