@@ -1,0 +1,4 @@
+pub mod TotalLemmas
+pub mod StepLemmas
+pub mod HandLemmas
+pub mod PartLemmas

@@ -1,0 +1,267 @@
+-- Each step keeps the rule of the shards.
+use Rattle.std.proofs.Common.{◌≡◌, ◌≢◌, Bool, ℕ, zero, suc, ◌+◌, ◌*◌, ◌<◌, ◌≤◌, List, [], ◌∷◌, ◌++◌, length, get_or, set, refl, sym, ap, ◌∙◌, subst, ⊎_elim, arith, length-append, length-set, get_or-set_same, cond, eqb, eq-eqb, ne_eqb, Option, Some, None, All, map, drop}
+use mathlib.Core.Option.{Option as Maybe, none, some}
+use lib.ListN.{get_elem?}
+use Rattle.std.proofs.lemmas.List.{get_or-set_other}
+use Rattle.std.proofs.lemmas.Bool.{cases_eq}
+use Rattle.atomic_table.specs.Table.{Me, step, keeps, takes, gives, put_back, stepped, Allows}
+use Rattle.atomic_table.proofs.Lists.{at_set, at_snoc, at_longer, at_last, set_again, set_here, set_else, exchanged}
+use Rattle.std.proofs.lemmas.List.Elements.{All-push, All-same}
+use Rattle.std.proofs.Math.Seq.{drop-append_seam}
+use prog.Atomic.{either}
+use Rattle.lin_history.specs.Problems.ProblemParts.{ProblemParts}
+use Rattle.lin_search.specs.declared.longest.Longest.{Longest}
+use Rattle.lin_search.specs.Configuration.{Configuration}
+use Rattle.lin_search.specs.Store.{Store}
+use Rattle.lin_table.specs.declared.rule.Entry.{Entry}
+use Rattle.lin_table.specs.declared.rule.ShardOut.{ShardOut}
+use Rattle.lin_table.specs.declared.rule.View.{View}
+use Rattle.lin_table.specs.declared.rule.Plan.{Plan}
+use Rattle.lin_table.specs.Home.{home_of}
+use Rattle.lin_table.specs.Totals.{once_below, one_if_same}
+use Rattle.lin_table.specs.Rule.{out_at, outs, named_by, names_of, Stands, Fits, IsHome, RuleHolds, KeepsRule, view}
+use Rattle.lin_table.specs.Steps.{with_out, with_none_out, with_entry, TakeTells, GiveBackTells, GiveMoreTells, added}
+use Rattle.lin_table.proofs.TotalLemmas.{total_set, total_at, total_append, one_where_same, none_where_other, once_more}
+
+pub some_same : {X : Type 0} {x y : X} → Some x ≡ Some y → x ≡ y
+some_same e = cc (e)
+
+-- a pair by its parts
+abbrev pub pair_of : {S : Type 0} → List Bool → S → Longest → Configuration S × Longest
+pair_of lifted state longest = (record { lifted = lifted; state = state }, longest)
+
+same_word : (ws : List ℕ) (i : ℕ) → i < length ws → set ws i (get_or ws i 0) ≡ ws
+same_word [] i h = refl
+same_word (w ∷ ws) zero h = refl
+same_word (w ∷ ws) (suc i) h = ap (λ (l : List ℕ). w ∷ l) (same_word ws i (omega arith))
+
+module _ {O S A R : Type 0} where
+  pub each_set : (problem : ProblemParts O S A R) (n : ℕ) (lists : ℕ → List (Configuration S × Longest)) (views : List (View O S A R)) (id : ℕ) (w : View O S A R) → ((j : ℕ) (u : View O S A R) → get_elem? views j ≡ some u → Fits problem n lists u) → Fits problem n lists w → (j : ℕ) (u : View O S A R) → get_elem? (set views id w) j ≡ some u → Fits problem n lists u
+  each_set problem n lists views id w all mine j u e =
+      ⊎_elim
+      (λ (t : (j ≡ id) × (w ≡ u)). subst (Fits problem n lists) t.1 mine)
+      (λ (t : (j ≢ id) × (get_elem? views j ≡ some u)). all j u t.1)
+      (at_set views id j w u e)
+
+  module _ (problem : ProblemParts O S A R) (n hands : ℕ) (words : List ℕ) (homes : List (Maybe (Store O S A R))) (views : List (View O S A R)) (lists : ℕ → List (Configuration S × Longest)) (h : RuleHolds problem n hands words homes views lists) (id : ℕ) (v : View O S A R) (at : get_elem? views id ≡ some v) where
+    pub take_holds : (i : ℕ) → i < n → 0 < v.parts → v.out ≡ None → outs i views ≡ 0 → (y : Store O S A R) → y.pairs ≡ lists i
+        → RuleHolds problem n hands (set words i 1) (set homes i none) (set views id (with_out v (record { shard = i; pairs = y.pairs }))) lists
+    take_holds i below part no_out free y is =
+        let o : ShardOut O S A R = record { shard = i; pairs = y.pairs } in
+        let w = with_out v o in
+        let fits = h.each id v at in
+        let wide = h.long in
+        let outs_are : (k : ℕ) → outs k (set views id w) ≡ outs k views + one_if_same i k
+        = λ k. let s = total_set (λ (u : View O S A R). out_at k u.out) views id v w at in let z : out_at k v.out ≡ 0 = ap (out_at k) no_out in omega arith in
+        let mine : outs i (set views id w) ≡ 1 = let a = outs_are i in let b = one_where_same i in omega arith in record {
+          long = (length-set words i 1 ∙ wide.0, length-set homes i none ∙ wide.1);
+          parts = let s = total_set (λ (u : View O S A R). u.parts) views id v w at in let a = h.parts in omega arith;
+          words_are = λ k small. ⊎_elim
+              (λ (e : k ≡ i). subst (λ z. get_or (set words i 1) z 0 ≡ outs z (set views id w)) (sym e) (get_or-set_same words i 1 0 (omega arith) ∙ sym mine))
+              (λ (ne : k ≢ i). let a = outs_are k in let b = none_where_other i k (λ e. ne (sym e)) in let c = h.words_are k small in let d = get_or-set_other words i k 1 0 ne in omega arith)
+              (cases_eq k i);
+          at_most_one = λ k small. ⊎_elim
+              (λ (e : k ≡ i). subst (λ z. outs z (set views id w) ≤ 1) (sym e) (omega arith))
+              (λ (ne : k ≢ i). let a = outs_are k in let b = none_where_other i k (λ e. ne (sym e)) in let c = h.at_most_one k small in omega arith)
+              (cases_eq k i);
+          at_home = λ k small zero_out. ⊎_elim
+              (λ (e : k ≡ i). let a : outs i (set views id w) ≡ 0 = subst (λ z. outs z (set views id w) ≡ 0) e zero_out in absurd (omega arith))
+              (λ (ne : k ≢ i). let a = outs_are k in subst (IsHome problem (lists k)) (sym (set_else homes i k none ne)) (h.at_home k small (omega arith)))
+              (cases_eq k i);
+          each = each_set problem n lists views id w h.each (record {
+            problem_is = fits.problem_is;
+            out = λ o' has. let e : o ≡ o' = cc in subst (λ (z : ShardOut O S A R). (z.shard < n) × (z.pairs ≡ lists z.shard)) e (below, is);
+            entries = fits.entries;
+            empty = λ no. absurd (omega arith);
+          });
+          names = λ k p small. let s = total_set (names_of k p) views id v w at in let a = h.names k p small in omega arith;
+          belongs = h.belongs;
+        }
+
+    pub give_holds : (i : ℕ) (old : List (Configuration S × Longest)) → 0 < v.parts → v.out ≡ Some (record { shard = i; pairs = old }) → (y : Store O S A R) → y.problem ≡ problem → y.pairs ≡ old
+        → RuleHolds problem n hands (set words i 0) (set homes i (some y)) (set views id (with_none_out v)) lists
+    give_holds i old part has y theirs same =
+        let w = with_none_out v in
+        let fits = h.each id v at in
+        let its = fits.out (record { shard = i; pairs = old }) has in
+        let below : i < n = its.0 in
+        let wide = h.long in
+        let outs_are : (k : ℕ) → outs k (set views id w) + one_if_same i k ≡ outs k views
+        = λ k. let s = total_set (λ (u : View O S A R). out_at k u.out) views id v w at in let z : out_at k v.out ≡ one_if_same i k = ap (out_at k) has in omega arith in
+        let mine : outs i (set views id w) ≡ 0 = let a = outs_are i in let b = one_where_same i in let c = h.at_most_one i below in omega arith in record {
+          long = (length-set words i 0 ∙ wide.0, length-set homes i (some y) ∙ wide.1);
+          parts = let s = total_set (λ (u : View O S A R). u.parts) views id v w at in let a = h.parts in omega arith;
+          words_are = λ k small. ⊎_elim
+              (λ (e : k ≡ i). subst (λ z. get_or (set words i 0) z 0 ≡ outs z (set views id w)) (sym e) (get_or-set_same words i 0 0 (omega arith) ∙ sym mine))
+              (λ (ne : k ≢ i). let a = outs_are k in let b = none_where_other i k (λ e. ne (sym e)) in let c = h.words_are k small in let d = get_or-set_other words i k 0 0 ne in omega arith)
+              (cases_eq k i);
+          at_most_one = λ k small. let a = outs_are k in let b = h.at_most_one k small in omega arith;
+          at_home = λ k small zero_out. ⊎_elim
+              (λ (e : k ≡ i). subst (λ z. IsHome problem (lists z) (get_elem? (set homes i (some y)) z)) (sym e) (record { shard = y; is_there = set_here homes i (some y) (omega arith); problem_is = theirs; pairs_are = same ∙ its.1 }))
+              (λ (ne : k ≢ i). let a = outs_are k in let b = none_where_other i k (λ e. ne (sym e)) in subst (IsHome problem (lists k)) (sym (set_else homes i k (some y) ne)) (h.at_home k small (omega arith)))
+              (cases_eq k i);
+          each = each_set problem n lists views id w h.each (record {
+            problem_is = fits.problem_is;
+            out = λ o' no. absurd (cc);
+            entries = fits.entries;
+            empty = λ no. absurd (omega arith);
+          });
+          names = λ k p small. let s = total_set (names_of k p) views id v w at in let a = h.names k p small in omega arith;
+          belongs = h.belongs;
+        }
+
+  pub takes_out : (a : Plan O S A R) (slots id : ℕ) (me : Me (Store O S A R) (View O S A R)) (i : ℕ) → i < a.shards → 0 < me.0.parts → me.0.out ≡ None
+      → Allows (KeepsRule a) slots id me i (λ n. either (eqb n 0) 1 n) (TakeTells (step slots i 0 1 none) me)
+  takes_out a slots id me i below part no_out s k len at small =
+      let v : View O S A R = me.0 in
+      let r : ℕ = get_or s.words i 0 in
+      let lists = k.0 in
+      let h = k.1 in
+      let mine = (h.each id v at).problem_is part in
+      let is = h.words_are i below in
+      ⊎_elim
+      (λ (hit : r ≡ 0).
+      let home = h.at_home i below (omega arith) in
+      let o : ShardOut O S A R = record { shard = i; pairs = home.shard.pairs } in
+      let Q : ℕ → Type 0 = λ (n : ℕ). KeepsRule a (stepped s i n id me.1 (with_out v o) (takes i home.shard)) in (
+        with_out v o,
+        takes i home.shard,
+        home.is_there,
+        subst (λ (z : ℕ). Q (either (eqb z 0) 1 z)) (sym hit) (lists, take_holds a.problem.now a.shards a.hands s.words s.homes s.views lists h id v at i below part no_out (omega arith) home.shard home.pairs_are),
+        ((λ _. (home.shard, refl, ap Some home.problem_is ∙ sym mine, refl)), (λ no. absurd (no hit))),
+      ))
+      (λ (miss : r ≢ 0). (
+        v,
+        keeps,
+        tt,
+        exchanged r 0 1 (λ (n : ℕ). KeepsRule a (stepped s i n id me.1 v keeps)) (λ hit. absurd (miss hit))
+            (λ _. (lists, subst (λ (z : List ℕ × List (View O S A R)). RuleHolds a.problem.now a.shards a.hands z.0 s.homes z.1 lists) (λ j. (sym (same_word s.words i (let l = h.long in omega arith)) j, sym (set_again s.views id v at) j)) h)),
+        ((λ hit. absurd (miss hit)), (λ _. refl)),
+      ))
+      (cases_eq r 0)
+
+  pub gives_back : (a : Plan O S A R) (slots id : ℕ) (me : Me (Store O S A R) (View O S A R)) (i : ℕ) (y : Store O S A R) (rest : List (ℕ × Store O S A R)) → 0 < me.0.parts → me.1 ≡ (i, y) ∷ rest → Some y.problem ≡ me.0.problem → me.0.out ≡ Some (record { shard = i; pairs = y.pairs })
+      → Allows (KeepsRule a) slots id me i (λ _. 0) (λ _. GiveBackTells (step slots i 0 0 none) me 0)
+  gives_back a slots id me i y rest part holds theirs has s k len at small =
+      let v : View O S A R = me.0 in
+      let lists = k.0 in
+      let h = k.1 in
+      let mine = (h.each id v at).problem_is part in (
+        with_none_out v,
+        gives,
+        tt,
+        (lists, subst (λ (c : List (ℕ × Store O S A R)). RuleHolds a.problem.now a.shards a.hands (set s.words i 0) (put_back s.homes c) (set s.views id (with_none_out v)) lists) (sym holds) (give_holds a.problem.now a.shards a.hands s.words s.homes s.views lists h id v at i y.pairs part has y (some_same (theirs ∙ mine)) refl)),
+        (refl, refl),
+      )
+
+  module _ (problem : ProblemParts O S A R) (n hands : ℕ) (words : List ℕ) (homes : List (Maybe (Store O S A R))) (views : List (View O S A R)) (lists : ℕ → List (Configuration S × Longest)) (h : RuleHolds problem n hands words homes views lists) (id : ℕ) (v : View O S A R) (at : get_elem? views id ≡ some v) where
+    pub more_holds : (i : ℕ) (old : List (Configuration S × Longest)) (q : Configuration S × Longest) → 0 < v.parts → v.out ≡ Some (record { shard = i; pairs = old }) → (y : Store O S A R) → y.problem ≡ problem → y.pairs ≡ old ++ q ∷ [] → home_of q.0.lifted n ≡ i
+        → RuleHolds problem n hands (set words i 0) (set homes i (some y)) (set views id (with_entry v (record { shard = i; place = length old; config = q.0 }))) (λ k. cond (eqb k i) (old ++ q ∷ []) (lists k))
+    more_holds i old q part has y theirs longer home =
+        let e : Entry O S A R = record { shard = i; place = length old; config = q.0 } in
+        let w = with_entry v e in
+        let lists' : ℕ → List (Configuration S × Longest) = λ k. cond (eqb k i) (old ++ q ∷ []) (lists k) in
+        let here : lists' i ≡ old ++ q ∷ [] = ap (λ b. cond b (old ++ q ∷ []) (lists i)) (eq-eqb i i refl) in
+        let else' : (k : ℕ) → k ≢ i → lists' k ≡ lists k = λ k ne. ap (λ b. cond b (old ++ q ∷ []) (lists k)) (ne_eqb k i ne) in
+        let fits = h.each id v at in
+        let its = fits.out (record { shard = i; pairs = old }) has in
+        let below : i < n = its.0 in
+        let wide = h.long in
+        let stays : (x : Entry O S A R) → Stands lists n x → Stands lists' n x
+        = λ x (s : Stands lists n x). (
+          s.0,
+          (
+            s.1.0,
+            ⊎_elim
+                (λ (a : x.shard ≡ i). subst (λ l. get_elem? l x.place ≡ some s.1.0) (sym (ap lists' a ∙ here)) (at_longer old (q ∷ []) x.place s.1.0 (subst (λ l. get_elem? l x.place ≡ some s.1.0) (ap lists a ∙ sym its.1) s.1.1)))
+                (λ (ne : x.shard ≢ i). subst (λ l. get_elem? l x.place ≡ some s.1.0) (sym (else' x.shard ne)) s.1.1)
+                (cases_eq x.shard i),
+            s.1.2,
+          ),
+        ) in
+        let outs_are : (k : ℕ) → outs k (set views id w) + one_if_same i k ≡ outs k views
+        = λ k. let s = total_set (λ (u : View O S A R). out_at k u.out) views id v w at in let z : out_at k v.out ≡ one_if_same i k = ap (out_at k) has in omega arith in
+        let mine : outs i (set views id w) ≡ 0 = let a = outs_are i in let b = one_where_same i in let c = h.at_most_one i below in omega arith in record {
+          long = (length-set words i 0 ∙ wide.0, length-set homes i (some y) ∙ wide.1);
+          parts = let s = total_set (λ (u : View O S A R). u.parts) views id v w at in let a = h.parts in omega arith;
+          words_are = λ k small. ⊎_elim
+              (λ (e : k ≡ i). subst (λ z. get_or (set words i 0) z 0 ≡ outs z (set views id w)) (sym e) (get_or-set_same words i 0 0 (omega arith) ∙ sym mine))
+              (λ (ne : k ≢ i). let a = outs_are k in let b = none_where_other i k (λ e. ne (sym e)) in let c = h.words_are k small in let d = get_or-set_other words i k 0 0 ne in omega arith)
+              (cases_eq k i);
+          at_most_one = λ k small. let a = outs_are k in let b = h.at_most_one k small in omega arith;
+          at_home = λ k small zero_out. ⊎_elim
+              (λ (e : k ≡ i). subst (λ z. IsHome problem (lists' z) (get_elem? (set homes i (some y)) z)) (sym e) (record { shard = y; is_there = set_here homes i (some y) (omega arith); problem_is = theirs; pairs_are = longer ∙ sym here }))
+              (λ (ne : k ≢ i). let a = outs_are k in let b = none_where_other i k (λ e. ne (sym e)) in
+              subst (λ l. IsHome problem l (get_elem? (set homes i (some y)) k)) (sym (else' k ne)) (subst (IsHome problem (lists k)) (sym (set_else homes i k (some y) ne)) (h.at_home k small (omega arith))))
+              (cases_eq k i);
+          each = λ j u at'. ⊎_elim
+              (λ (t : (j ≡ id) × (w ≡ u)). subst (Fits problem n lists') t.1 (record {
+                problem_is = fits.problem_is;
+                out = λ o' no. absurd (cc);
+                entries = λ m x there. ⊎_elim (λ was. stays x (fits.entries m x was)) (λ (same : e ≡ x). subst (Stands lists' n) same (below, (q, subst (λ l. get_elem? l (length old) ≡ some q) (sym here) (at_last old q (length old) refl), refl))) (at_snoc v.entries e x m there);
+                empty = λ no. absurd (omega arith);
+              }))
+              (λ (t : (j ≢ id) × (get_elem? views j ≡ some u)). let f = h.each j u t.1 in record {
+                problem_is = f.problem_is;
+                out = λ o' has'. let g = f.out o' has' in ⊎_elim
+                    (λ (a : o'.shard ≡ i).
+                    let x = total_at (λ (z : View O S A R). out_at i z.out) (set views id w) j u at' in
+                    let z : out_at i u.out ≡ 1 = ap (out_at i) has' ∙ ap (λ s. one_if_same s i) a ∙ one_where_same i in absurd (omega arith))
+                    (λ (ne : o'.shard ≢ i). (g.0, g.1 ∙ sym (else' o'.shard ne)))
+                    (cases_eq o'.shard i);
+                entries = λ m x there. stays x (f.entries m x there);
+                empty = f.empty;
+              })
+              (at_set views id j w u at');
+          names = λ k p small.
+              let s = total_set (names_of k p) views id v w at in
+              let t = total_append (named_by k p) v.entries (e ∷ []) in
+              let a = h.names k p small in ⊎_elim
+              (λ (b : k ≡ i).
+              let l : length (lists' k) ≡ length old + 1 = ap (λ z. length (lists' z)) b ∙ ap length here ∙ length-append old (q ∷ []) in
+              let l0 : length (lists k) ≡ length old = ap (λ z. length (lists z)) b ∙ sym (ap length its.1) in
+              let o = once_more p (length old) in
+              let o1 = ap (once_below p) l in let o0 = ap (once_below p) l0 in
+              let one : one_if_same i k ≡ 1 = ap (one_if_same i) b ∙ one_where_same i in
+              let prod : one_if_same i k * one_if_same (length old) p ≡ one_if_same (length old) p = ap (λ z. z * one_if_same (length old) p) one ∙ omega arith in omega arith)
+              (λ (ne : k ≢ i).
+              let none' : one_if_same i k ≡ 0 = none_where_other i k (λ e. ne (sym e)) in
+              let prod : one_if_same i k * one_if_same (length old) p ≡ 0 = ap (λ z. z * one_if_same (length old) p) none' ∙ omega arith in
+              let o1 = ap (λ l. once_below p (length l)) (else' k ne) in omega arith)
+              (cases_eq k i);
+          belongs = λ k small. let Q : ℕ → Configuration S × Longest → Type 0 = λ m (x : Configuration S × Longest). home_of x.0.lifted n ≡ m in ⊎_elim
+              (λ (b : k ≡ i). subst (λ m. All (Q m) (lists' m)) (sym b) (All-same (Q i) _ _ here (All-push (Q i) old q (All-same (Q i) _ _ its.1 (h.belongs i below)) home)))
+              (λ (ne : k ≢ i). All-same (Q k) _ _ (else' k ne) (h.belongs k small))
+              (cases_eq k i);
+        }
+
+  -- what a shard with one pair more adds to its hand's entries
+  pub one_added : (i : ℕ) (out : Option (ShardOut O S A R)) (held : List (ℕ × Store O S A R)) (y : Store O S A R) (rest : List (ℕ × Store O S A R)) (old : List (Configuration S × Longest)) (q : Configuration S × Longest) → out ≡ Some (record { shard = i; pairs = old }) → held ≡ (i, y) ∷ rest → y.pairs ≡ old ++ q ∷ []
+      → added i out held ≡ record { shard = i; place = length old; config = q.0 } ∷ []
+  one_added i out held y rest old q has holds longer =
+      ap (λ (o : Option (ShardOut O S A R)). added i o held) has
+      ∙ ap (added i (Some (record { shard = i; pairs = old }))) holds
+      ∙ ap (map (λ (p : Configuration S × Longest). record { shard = i; place = length old; config = p.0 })) (ap (drop (length old)) longer ∙ drop-append_seam old (q ∷ []))
+
+  pub gives_more : (a : Plan O S A R) (slots id : ℕ) (me : Me (Store O S A R) (View O S A R)) (i : ℕ) (y : Store O S A R) (old : List (Configuration S × Longest)) (q : Configuration S × Longest) (rest : List (ℕ × Store O S A R)) → 0 < me.0.parts → me.1 ≡ (i, y) ∷ rest → Some y.problem ≡ me.0.problem
+      → me.0.out ≡ Some (record { shard = i; pairs = old }) → y.pairs ≡ old ++ q ∷ [] → home_of q.0.lifted a.shards ≡ i
+      → Allows (KeepsRule a) slots id me i (λ _. 0) (λ _. GiveMoreTells (step slots i 0 0 none) me 0)
+  gives_more a slots id me i y old q rest part holds theirs has longer home s k len at small =
+      let v : View O S A R = me.0 in
+      let h = k.1 in
+      let mine = (h.each id v at).problem_is part in
+      let e : Entry O S A R = record { shard = i; place = length old; config = q.0 } in (
+        with_entry v e,
+        gives,
+        tt,
+        (
+          (λ m. cond (eqb m i) (old ++ q ∷ []) (k.0 m)),
+          subst (λ (c : List (ℕ × Store O S A R)). RuleHolds a.problem.now a.shards a.hands (set s.words i 0) (put_back s.homes c) (set s.views id (with_entry v e)) (λ m. cond (eqb m i) (old ++ q ∷ []) (k.0 m))) (sym holds)
+              (more_holds a.problem.now a.shards a.hands s.words s.homes s.views k.0 h id v at i old q part has y (some_same (theirs ∙ mine)) longer home),
+        ),
+        (ap (λ (l : List (Entry O S A R)). view v.problem v.parts (v.entries ++ l) None) (sym (one_added i me.0.out me.1 y rest old q has holds longer)), refl),
+      )
+
+  abbrev pub value_at : Store O S A R → List (ℕ × Store O S A R) → Store O S A R
+  value_at d [] = d
+  value_at d (x ∷ xs) = x.1

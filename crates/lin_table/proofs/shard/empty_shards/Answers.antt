@@ -1,0 +1,30 @@
+use Rattle.std.proofs.Common.{◌≡◌, [], replicate, ap, ◌∙◌, arith, rules}
+use Rattle.lin_table.proofs.PartLemmas.{replicate-push}
+use Rattle.lin_table.proofs.shard.empty_shards.Goals as goal
+
+pub push_reserved-requires : goal.push_reserved-requires
+push_reserved-requires g c =
+    let i = c.loop.invariant in
+    let len = i.len in
+    let room = i.room in
+    let more = c.loop-test.true in
+    omega arith
+
+pub loop-init : goal.loop-init
+loop-init g c =
+    let e = c.in_ok-shards.ensures in record { items = e.items; len = search rules; room = search rules }
+
+pub loop-preserved : goal.loop-preserved
+loop-preserved g c =
+    let i = c.loop.invariant in record {
+      items = c.push_reserved.ensures.items ∙ rw (i.items, c.new.ensures) (replicate-push c.loop.counter (record { problem = c.args.problem.now; pairs = [] }));
+      len = let l = i.len in let m = c.push_reserved.ensures.len in omega arith;
+      room = let r = i.room in let m = c.push_reserved.ensures.capacity in omega arith;
+    }
+
+pub returns : goal.returns
+returns g c =
+    let done = c.loop-test.false in
+    let end = c.loop.auto.counter-end in
+    let all : c.loop.counter ≡ c.args.count = omega arith in
+    c.loop.invariant.items ∙ ap (λ n. replicate n (record { problem = c.args.problem.now; pairs = [] })) all

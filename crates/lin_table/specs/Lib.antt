@@ -1,0 +1,5 @@
+pub mod Totals
+pub mod Home
+pub mod Rule
+pub mod Steps
+pub mod Hand

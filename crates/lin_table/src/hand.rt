@@ -1,0 +1,81 @@
+//! What a worker steps on a table with.
+
+ghost use Rattle.std.specs.Prelude.{◌≡◌, ◌<◌, ◌≤◌, [], None, All, length, vec_len, vec_capacity};
+ghost use Rattle.lin_table.specs.Rule.{view};
+ghost use Rattle.lin_table.specs.Steps.{one_part};
+
+use crate::rule::{Parts, View};
+use crate::steps::{Shards, Token};
+use atomic_table::Badge;
+use lin_object::SeqObject;
+use std::marker::Model;
+
+/// What a worker looks and notes with; each worker has one of its own. Contracts see the table that it came with, and an
+/// entry for each configuration that it stored: the shard, the place in it and the configuration. At run time a hand
+/// keeps their number alone.
+#[derive(Drop)]
+pub struct Hand<O: SeqObject> {
+    pub(crate) badge: Badge<View<O>>,
+    pub(crate) count: u64,
+}
+
+impl<O: SeqObject> Model for Hand<O> {
+    ghost use Rattle.lin_table.specs.Hand.{HandFacts, facts_of, IsFree};
+
+    ghost Value = { HandFacts O O.State O.Op O.Reply };
+
+    ghost view = { λ h. facts_of h.badge.table_id h.badge.views };
+
+    ghost invariant = { λ h. IsFree h.badge.views h.count };
+}
+
+impl<O: SeqObject> Hand<O> {
+    /// How many configurations this hand stored.
+    pub fn count(&self) -> u64
+        ensures { result ≡ length self.now.entries }
+    {
+        self.count
+    }
+
+    // A hand that has stored nothing yet.
+    pub(crate) fn of(token: Token<'_, O>) -> Hand<O>
+        requires { token.me ≡ (one_part token.me.0, []) }
+        ensures { result ≡ record {
+          table = token.entry.table_id;
+          problem = token.entry.me.0.problem;
+          entries = [];
+        } }
+    {
+        Hand {
+            badge: token.into_badge(),
+            count: 0,
+        }
+    }
+}
+
+// Deals out the parts of the first view: so many hands.
+pub(crate) fn deal<'p, O: SeqObject>(
+    shards: &Shards<'p, O>,
+    mut first: Token<'p, O>,
+    mut hands: Vec<Hand<O>>,
+    count: usize,
+) -> Vec<Hand<O>>
+    requires words { 0 < shards.now.table_id.words }
+    requires count { 1 ≤ count }
+    requires room { (hands.items ≡ []) × (count ≤ vec_capacity hands) }
+    requires first { (first.table_id ≡ shards.now.table_id)
+        × (first.me ≡ (view first.me.0.problem count [] None, [])) }
+    ensures count { vec_len result ≡ count }
+    ensures hands { All (λ hand. hand ≡ record {
+      table = first.entry.table_id;
+      problem = first.entry.me.0.problem;
+      entries = [];
+    }) result.items }
+{
+    for _ in 1..count {
+        let token = shards.split_seat::<Parts>(&mut first);
+        hands.push_reserved(Hand::of(token));
+    }
+    hands.push_reserved(Hand::of(first));
+    hands
+}

@@ -1,0 +1,235 @@
+//! The table as its callers see it.
+
+ghost use Rattle.std.specs.Prelude.{◌≡◌, ◌≢◌, ◌%◌, ◌<◌, ◌≤◌, All, length, vec_len, IfOk, IfSome};
+ghost use Rattle.lin_history.specs.Problems.Problem.{problem_of};
+ghost use Rattle.lin_history.specs.Problems.SameProblem.{SameProblem};
+ghost use Rattle.lin_search.specs.Refutation.{IsRefutedWith};
+ghost use Rattle.lin_table.specs.Hand.{IsHandOf, HasStored, new_hand};
+ghost use Rattle.lin_table.specs.Home.{home_of};
+
+use crate::hand::{Hand, deal};
+use crate::rule::{Plan, ShardRule, View};
+use crate::shard::{Shard, empty_shards};
+use crate::steps::{look_in, note_in};
+use atomic_table::{Badge, Table as AtomicTable};
+use lin_history::Problem;
+use lin_object::SeqObject;
+use lin_search::{CallSet, Config, Longest, Noted, Refutation};
+use std::alloc::{AllocError, Global};
+use std::marker::Model;
+use std::mem;
+
+// The most configurations that one hand stores.
+const MAX_STORED: u64 = 140_737_488_355_328;
+
+/// Refuted configurations of one problem, which several threads share. They are kept in shards, each of which one hand
+/// at a time takes out. Contracts see which table it is, its problem, and how many shards it has.
+#[derive(Drop)]
+pub struct Table<'p, O: SeqObject> {
+    inner: AtomicTable<Shard<'p, O>, View<O>, Plan<'p, O>, ShardRule, Global>,
+    problem: &'p Problem<O>,
+    shards: u64,
+    hands: u64,
+}
+
+impl<'p, O: SeqObject> Model for Table<'p, O> {
+    ghost use Rattle.std.specs.Prelude.{◌≡◌, ◌<◌};
+    ghost use Rattle.lin_table.specs.Hand.{TableFacts};
+
+    ghost Value = { TableFacts O O.State O.Op O.Reply };
+
+    ghost view = { λ t. record { id = t.inner.shared.table_id; problem = t.problem.now; shards = t.shards; hands = t.hands } };
+
+    ghost invariant = { λ t. (t.inner.shared.table_id.words ≡ t.shards)
+        × (t.inner.shared.key.shards ≡ t.shards) × (t.inner.shared.key.hands ≡ t.hands)
+        × (t.inner.shared.key.problem.now ≡ t.problem.now) × (0 < t.shards) };
+}
+
+impl<'p, O: SeqObject> Table<'p, O> {
+    /// A table of the problem with so many empty shards, and its hands, none of which has stored anything. There are 1 to
+    /// 256 shards and 1 to 65 hands. `AllocError` where memory was refused.
+    pub fn new(
+        alloc: Global,
+        problem: &'p Problem<O>,
+        shards: usize,
+        hands: usize,
+    ) -> Result<(Table<'p, O>, Vec<Hand<O>>), AllocError>
+        requires shards { (1 ≤ shards) × (shards ≤ 256) }
+        requires hands { (1 ≤ hands) × (hands ≤ 65) }
+        ensures table { IfOk result (λ made. (made.0.problem ≡ problem.now)
+            × (made.0.shards ≡ shards) × (made.0.hands ≡ hands)) }
+        ensures count { IfOk result (λ made. vec_len made.1 ≡ hands) }
+        ensures hands { IfOk result (λ made. All (λ hand. hand ≡ new_hand made.0) made.1.items) }
+    {
+        let dealt = Vec::with_capacity(alloc, hands)?;
+        let plan = Plan {
+            problem,
+            shards: shards as u64,
+            hands: hands as u64,
+        };
+        let words = vec![in alloc; 0u64; shards]?;
+        let homes = empty_shards(alloc, problem, shards)?;
+        let Ok((inner, first)) = AtomicTable::new(alloc, words.as_slice(), homes, &plan) else {
+            return Err(AllocError);
+        };
+        let dealt = deal(&inner.shared, first, dealt, hands);
+        let table = Table {
+            inner,
+            problem,
+            shards: shards as u64,
+            hands: hands as u64,
+        };
+        Ok((table, dealt))
+    }
+
+    /// The problem. It takes no memory.
+    pub fn problem(&self) -> &'p Problem<O>
+        ensures { result.now ≡ self.now.problem }
+    {
+        self.problem
+    }
+
+    // The shard of this number, counted round.
+    fn shard_of(&self, sum: u64) -> usize
+        ensures bound { result < self.now.shards }
+        ensures is { result ≡ sum % self.now.shards }
+    {
+        (sum % self.shards) as usize
+    }
+
+    /// `look` for a problem that is the `same` as the table's: nothing is compared.
+    ///
+    /// Conditions: the hand came with this table, and the problem is the same.
+    pub fn look_here(
+        &self,
+        hand: &mut Hand<O>,
+        problem: &Problem<O>,
+        config: &Config<O>,
+    ) -> Option<Longest>
+        requires hand { IsHandOf self.now hand.old }
+        requires here { SameProblem O.eq O.State.eq O.Op.eq O.Reply.eq self.now.problem
+            problem.now }
+        ensures refuted { IfSome result (λ longest. IsRefutedWith
+            (problem_of O.after O.State.eq O.Reply.eq problem.now) config.now.lifted
+            config.now.state longest) }
+        ensures hand { hand.new ≡ hand.old }
+    {
+        let shard = self.shard_of(config.sum());
+        let mut token = mem::replace(&mut hand.badge, Badge::blank()).into_seat();
+        let found = look_in(&self.inner.shared, &mut token, shard, problem, config);
+        hand.badge = token.into_badge();
+        found
+    }
+
+    /// What the longest continuations of the configuration tell, where its shard has it and the table's problem is the
+    /// `same` as this one: then the configuration is refuted in the asker's problem. A shard that is not got within 64
+    /// tries has nothing. It takes no memory.
+    ///
+    /// Condition: the hand came with this table.
+    pub fn look(
+        &self,
+        hand: &mut Hand<O>,
+        problem: &Problem<O>,
+        config: &Config<O>,
+    ) -> Option<Longest>
+        requires hand { IsHandOf self.now hand.old }
+        ensures refuted { IfSome result (λ longest. IsRefutedWith
+            (problem_of O.after O.State.eq O.Reply.eq problem.now) config.now.lifted
+            config.now.state longest) }
+        ensures hand { hand.new ≡ hand.old }
+    {
+        if self.problem.same(problem) {
+            self.look_here(hand, problem, config)
+        } else {
+            None
+        }
+    }
+
+    // Stores a pair in its home, with a hand that has not stored too much.
+    fn store(
+        &self,
+        hand: &mut Hand<O>,
+        problem: &Problem<O>,
+        lifted: CallSet,
+        state: O::State,
+        longest: Longest,
+    ) -> Noted
+        requires hand { IsHandOf self.now hand.old }
+        requires room { length hand.old.entries < MAX_STORED }
+        requires here { SameProblem O.eq O.State.eq O.Op.eq O.Reply.eq self.now.problem
+            problem.now }
+        requires refuted { IsRefutedWith (problem_of O.after O.State.eq O.Reply.eq problem.now)
+            lifted state longest }
+        ensures new { result ≡ Noted.New → HasStored hand.old (home_of lifted self.now.shards)
+            (record { lifted = lifted; state = state }) hand.new }
+        ensures same { result ≢ Noted.New → hand.new ≡ hand.old }
+    {
+        let shard = self.shard_of(lifted.sum());
+        let mut token = mem::replace(&mut hand.badge, Badge::blank()).into_seat();
+        let noted = note_in(
+            &self.inner.shared,
+            &mut token,
+            shard,
+            problem,
+            lifted,
+            state,
+            longest,
+        );
+        if noted == Noted::New {
+            hand.count += 1;
+        }
+        hand.badge = token.into_badge();
+        noted
+    }
+
+    /// `note` for a problem that is the `same` as the table's, by the parts of a refutation: nothing is compared.
+    ///
+    /// Conditions: the hand came with this table, the problem is the same, and the parts are a refutation.
+    pub fn note_here(
+        &self,
+        hand: &mut Hand<O>,
+        problem: &Problem<O>,
+        lifted: CallSet,
+        state: O::State,
+        longest: Longest,
+    ) -> Noted
+        requires hand { IsHandOf self.now hand.old }
+        requires here { SameProblem O.eq O.State.eq O.Op.eq O.Reply.eq self.now.problem
+            problem.now }
+        requires refuted { IsRefutedWith (problem_of O.after O.State.eq O.Reply.eq problem.now)
+            lifted state longest }
+        ensures new { result ≡ Noted.New → HasStored hand.old (home_of lifted self.now.shards)
+            (record { lifted = lifted; state = state }) hand.new }
+        ensures same { result ≢ Noted.New → hand.new ≡ hand.old }
+    {
+        if hand.count() < MAX_STORED {
+            return self.store(hand, problem, lifted, state, longest);
+        }
+        let config = Config::from_parts(lifted, state);
+        match self.look_here(hand, problem, &config) {
+            Some(_) => Noted::Known,
+            None => Noted::NoRoom,
+        }
+    }
+
+    /// Hands a refutation to the table, which keeps it in its home. `Stranger` exactly where the table's problem is not the
+    /// `same` as the refutation's; `Known` where it was there; `Busy` where its shard was not got within 64 tries;
+    /// `NoRoom` where memory was refused, or the hand has stored 2^47 configurations; else `New`, which alone changes
+    /// anything: the hand has an entry more.
+    ///
+    /// Condition: the hand came with this table.
+    pub fn note(&self, hand: &mut Hand<O>, refutation: Refutation<'_, O>) -> Noted
+        requires hand { IsHandOf self.now hand.old }
+        ensures new { result ≡ Noted.New → HasStored hand.old
+            (home_of refutation.entry.config.lifted self.now.shards) refutation.entry.config
+            hand.new }
+        ensures same { result ≢ Noted.New → hand.new ≡ hand.old }
+    {
+        let (problem, config, longest) = refutation.into_parts();
+        if !self.problem.same(problem) {
+            return Noted::Stranger;
+        }
+        let (lifted, state) = config.into_parts();
+        self.note_here(hand, problem, lifted, state, longest)
+    }
+}
