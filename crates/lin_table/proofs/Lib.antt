@@ -2,3 +2,5 @@ pub mod TotalLemmas
 pub mod StepLemmas
 pub mod HandLemmas
 pub mod PartLemmas
+pub mod GatherLemmas
+pub mod EndLemmas
