@@ -4,3 +4,4 @@ pub mod HandLemmas
 pub mod PartLemmas
 pub mod GatherLemmas
 pub mod EndLemmas
+pub mod CountLemmas
