@@ -3,6 +3,7 @@
 ghost use Rattle.std.specs.Prelude.{◌≡◌, ◌≢◌, ◌↔◌, ℕ, ◌%◌, ◌^◌, ◌<◌, ◌≤◌, All, length, vec_len, IfOk, IfErr, IsErr, IfSome};
 ghost use Rattle.lin_history.specs.Problems.Problem.{problem_of};
 ghost use Rattle.lin_history.specs.Problems.SameProblem.{SameProblem};
+ghost use Rattle.lin_search.specs.Count.{IsNumberReachable};
 ghost use Rattle.lin_search.specs.Refutation.{IsRefutedWith};
 ghost use Rattle.lin_table.specs.Gather.{AreStored, entries_in};
 ghost use Rattle.lin_table.specs.Rule.{Pairs};
@@ -17,7 +18,7 @@ use crate::shard::{Shard, empty_shards};
 use crate::steps::{look_in, note_in};
 use atomic_table::{Badge, Table as AtomicTable};
 use lin_history::Problem;
-use lin_object::SeqObject;
+use lin_object::{SeqObject, lawful};
 use lin_search::{CallSet, Config, Longest, Noted, Refutation};
 use std::alloc::{AllocError, Global};
 use std::marker::Model;
@@ -112,7 +113,10 @@ impl<'p, O: SeqObject> Table<'p, O> {
             (problem_of O.after O.State.eq O.Reply.eq self.entry.problem) self.entry.shards lists
             (entries_in hands.items)) }
         ensures bound { IfOk result (λ n. n < 2 ^ 54) }
+        ensures at_most { IfOk result (λ n. (m : ℕ) → IsNumberReachable
+            (problem_of O.after O.State.eq O.Reply.eq self.entry.problem) m → n ≤ m) }
     {
+        lawful::<O>();
         if (hands.len() as u64) < self.hands {
             return Err(HandsMissing { table: self, hands });
         }

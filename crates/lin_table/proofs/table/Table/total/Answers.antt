@@ -1,8 +1,12 @@
 use Rattle.std.proofs.Common.{◌≡◌, ℕ, ◌+◌, ◌*◌, ◌<◌, ◌≤◌, length, sym, ap, ◌∙◌, arith, Some}
 use Rattle.std.proofs.lemmas.List.Elements.{All-pop, All-weaker}
 use Rattle.lin_history.specs.Problems.Problem.{problem_of}
+use Rattle.lin_search.specs.AlikeLemmas.{alike_reachable}
+use Rattle.lin_search.specs.SameLemmas.{alike_itself}
+use Rattle.lin_search.specs.CountLemmas.{number_at_most}
 use Rattle.lin_table.specs.Hand.{IsHandOf, CameWith}
 use Rattle.lin_table.specs.Gather.{entries_in}
+use Rattle.lin_table.proofs.CountLemmas.{has_all}
 use Rattle.lin_table.proofs.EndLemmas.{Settled, settles, stored_as}
 use Rattle.lin_table.proofs.table.Table.total.Goals as goal
 
@@ -43,3 +47,13 @@ returns-clause-bound g c =
     let sum = rw c.as_slice.ensures.value at c.stored_by-stored.ensures.sum in
     let most = few g c in
     omega arith
+
+pub returns-clause-at_most : goal.returns-clause-at_most
+returns-clause-at_most g c =
+    λ m number.
+    let told = returns-clause-stored g c in
+    let count = returns-clause-count g c in
+    let p = problem_of g.O.SeqObject.after g.O.State.PartialEq.eq g.O.Reply.PartialEq.eq c.args.self.problem in
+    let reached = has_all p c.lawful.ensures.states c.args.self.shards told.0 (entries_in c.args.hands.items) told.1 in
+    let most = number_at_most p c.lawful.ensures.states (alike_reachable (alike_itself c.lawful.ensures c.args.self.problem)) _ m reached number in
+    omega (arith, count, most)
