@@ -1,5 +1,5 @@
 -- All entries of all hands are so many reachable configurations, no two of them the same.
-use Rattle.std.proofs.Common.{◌≡◌, ◌≢◌, ℕ, zero, suc, ◌+◌, ◌*◌, ◌<◌, ◌≤◌, Bool, true, List, [], ◌∷◌, length, get_or, refl, sym, ap, ◌∙◌, subst, ⊎_elim, inl, inr, arith, cond}
+use Rattle.std.proofs.Common.{◌≡◌, ◌≢◌, ℕ, zero, suc, ◌<◌, ◌≤◌, Bool, true, List, [], ◌∷◌, length, get_or, refl, sym, ap, ◌∙◌, subst, ⊎_elim, inl, inr, arith, cond}
 use Rattle.std.specs.Cmp.{IsEquivalence}
 use Rattle.std.proofs.lemmas.Bool.{cases_eq, cases_lt, lt-ltb, le-ltb}
 use mathlib.Core.Option.{some, some-injective, some-ne-none}
@@ -12,7 +12,7 @@ use Rattle.lin_search.specs.Count.{Among, AllApart, AllReachable, HasReachable}
 use Rattle.lin_search.specs.Refutation.{IsRefutedWith}
 use Rattle.lin_search.specs.Store.{configurations, AllRefuted}
 use Rattle.lin_table.specs.declared.rule.Entry.{Entry}
-use Rattle.lin_table.specs.Totals.{total, once_below, one_if_same}
+use Rattle.lin_table.specs.Totals.{total, once_below}
 use Rattle.lin_table.specs.Home.{home_of}
 use Rattle.lin_table.specs.Rule.{named_by, Stands}
 use Rattle.lin_table.specs.Gather.{AreStored}

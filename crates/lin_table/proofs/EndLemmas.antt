@@ -1,8 +1,6 @@
 -- What a view that has all parts says of all that the hands stored, at the end.
-use Rattle.std.proofs.Common.{◌≡◌, ◌≢◌, ◌⊎◌, ℕ, zero, suc, ◌+◌, ◌*◌, ◌<◌, ◌≤◌, Bool, true, List, [], ◌∷◌, ◌++◌, length, refl, sym, ap, ◌∙◌, subst, ⊎_elim, inl, inr, arith, length-append, append-nil, Option, None, All}
-use Rattle.std.specs.Cmp.{IsEquivalence}
-use Rattle.std.proofs.lemmas.Bool.{cases_eq}
-use mathlib.Core.Option.{Option as Maybe, some, some-injective, some-ne-none}
+use Rattle.std.proofs.Common.{◌≡◌, ℕ, zero, suc, ◌+◌, ◌<◌, ◌≤◌, List, [], ◌∷◌, ◌++◌, length, sym, ap, ◌∙◌, subst, arith, length-append, append-nil, None}
+use mathlib.Core.Option.{Option as Maybe, some, some-ne-none}
 use lib.ListN.{get_elem?}
 use Rattle.atomic_table.specs.Table.{Final, Seen}
 use Rattle.lin_history.specs.Problems.Problem.{Problem}
@@ -14,7 +12,7 @@ use Rattle.lin_table.specs.declared.rule.Entry.{Entry}
 use Rattle.lin_table.specs.declared.rule.View.{View}
 use Rattle.lin_table.specs.declared.rule.Plan.{Plan}
 use Rattle.lin_table.specs.Totals.{total}
-use Rattle.lin_table.specs.Rule.{out_at, outs, named_by, names_of, Stands, IsHome, RuleHolds, KeepsRule}
+use Rattle.lin_table.specs.Rule.{out_at, named_by, names_of, IsHome, RuleHolds, KeepsRule}
 use Rattle.lin_table.specs.Hand.{HandFacts}
 use Rattle.lin_table.specs.Gather.{AreStored, IsViewOf, Gathered, entries_in}
 use Rattle.lin_table.proofs.GatherLemmas.{entries-last}

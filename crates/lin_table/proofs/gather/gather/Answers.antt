@@ -1,4 +1,4 @@
-use Rattle.std.proofs.Common.{◌≡◌, sym, ap, ◌∙◌, subst, arith, rules, Some}
+use Rattle.std.proofs.Common.{ap, ◌∙◌, arith, Some}
 use Rattle.std.proofs.lemmas.List.Elements.{All-pop}
 use Rattle.lin_table.specs.Hand.{CameWith}
 use Rattle.lin_table.proofs.GatherLemmas.{gathers}
