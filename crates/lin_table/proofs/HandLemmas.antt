@@ -1,5 +1,6 @@
 -- A hand after a look, and after it stored a configuration.
-use Rattle.std.proofs.Common.{◌≡◌, ℕ, ◌+◌, List, [], ◌∷◌, ◌++◌, length, ap, ◌∙◌, refl, arith, length-append, Option}
+use Rattle.std.proofs.Common.{◌≡◌, ℕ, ◌+◌, ◌<◌, List, [], ◌∷◌, ◌++◌, length, ap, ◌∙◌, refl, arith, length-append, Option}
+use Rattle.lin_table.specs.declared.hand.TheConstants.{MAX_STORED}
 use Rattle.lin_table.specs.declared.rule.Entry.{Entry}
 use Rattle.lin_table.specs.declared.rule.View.{View}
 use Rattle.lin_table.specs.Steps.{with_entry}
@@ -11,8 +12,8 @@ module _ {O S A R : Type 0} where
   pub free_still : (before after : View O S A R) (views : List (View O S A R)) (n : ℕ) → IsFree (before ∷ []) n → after ≡ before → views ≡ after ∷ [] → IsFree views n
   free_still before after views n h same only = rw (only, same) h
 
-  pub free_with_entry : (before after : View O S A R) (e : Entry O S A R) (views : List (View O S A R)) (n : ℕ) → IsFree (before ∷ []) n → after ≡ with_entry before e → views ≡ after ∷ [] → IsFree views (n + 1)
-  free_with_entry before after e views n h is only =
+  pub free_with_entry : (before after : View O S A R) (e : Entry O S A R) (views : List (View O S A R)) (n : ℕ) → n < MAX_STORED → IsFree (before ∷ []) n → after ≡ with_entry before e → views ≡ after ∷ [] → IsFree views (n + 1)
+  free_with_entry before after e views n room h is only =
       let mine : before ≡ h.v = cc (h.only) in
       let longer : length (before.entries ++ e ∷ []) ≡ length before.entries + 1 = length-append before.entries (e ∷ []) in
       let many : length before.entries ≡ length h.v.entries = ap (λ (v : View O S A R). length v.entries) mine in
@@ -22,6 +23,7 @@ module _ {O S A R : Type 0} where
         part = ap (λ (v : View O S A R). v.parts) mine ∙ h.part;
         free = refl;
         counted = let c = h.counted in omega arith;
+        few = omega arith;
       }
 
 -- the facts of a hand that has stored nothing

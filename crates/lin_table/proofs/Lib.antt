@@ -2,3 +2,6 @@ pub mod TotalLemmas
 pub mod StepLemmas
 pub mod HandLemmas
 pub mod PartLemmas
+pub mod GatherLemmas
+pub mod EndLemmas
+pub mod CountLemmas

@@ -3,3 +3,4 @@ pub mod Home
 pub mod Rule
 pub mod Steps
 pub mod Hand
+pub mod Gather

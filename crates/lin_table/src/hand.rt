@@ -1,6 +1,7 @@
 //! What a worker steps on a table with.
 
 ghost use Rattle.std.specs.Prelude.{◌≡◌, ◌<◌, ◌≤◌, [], None, All, length, vec_len, vec_capacity};
+ghost use Rattle.lin_table.specs.Gather.{IsViewOf};
 ghost use Rattle.lin_table.specs.Rule.{view};
 ghost use Rattle.lin_table.specs.Steps.{one_part};
 
@@ -9,6 +10,9 @@ use crate::steps::{Shards, Token};
 use atomic_table::Badge;
 use lin_object::SeqObject;
 use std::marker::Model;
+
+/// The most configurations that one hand stores.
+pub(crate) const MAX_STORED: u64 = 140_737_488_355_328;
 
 /// What a worker looks and notes with; each worker has one of its own. Contracts see the table that it came with, and an
 /// entry for each configuration that it stored: the shard, the place in it and the configuration. At run time a hand
@@ -30,9 +34,10 @@ impl<O: SeqObject> Model for Hand<O> {
 }
 
 impl<O: SeqObject> Hand<O> {
-    /// How many configurations this hand stored.
+    /// How many configurations this hand stored: 2^47 at most.
     pub fn count(&self) -> u64
-        ensures { result ≡ length self.now.entries }
+        ensures count { result ≡ length self.now.entries }
+        ensures few { result ≤ MAX_STORED }
     {
         self.count
     }
@@ -50,6 +55,16 @@ impl<O: SeqObject> Hand<O> {
             badge: token.into_badge(),
             count: 0,
         }
+    }
+
+    // The token, whose view has all that the hand stored.
+    pub(crate) fn into_token<'p>(self) -> Token<'p, O>
+        ensures table { result.table_id ≡ self.table }
+        ensures empty { result.me.1 ≡ [] }
+        ensures view { IsViewOf result.me.0 self }
+    {
+        let Hand { badge, count: _ } = self;
+        badge.into_seat()
     }
 }
 

@@ -6,6 +6,8 @@
 //! - `rule`: what holds of the shards' words and of all hands' views, whatever the order of their steps.
 #![tactic(auto)]
 
+mod end;
+mod gather;
 mod hand;
 mod rule;
 mod shard;
@@ -14,4 +16,4 @@ mod table;
 
 pub use hand::Hand;
 pub use shard::Shard;
-pub use table::Table;
+pub use table::{HandsMissing, Table};

@@ -1,26 +1,28 @@
 //! The table as its callers see it.
 
-ghost use Rattle.std.specs.Prelude.{◌≡◌, ◌≢◌, ◌%◌, ◌<◌, ◌≤◌, All, length, vec_len, IfOk, IfSome};
+ghost use Rattle.std.specs.Prelude.{◌≡◌, ◌≢◌, ◌↔◌, ℕ, ◌%◌, ◌^◌, ◌<◌, ◌≤◌, All, length, vec_len, IfOk, IfErr, IsErr, IfSome};
 ghost use Rattle.lin_history.specs.Problems.Problem.{problem_of};
 ghost use Rattle.lin_history.specs.Problems.SameProblem.{SameProblem};
+ghost use Rattle.lin_search.specs.Count.{IsNumberReachable};
 ghost use Rattle.lin_search.specs.Refutation.{IsRefutedWith};
+ghost use Rattle.lin_table.specs.Gather.{AreStored, entries_in};
+ghost use Rattle.lin_table.specs.Rule.{Pairs};
 ghost use Rattle.lin_table.specs.Hand.{IsHandOf, HasStored, new_hand};
 ghost use Rattle.lin_table.specs.Home.{home_of};
 
-use crate::hand::{Hand, deal};
+use crate::end::{free_shards, stored_by};
+use crate::gather::gather;
+use crate::hand::{Hand, MAX_STORED, deal};
 use crate::rule::{Plan, ShardRule, View};
 use crate::shard::{Shard, empty_shards};
 use crate::steps::{look_in, note_in};
 use atomic_table::{Badge, Table as AtomicTable};
 use lin_history::Problem;
-use lin_object::SeqObject;
+use lin_object::{SeqObject, lawful};
 use lin_search::{CallSet, Config, Longest, Noted, Refutation};
 use std::alloc::{AllocError, Global};
 use std::marker::Model;
 use std::mem;
-
-// The most configurations that one hand stores.
-const MAX_STORED: u64 = 140_737_488_355_328;
 
 /// Refuted configurations of one problem, which several threads share. They are kept in shards, each of which one hand
 /// at a time takes out. Contracts see which table it is, its problem, and how many shards it has.
@@ -33,7 +35,7 @@ pub struct Table<'p, O: SeqObject> {
 }
 
 impl<'p, O: SeqObject> Model for Table<'p, O> {
-    ghost use Rattle.std.specs.Prelude.{◌≡◌, ◌<◌};
+    ghost use Rattle.std.specs.Prelude.{◌≡◌, ◌<◌, ◌≤◌};
     ghost use Rattle.lin_table.specs.Hand.{TableFacts};
 
     ghost Value = { TableFacts O O.State O.Op O.Reply };
@@ -42,7 +44,17 @@ impl<'p, O: SeqObject> Model for Table<'p, O> {
 
     ghost invariant = { λ t. (t.inner.shared.table_id.words ≡ t.shards)
         × (t.inner.shared.key.shards ≡ t.shards) × (t.inner.shared.key.hands ≡ t.hands)
-        × (t.inner.shared.key.problem.now ≡ t.problem.now) × (0 < t.shards) };
+        × (t.inner.shared.key.problem.now ≡ t.problem.now) × (0 < t.shards) × (t.hands ≤ 65)
+        × (0 < t.hands) };
+}
+
+/// Fewer hands came back than the table has. Table and hands are as they were.
+#[derive(Drop)]
+pub struct HandsMissing<'p, O: SeqObject> {
+    /// The table, still open.
+    pub table: Table<'p, O>,
+    /// The hands that came back.
+    pub hands: Vec<Hand<O>>,
 }
 
 impl<'p, O: SeqObject> Table<'p, O> {
@@ -87,6 +99,40 @@ impl<'p, O: SeqObject> Table<'p, O> {
         ensures { result.now ≡ self.now.problem }
     {
         self.problem
+    }
+
+    /// Takes all hands back and tells how many configurations they stored: that is below 2^54, and at most the number of
+    /// the problem's reachable configurations. Each hand came with this table. `HandsMissing` where fewer hands are there
+    /// than were made: it gives table and hands back as they were. It takes no memory.
+    pub fn total(self, mut hands: Vec<Hand<O>>) -> Result<u64, HandsMissing<'p, O>>
+        requires { All (IsHandOf self) hands.items }
+        ensures missing { IsErr result ↔ (vec_len hands < self.entry.hands) }
+        ensures unchanged { IfErr result (λ e. (e.table ≡ self.entry) × (e.hands ≡ hands)) }
+        ensures count { IfOk result (λ n. n ≡ length (entries_in hands.items)) }
+        ensures stored { IfOk result (λ _. (lists : ℕ → Pairs O.State) × AreStored
+            (problem_of O.after O.State.eq O.Reply.eq self.entry.problem) self.entry.shards lists
+            (entries_in hands.items)) }
+        ensures bound { IfOk result (λ n. n < 2 ^ 54) }
+        ensures at_most { IfOk result (λ n. (m : ℕ) → IsNumberReachable
+            (problem_of O.after O.State.eq O.Reply.eq self.entry.problem) m → n ≤ m) }
+    {
+        lawful::<O>();
+        if (hands.len() as u64) < self.hands {
+            return Err(HandsMissing { table: self, hands });
+        }
+        let stored = stored_by(hands.as_slice());
+        let Some(last) = hands.pop() else {
+            unreachable!()
+        };
+        let Table {
+            inner,
+            problem: _,
+            shards: _,
+            hands: _,
+        } = self;
+        let all = gather(&inner.shared, last.into_token(), hands);
+        free_shards(inner.close_with(all));
+        Ok(stored)
     }
 
     // The shard of this number, counted round.

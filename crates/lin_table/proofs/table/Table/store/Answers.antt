@@ -1,4 +1,4 @@
-use Rattle.std.proofs.Common.{rules, sym, ap, ◌∙◌}
+use Rattle.std.proofs.Common.{rules, length, sym, ap, ◌∙◌}
 use Rattle.lin_table.specs.Hand.{facts_of}
 use Rattle.lin_table.proofs.HandLemmas.{free_still, free_with_entry}
 use Rattle.lin_table.proofs.table.Table.store.Goals as goal
@@ -15,7 +15,8 @@ invariant_of-hand g c =
     elim c.if-eq.branch [
       | then-eq w ↦
           let stored = c.note_in-noted.ensures.new (search rules) in
-          rw w.hand-inside-is (free_with_entry _ _ _ _ _ free stored.1 c.into_badge.ensures.2)
+          let count = i.counted ∙ sym (ap (λ views. length (facts_of c.hand.inside.badge.table_id views).entries) i.only) ∙ ap (λ h. length h.entries) c.hand.view_is in
+          rw w.hand-inside-is (free_with_entry _ _ _ _ _ (rw count c.requires.room) free stored.1 c.into_badge.ensures.2)
       | else-eq w ↦
           let same = c.note_in-noted.ensures.same (search rules) in
           rw w.hand-inside-is (free_still _ _ _ _ free same c.into_badge.ensures.2)

@@ -1,0 +1,59 @@
+use Rattle.std.proofs.Common.{◌*◌, ◌≤◌, length, sym, ap, ◌∙◌, arith, Some}
+use Rattle.std.proofs.lemmas.List.Elements.{All-pop, All-weaker}
+use Rattle.lin_history.specs.Problems.Problem.{problem_of}
+use Rattle.lin_search.specs.AlikeLemmas.{alike_reachable}
+use Rattle.lin_search.specs.SameLemmas.{alike_itself}
+use Rattle.lin_search.specs.CountLemmas.{number_at_most}
+use Rattle.lin_table.specs.Hand.{IsHandOf, CameWith}
+use Rattle.lin_table.specs.Gather.{entries_in}
+use Rattle.lin_table.proofs.CountLemmas.{has_all}
+use Rattle.lin_table.proofs.EndLemmas.{Settled, settles, stored_as}
+use Rattle.lin_table.proofs.table.Table.total.Goals as goal
+
+pub gather-all-requires-clause-hands : goal.gather-all-requires-clause-hands
+gather-all-requires-clause-hands g c =
+    let mine = All-pop (IsHandOf c.args.self) _ _ (Some c.in-Some.last) c.in-Some.ensures.items c.requires in
+    All-weaker (IsHandOf c.args.self) (CameWith c.self.inside.inner.shared.table_id) (λ hand came. came.0 ∙ sym (ap (λ t. t.id) c.self.view_is)) _ mine.0
+
+settled : (g : _) (c : goal.After-free_shards g) → Settled (problem_of g.O.SeqObject.after g.O.State.PartialEq.eq g.O.Reply.PartialEq.eq) c.self.inside.inner.shared.key c.args.hands.items
+settled g c =
+    let made = c.self.invariant.2 in
+    let enough = c.if-len-self.false in
+    let len = c.len.ensures in
+    settles (problem_of g.O.SeqObject.after g.O.State.PartialEq.eq g.O.Reply.PartialEq.eq) c.self.inside.inner.shared.key _ _ c.gather-all.result.id c.gather-all.result.me.0 c.close_with.ensures.values.2 c.free_shards.ensures
+    c.args.hands.items c.pop.new.self.items c.in-Some.last c.into_token.result.me.0 (omega arith) c.in-Some.ensures.items c.into_token.ensures.view c.gather-all.ensures.gathered
+
+few : (g : _) (c : goal.After-free_shards g) → length (entries_in c.args.hands.items) ≤ 65 * 140737488355328
+few g c =
+    let most = rw c.as_slice.ensures.value at c.stored_by-stored.ensures.few in
+    let hands = (settled g c).few in
+    let made = c.self.invariant.2 in
+    let small = c.self.invariant.5 in
+    omega arith
+
+pub returns-clause-count : goal.returns-clause-count
+returns-clause-count g c =
+    let sum = rw c.as_slice.ensures.value at c.stored_by-stored.ensures.sum in
+    let most = few g c in
+    omega arith
+
+pub returns-clause-stored : goal.returns-clause-stored
+returns-clause-stored g c =
+    let told = settled g c in
+    (told.lists, stored_as (problem_of g.O.SeqObject.after g.O.State.PartialEq.eq g.O.Reply.PartialEq.eq) _ _ _ _ told.lists _ (c.self.invariant.3 ∙ ap (λ t. t.problem) c.self.view_is) (c.self.invariant.1 ∙ ap (λ t. t.shards) c.self.view_is) told.stored)
+
+pub returns-clause-bound : goal.returns-clause-bound
+returns-clause-bound g c =
+    let sum = rw c.as_slice.ensures.value at c.stored_by-stored.ensures.sum in
+    let most = few g c in
+    omega arith
+
+pub returns-clause-at_most : goal.returns-clause-at_most
+returns-clause-at_most g c =
+    λ m number.
+    let told = returns-clause-stored g c in
+    let count = returns-clause-count g c in
+    let p = problem_of g.O.SeqObject.after g.O.State.PartialEq.eq g.O.Reply.PartialEq.eq c.args.self.problem in
+    let reached = has_all p c.lawful.ensures.states c.args.self.shards told.0 (entries_in c.args.hands.items) told.1 in
+    let most = number_at_most p c.lawful.ensures.states (alike_reachable (alike_itself c.lawful.ensures c.args.self.problem)) _ m reached number in
+    omega (arith, count, most)
