@@ -1,5 +1,5 @@
 -- All hands' views become one, one hand at a time.
-use Rattle.std.proofs.Common.{◌≡◌, ◌+◌, List, [], ◌∷◌, ◌++◌, length, refl, sym, ◌∙◌, ap, arith, length-append, append_assoc, None}
+use Rattle.std.proofs.Common.{◌≡◌, List, [], ◌∷◌, ◌++◌, length, refl, sym, ◌∙◌, ap, arith, length-append, append_assoc}
 use Rattle.lin_table.specs.declared.rule.Entry.{Entry}
 use Rattle.lin_table.specs.declared.rule.View.{View}
 use Rattle.lin_table.specs.Steps.{both_views}
@@ -7,9 +7,6 @@ use Rattle.lin_table.specs.Hand.{HandFacts}
 use Rattle.lin_table.specs.Gather.{IsViewOf, entries_in, Gathered}
 
 module _ {O S A R : Type 0} where
-  pub begins : (v : View O S A R) (all : List (HandFacts O S A R)) → v.out ≡ None → Gathered v all v all
-  begins v all free = record { parts = refl; free = free; entries = refl }
-
   -- the entries of the last hand come first
   pub entries-last : (hands : List (HandFacts O S A R)) (hand : HandFacts O S A R) → entries_in (hands ++ hand ∷ []) ≡ hand.entries ++ entries_in hands
   entries-last [] hand = append-nil-both hand.entries
@@ -28,7 +25,3 @@ module _ {O S A R : Type 0} where
         free = refl;
         entries = append_assoc u.entries w.entries (entries_in left) ∙ ap (λ (es : List (Entry O S A R)). u.entries ++ es) (ap (λ (es : List (Entry O S A R)). es ++ entries_in left) mine.entries ∙ sym last) ∙ g.entries;
       }
-
-  -- all entries, where the hands stand one behind the other
-  pub count-first : (hand : HandFacts O S A R) (hands : List (HandFacts O S A R)) → length (entries_in (hand ∷ hands)) ≡ length (entries_in hands) + length hand.entries
-  count-first hand hands = length-append (entries_in hands) hand.entries

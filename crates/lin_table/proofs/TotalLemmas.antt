@@ -1,9 +1,8 @@
 -- Sums over the views of all hands.
-use Rattle.std.proofs.Common.{◌≡◌, ◌≢◌, ℕ, zero, suc, ◌+◌, ◌<◌, ◌≤◌, List, [], ◌∷◌, ◌++◌, set, refl, sym, ap, arith, cond, eq-eqb, ne_eqb, ⊎_elim}
+use Rattle.std.proofs.Common.{◌≡◌, ◌≢◌, ℕ, zero, suc, ◌+◌, ◌≤◌, List, [], ◌∷◌, ◌++◌, set, refl, sym, ap, arith, cond, eq-eqb, ne_eqb}
 use mathlib.Core.Option.{some, some-ne-none, some-injective}
 use lib.ListN.{get_elem?}
 use Rattle.std.proofs.lemmas.Bool.Decides.{nat_tests}
-use Rattle.std.proofs.lemmas.Bool.{cases_lt}
 use Rattle.lin_table.specs.Totals.{total, once_below, one_if_same}
 
 module _ {X : Type 0} where
@@ -21,18 +20,6 @@ module _ {X : Type 0} where
   total_at f [] i v e = absurd (some-ne-none v (sym e))
   total_at f (x ∷ xs) zero v e = let is : f x ≡ f v = ap f (some-injective x v e) in omega arith
   total_at f (x ∷ xs) (suc i) v e = let r = total_at f xs i v e in omega arith
-
-  pub total_le : (f g : X → ℕ) (l : List X) → ((i : ℕ) (v : X) → get_elem? l i ≡ some v → f v ≤ g v) → total f l ≤ total g l
-  total_le f g [] each = omega arith
-  total_le f g (x ∷ xs) each = let a = each 0 x refl in let r = total_le f g xs (λ i v. each (suc i) v) in omega arith
-
-  pub total_some : (f g : X → ℕ) (l : List X) → ((i : ℕ) (v : X) → get_elem? l i ≡ some v → 0 < f v → 0 < g v) → 0 < total f l → 0 < total g l
-  total_some f g [] each h = absurd (omega arith)
-  total_some f g (x ∷ xs) each h =
-      ⊎_elim
-      (λ (p : 0 < f x). let a = each 0 x refl p in omega arith)
-      (λ (z : f x ≤ 0). let r = total_some f g xs (λ i v. each (suc i) v) (omega arith) in omega arith)
-      (cases_lt 0 (f x))
 
   pub total_none : (f g : X → ℕ) (l : List X) → total f l ≡ 0 → ((j : ℕ) (u : X) → get_elem? l j ≡ some u → f u ≡ 0 → g u ≡ 0) → total g l ≡ 0
   total_none f g [] s none = refl

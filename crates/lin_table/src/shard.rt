@@ -98,6 +98,7 @@ impl<'p, O: SeqObject> Shard<'p, O> {
         ensures new { result ≡ Noted.New → self.new.pairs ≡ self.old.pairs
             ++ (record { lifted = lifted; state = state }, longest) ∷ [] }
         ensures same { result ≢ Noted.New → self.new ≡ self.old }
+        ensures own { result ≢ Noted.Stranger }
     {
         self.memo.note_here(problem, lifted, state, longest)
     }

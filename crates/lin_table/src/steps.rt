@@ -108,6 +108,7 @@ pub(crate) fn note_out<'p, O: SeqObject>(
     ensures new { result ≡ Noted.New → (p : ℕ) × (token.new.me.0 ≡ with_entry token.old.me.0
         (record { shard = shard; place = p; config = record { lifted = lifted; state = state } })) }
     ensures same { result ≢ Noted.New → token.new.me.0 ≡ with_none_out token.old.me.0 }
+    ensures own { result ≢ Noted.Stranger }
 {
     let it = token.slot_mut(&*shards, shard);
     let noted = it.add_here(problem, lifted, state, longest);
@@ -171,6 +172,7 @@ pub(crate) fn note_in<'p, O: SeqObject>(
     ensures new { result ≡ Noted.New → (p : ℕ) × (token.new.me.0 ≡ with_entry token.old.me.0
         (record { shard = shard; place = p; config = record { lifted = lifted; state = state } })) }
     ensures same { result ≢ Noted.New → token.new.me.0 ≡ token.old.me.0 }
+    ensures own { result ≢ Noted.Stranger }
 {
     if !take_out(&*shards, &mut *token, shard) {
         return Noted::Busy;

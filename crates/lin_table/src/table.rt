@@ -209,6 +209,7 @@ impl<'p, O: SeqObject> Table<'p, O> {
         ensures new { result ≡ Noted.New → HasStored hand.old (home_of lifted self.now.shards)
             (record { lifted = lifted; state = state }) hand.new }
         ensures same { result ≢ Noted.New → hand.new ≡ hand.old }
+        ensures own { result ≢ Noted.Stranger }
     {
         let shard = self.shard_of(lifted.sum());
         let mut token = mem::replace(&mut hand.badge, Badge::blank()).into_seat();
@@ -247,6 +248,7 @@ impl<'p, O: SeqObject> Table<'p, O> {
         ensures new { result ≡ Noted.New → HasStored hand.old (home_of lifted self.now.shards)
             (record { lifted = lifted; state = state }) hand.new }
         ensures same { result ≢ Noted.New → hand.new ≡ hand.old }
+        ensures own { result ≢ Noted.Stranger }
     {
         if hand.count() < MAX_STORED {
             return self.store(hand, problem, lifted, state, longest);
@@ -270,6 +272,9 @@ impl<'p, O: SeqObject> Table<'p, O> {
             (home_of refutation.entry.config.lifted self.now.shards) refutation.entry.config
             hand.new }
         ensures same { result ≢ Noted.New → hand.new ≡ hand.old }
+        ensures stranger { (result ≡ Noted.Stranger)
+            ↔ (SameProblem O.eq O.State.eq O.Op.eq O.Reply.eq self.now.problem
+            refutation.entry.problem → ⊥) }
     {
         let (problem, config, longest) = refutation.into_parts();
         if !self.problem.same(problem) {
