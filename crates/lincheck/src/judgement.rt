@@ -11,7 +11,7 @@ use lin_search::{Outcome, OwnMemo, longest_run, search_over};
 use std::alloc::{AllocError, Global};
 
 // The verdict on the object of this index, where the memo names the part of the history on it. After a refutation the
-// memo has every configuration of the longest run, so that nothing is searched twice.
+// longest run is read off the same memo.
 fn judge_over(
     alloc: Global,
     history: &History,
