@@ -1,7 +1,9 @@
 -- The path of a search from its root to where it is: what its frames say, as one is put on or taken off at the end, and its steps.
-use Rattle.std.proofs.Common.{ControlFlow, Continue, Break, Result, Ok, Err, ◌≡◌, ℕ, zero, suc, ◌+◌, ◌-◌, ◌*◌, ◌<◌, ◌≤◌, Bool, true, Option, Some, None, List, [], ◌∷◌, ◌++◌, length, ◌⊎◌, refl, sym, ◌∙◌, ap, subst, arith, append-nil}
+use Rattle.std.proofs.Common.{ControlFlow, Continue, Break, Result, Ok, Err, ◌≡◌, ℕ, zero, suc, ◌+◌, ◌-◌, ◌*◌, ◌<◌, ◌≤◌, Bool, true, Option, Some, None, List, [], ◌∷◌, ◌++◌, length, ◌⊎◌, refl, sym, ◌∙◌, ap, subst, arith, append-nil, map, false, inl, inr, ext_get_or}
 use Rattle.std.specs.Prelude.{IfOk, IfSome, IsSomeAnd}
 use Rattle.std.proofs.lemmas.Nat.{mul-le}
+use Rattle.std.proofs.lemmas.List.{length-set, length-replicate}
+use Rattle.lin_history.specs.Problems.Continuations.{has}
 use Rattle.lin_history.specs.Problems.Problem.{Problem, problem_of}
 use Rattle.lin_history.specs.Problems.ProblemParts.{ProblemParts}
 use Rattle.lin_history.specs.Problems.Lists.{IsLeast, IsLongest}
@@ -9,16 +11,17 @@ use Rattle.lin_history.specs.Problems.Continuations.{IsContinuation, IsCompletio
 use Rattle.lin_history.specs.Problems.Configurations.{IsReachable}
 use Rattle.lin_search.specs.declared.longest.Longest.{Longest}
 use Rattle.lin_search.specs.CallSet.{with_call, with_calls, lifted_set}
-use Rattle.lin_search.specs.CallSetLemmas.{with_append}
+use Rattle.lin_search.specs.CallSetLemmas.{with_append, length_calls, same_or_not, has_same, has_other}
 use Rattle.lin_search.specs.NextCall.{IsNext, HasEveryCompleted}
 use Rattle.lin_search.specs.Entries.{IsMinimal, IsLeastMinimal}
 use Rattle.lin_search.specs.Configuration.{Configuration}
 use Rattle.lin_search.specs.Refutation.{IsRefutedWith}
 use Rattle.lin_search.specs.Memo.{IsClosed}
 use Rattle.lin_search.specs.Size.{HasMany, HasMoreThan}
-use Rattle.lin_search.specs.Path.{Frame, Position, calls_of}
-use Rattle.lin_search.specs.Progress.{IsContinuationBelow, IsSearchedTo, IsFrame, IsPath, IsAt, HasLifts, AreLifts, IsLeft, IsTaken, IsProgress, HoldsBelow, HoldsOnPath, HoldsSearched, GoesOn, IsStep, HoldsStep, IsStepBack, IsRefusal, bound, free, power, work, work_on_path}
-use Rattle.lin_search.specs.Answer.{IsAnswer, IsRefutation}
+use Rattle.lin_search.specs.declared.path.Position.{Position}
+use Rattle.lin_search.specs.Path.{Frame, Level, levels, calls_of}
+use Rattle.lin_search.specs.Progress.{IsContinuationBelow, IsSearchedTo, IsLevel, IsPath, IsAt, HasLifts, AreLifts, IsLeft, IsTaken, IsProgress, HoldsBelow, HoldsOnPath, HoldsSearched, GoesOn, IsStep, HoldsStep, IsLifted, IsRefusal, bound, free, power, work, work_below, work_on_path}
+use Rattle.lin_search.specs.Answer.{IsAnswer, IsDecision, IsRefutation}
 use Rattle.lin_search.specs.declared.outcome.Outcome.{Outcome}
 use Rattle.lin_search.specs.declared.outcome.Outcome.TheVariants.{Found, Refuted, Undecided, Stopped}
 use Rattle.lin_search.specs.AlikeLemmas.{AreAlike}
@@ -26,6 +29,34 @@ use Rattle.lin_search.specs.FirstCallLemmas.{next_within}
 use Rattle.lin_search.proofs.ProgressLemmas.{free_less, searched_start, searched_skip, searched_to, searched_all, searched_after, found_least, least_none, room}
 use Rattle.lin_search.proofs.MemoLemmas.{followed_to, followed_one, followed_next, followed_start, followed_all, closed_look, closed_more}
 use Rattle.lin_search.proofs.SizeLemmas.{many_none, many_to, many_step, many_all, many_as}
+
+-- the calls that lead on from the levels
+abbrev calls_along : {State : Type 0} → List (Level State) → List ℕ
+calls_along {State} ls = map (λ (f : Level State). f.call) ls
+
+-- the levels of frames, and of one frame more
+module _ {State : Type 0} where
+  -- the frame with the configuration that its call was lifted from
+  abbrev level_of : Configuration State → Frame State → Level State
+  level_of here f = record { config = here; call = f.call; longest = f.longest }
+
+  levels_end : (root : List Bool) (fs : List (Frame State)) (f : Frame State) (here : Configuration State) → with_calls root (calls_of fs) ≡ here.lifted → f.state ≡ here.state → levels root (fs ++ f ∷ []) ≡ levels root fs ++ level_of here f ∷ []
+  levels_end root [] f here set state = rw (set, state) refl
+  levels_end root (g ∷ fs) f here set state =
+      ap (λ (l : List (Level State)). record { config = record { lifted = root; state = g.state }; call = g.call; longest = g.longest } ∷ l) (levels_end (with_call root g.call) fs f here set state)
+
+  calls_levels : (root : List Bool) (fs : List (Frame State)) → calls_along (levels root fs) ≡ calls_of fs
+  calls_levels root [] = refl
+  calls_levels root (f ∷ fs) = ap (λ (l : List ℕ). f.call ∷ l) (calls_levels (with_call root f.call) fs)
+
+  calls_end : (fs : List (Frame State)) (f : Frame State) → calls_of (fs ++ f ∷ []) ≡ calls_of fs ++ f.call ∷ []
+  calls_end [] f = refl
+  calls_end (g ∷ fs) f = ap (λ (l : List ℕ). g.call ∷ l) (calls_end fs f)
+
+  -- the calls of the frames, and of one frame more
+  calls_pushed : (base : List ℕ) (fs : List (Frame State)) (f : Frame State) → base ++ calls_of (fs ++ f ∷ []) ≡ (base ++ calls_of fs) ++ f.call ∷ []
+  calls_pushed [] fs f = calls_end fs f
+  calls_pushed (c ∷ cs) fs f = ap (λ (l : List ℕ). c ∷ l) (calls_pushed cs fs f)
 
 module _ {State Op Reply : Type 0} (p : Problem State Op Reply) where
   pub next_minimal : (set : List Bool) (s : State) (c : ℕ) (t : State) → IsNext p set s c t → IsMinimal p set c
@@ -44,43 +75,43 @@ module _ {State Op Reply : Type 0} (p : Problem State Op Reply) where
   bound_within set i None k = omega arith
   bound_within set i (Some d) k = let h = k.0.within in omega (arith, h)
 
-  pub leads_push : (fs : List (Frame State)) (f : Frame State) (set : List Bool) (s u : State) → IsPath p set s fs f.config.lifted f.config.state → IsFrame p f u → IsPath p set s (fs ++ f ∷ []) (with_call f.config.lifted f.call) u
+  pub leads_push : (fs : List (Level State)) (f : Level State) (set : List Bool) (s u : State) → IsPath p set s fs f.config.lifted f.config.state → IsLevel p f u → IsPath p set s (fs ++ f ∷ []) (with_call f.config.lifted f.call) u
   leads_push [] f set s u k h = (k.0, k.1, (u, h, (refl, refl)))
   leads_push (g ∷ fs) f set s u k h = let q = k.2 in (k.0, k.1, (q.0, q.1, leads_push fs f (with_call g.config.lifted g.call) q.0 u q.2 h))
 
-  pub leads_pop : (fs : List (Frame State)) (f : Frame State) (set : List Bool) (s : State) (a : List Bool) (t : State) → IsPath p set s (fs ++ f ∷ []) a t → IsPath p set s fs f.config.lifted f.config.state × IsFrame p f t × (with_call f.config.lifted f.call ≡ a)
-  leads_pop [] f set s a t k = let q = k.2 in let r = q.2 in ((k.0, k.1), subst (λ (x : State). IsFrame p f x) r.1 q.1, r.0)
+  pub leads_pop : (fs : List (Level State)) (f : Level State) (set : List Bool) (s : State) (a : List Bool) (t : State) → IsPath p set s (fs ++ f ∷ []) a t → IsPath p set s fs f.config.lifted f.config.state × IsLevel p f t × (with_call f.config.lifted f.call ≡ a)
+  leads_pop [] f set s a t k = let q = k.2 in let r = q.2 in ((k.0, k.1), subst (λ (x : State). IsLevel p f x) r.1 q.1, r.0)
   leads_pop (g ∷ fs) f set s a t k =
       let q = k.2 in
       let r = leads_pop fs f (with_call g.config.lifted g.call) q.0 a t q.2 in
       ((k.0, k.1, (q.0, q.1, r.0)), r.1, r.2)
 
-  -- the calls of the frames and a least completion of where they lead are one of where they begin
-  pub least_lead : (fs : List (Frame State)) (set : List Bool) (s : State) (a : List Bool) (t : State) (l : List ℕ) → IsPath p set s fs a t → IsLeast (IsCompletion p a t) l → IsLeast (IsCompletion p set s) (calls_of fs ++ l)
+  -- the calls of the levels and a least completion of where they lead are one of where they begin
+  pub least_lead : (fs : List (Level State)) (set : List Bool) (s : State) (a : List Bool) (t : State) (l : List ℕ) → IsPath p set s fs a t → IsLeast (IsCompletion p a t) l → IsLeast (IsCompletion p set s) (calls_along fs ++ l)
   least_lead [] set s a t l k h = rw (k.0, k.1) h
   least_lead (f ∷ fs) set s a t l k h =
       let q = k.2 in
       let r = least_lead fs (with_call f.config.lifted f.call) q.0 a t l q.2 h in
-      rw (k.0, k.1) (found_least p f.config.lifted f.config.state f.call q.0 _ _ (calls_of fs ++ l) q.1.reachable.flags q.1.searched q.1.next r)
+      rw (k.0, k.1) (found_least p f.config.lifted f.config.state f.call q.0 _ _ (calls_along fs ++ l) q.1.reachable.flags q.1.searched q.1.next r)
 
-  pub calls_lead : (fs : List (Frame State)) (set : List Bool) (s : State) (a : List Bool) (t : State) → IsPath p set s fs a t → with_calls set (calls_of fs) ≡ a
+  pub calls_lead : (fs : List (Level State)) (set : List Bool) (s : State) (a : List Bool) (t : State) → IsPath p set s fs a t → with_calls set (calls_along fs) ≡ a
   calls_lead [] set s a t k = k.0
   calls_lead (f ∷ fs) set s a t k =
       let q = k.2 in
-      ap (λ (x : List Bool). with_calls (with_call x f.call) (calls_of fs)) k.0 ∙ calls_lead fs (with_call f.config.lifted f.call) q.0 a t q.2
+      ap (λ (x : List Bool). with_calls (with_call x f.call) (calls_along fs)) k.0 ∙ calls_lead fs (with_call f.config.lifted f.call) q.0 a t q.2
 
-  pub counted_push : (fs : List (Frame State)) (f : Frame State) (n m : ℕ) → HasLifts p fs n → HasMany (IsContinuationBelow p f.config.lifted f.config.state f.call) m → HasLifts p (fs ++ f ∷ []) (n + m + 1)
+  pub counted_push : (fs : List (Level State)) (f : Level State) (n m : ℕ) → HasLifts p fs n → HasMany (IsContinuationBelow p f.config.lifted f.config.state f.call) m → HasLifts p (fs ++ f ∷ []) (n + m + 1)
   counted_push [] f n m k h = (m, 0, h, refl, omega (arith, k))
   counted_push (g ∷ fs) f n m k h = (k.0, k.1 + m + 1, k.2, counted_push fs f k.1 m k.3 h, (let e = k.4 in omega (arith, e)))
 
-  pub counted_pop : (fs : List (Frame State)) (f : Frame State) (n : ℕ) → HasLifts p (fs ++ f ∷ []) n → (m : ℕ) × (k : ℕ) × HasLifts p fs k × HasMany (IsContinuationBelow p f.config.lifted f.config.state f.call) m × (n ≡ k + m + 1)
+  pub counted_pop : (fs : List (Level State)) (f : Level State) (n : ℕ) → HasLifts p (fs ++ f ∷ []) n → (m : ℕ) × (k : ℕ) × HasLifts p fs k × HasMany (IsContinuationBelow p f.config.lifted f.config.state f.call) m × (n ≡ k + m + 1)
   counted_pop [] f n k = (k.0, 0, refl, k.2, (let e = k.4 in let z = k.3 in omega (arith, e, z)))
   counted_pop (g ∷ fs) f n k =
       let r = counted_pop fs f k.1 k.3 in
       (r.0, k.0 + 1 + r.1, (k.0, r.1, k.2, r.2, refl), r.3, (let e = k.4 in let d = r.4 in omega (arith, e, d)))
 
-  -- what the configuration at the end has of continuations, the one at the begin has after the frames' calls
-  pub many_lead : (fs : List (Frame State)) (set : List Bool) (s : State) (a : List Bool) (t : State) (n k : ℕ) → IsPath p set s fs a t → HasLifts p fs n → HasMany (IsContinuation p a t) k → HasMany (IsContinuation p set s) (n + k)
+  -- what the configuration at the end has of continuations, the one at the begin has after the levels' calls
+  pub many_lead : (fs : List (Level State)) (set : List Bool) (s : State) (a : List Bool) (t : State) (n k : ℕ) → IsPath p set s fs a t → HasLifts p fs n → HasMany (IsContinuation p a t) k → HasMany (IsContinuation p set s) (n + k)
   many_lead [] set s a t n k l c h = rw (l.0, l.1) (many_as (IsContinuation p a t) k (n + k) (omega (arith, c)) h)
   many_lead (f ∷ fs) set s a t n k l c h =
       let q = l.2 in
@@ -91,23 +122,23 @@ module _ {State Op Reply : Type 0} (p : Problem State Op Reply) where
   pub followed_lasting : (old new : List Bool → State → Type 0) → ((set : List Bool) (s : State) → old set s → new set s) → (set : List Bool) (s : State) (i : ℕ) → HoldsBelow p old set s i → HoldsBelow p new set s i
   followed_lasting old new lasting set s i k c h t n = lasting (with_call set c) t (k c h t n)
 
-  pub all_lasting : (old new : List Bool → State → Type 0) → ((set : List Bool) (s : State) → old set s → new set s) → (fs : List (Frame State)) → HoldsOnPath p old fs → HoldsOnPath p new fs
+  pub all_lasting : (old new : List Bool → State → Type 0) → ((set : List Bool) (s : State) → old set s → new set s) → (fs : List (Level State)) → HoldsOnPath p old fs → HoldsOnPath p new fs
   all_lasting old new lasting [] k = tt
   all_lasting old new lasting (f ∷ fs) k = (followed_lasting old new lasting f.config.lifted f.config.state f.call k.0, all_lasting old new lasting fs k.1)
 
-  pub all_push : (holds : List Bool → State → Type 0) (fs : List (Frame State)) (f : Frame State) → HoldsOnPath p holds fs → HoldsBelow p holds f.config.lifted f.config.state f.call → HoldsOnPath p holds (fs ++ f ∷ [])
+  pub all_push : (holds : List Bool → State → Type 0) (fs : List (Level State)) (f : Level State) → HoldsOnPath p holds fs → HoldsBelow p holds f.config.lifted f.config.state f.call → HoldsOnPath p holds (fs ++ f ∷ [])
   all_push holds [] f k h = (h, tt)
   all_push holds (g ∷ fs) f k h = (k.0, all_push holds fs f k.1 h)
 
-  pub all_pop : (holds : List Bool → State → Type 0) (fs : List (Frame State)) (f : Frame State) → HoldsOnPath p holds (fs ++ f ∷ []) → HoldsOnPath p holds fs × HoldsBelow p holds f.config.lifted f.config.state f.call
+  pub all_pop : (holds : List Bool → State → Type 0) (fs : List (Level State)) (f : Level State) → HoldsOnPath p holds (fs ++ f ∷ []) → HoldsOnPath p holds fs × HoldsBelow p holds f.config.lifted f.config.state f.call
   all_pop holds [] f k = (tt, k.0)
   all_pop holds (g ∷ fs) f k = let r = all_pop holds fs f k.1 in ((k.0, r.0), r.1)
 
-  pub lifts_to : (fs : List (Frame State)) (set : List Bool) (s : State) (i j n : ℕ) → i ≤ j → AreLifts p fs set s i n → AreLifts p fs set s j n
+  pub lifts_to : (fs : List (Level State)) (set : List Bool) (s : State) (i j n : ℕ) → i ≤ j → AreLifts p fs set s i n → AreLifts p fs set s j n
   lifts_to fs set s i j n h k = record { on_path = k.on_path; below = k.below; path = k.path; many = many_to p set s i j k.below h k.many; total = k.total }
 
   -- the call i was lifted, and leads to what is known to be refuted
-  pub lifts_hit : (fs : List (Frame State)) (set : List Bool) (s : State) (i n : ℕ) (t : State) → length set ≡ length p.calls → IsNext p set s i t → AreLifts p fs set s i n → AreLifts p fs set s (i + 1) (n + 1)
+  pub lifts_hit : (fs : List (Level State)) (set : List Bool) (s : State) (i n : ℕ) (t : State) → length set ≡ length p.calls → IsNext p set s i t → AreLifts p fs set s i n → AreLifts p fs set s (i + 1) (n + 1)
   lifts_hit fs set s i n t flags next k = record {
     on_path = k.on_path;
     below = k.below + 1 + 0;
@@ -116,8 +147,8 @@ module _ {State Op Reply : Type 0} (p : Problem State Op Reply) where
     total = (let d = k.total in omega (arith, d));
   }
 
-  -- the frame's call was lifted, and the search goes on from what it leads to
-  pub lifts_push : (fs : List (Frame State)) (f : Frame State) (set : List Bool) (u : State) (i n : ℕ) → AreLifts p fs f.config.lifted f.config.state f.call n → AreLifts p (fs ++ f ∷ []) set u i (n + 1)
+  -- the level's call was lifted, and the search goes on from what it leads to
+  pub lifts_push : (fs : List (Level State)) (f : Level State) (set : List Bool) (u : State) (i n : ℕ) → AreLifts p fs f.config.lifted f.config.state f.call n → AreLifts p (fs ++ f ∷ []) set u i (n + 1)
   lifts_push fs f set u i n k = record {
     on_path = k.on_path + k.below + 1;
     below = 0;
@@ -126,8 +157,8 @@ module _ {State Op Reply : Type 0} (p : Problem State Op Reply) where
     total = (let d = k.total in omega (arith, d));
   }
 
-  -- all calls here were tried, and the search goes on after the last frame's call
-  pub lifts_pop : (fs : List (Frame State)) (f : Frame State) (a : List Bool) (t : State) (i n : ℕ) → IsFrame p f t → with_call f.config.lifted f.call ≡ a → AreLifts p (fs ++ f ∷ []) a t i n → AreLifts p fs f.config.lifted f.config.state (f.call + 1) n
+  -- all calls here were tried, and the search goes on after the last level's call
+  pub lifts_pop : (fs : List (Level State)) (f : Level State) (a : List Bool) (t : State) (i n : ℕ) → IsLevel p f t → with_call f.config.lifted f.call ≡ a → AreLifts p (fs ++ f ∷ []) a t i n → AreLifts p fs f.config.lifted f.config.state (f.call + 1) n
   lifts_pop fs f a t i n h e k =
       let q = counted_pop fs f k.on_path k.path in
       let below : HasMany (IsContinuation p (with_call f.config.lifted f.call) t) k.below = rw e (many_all p a t i k.below k.many) in
@@ -140,7 +171,7 @@ module _ {State Op Reply : Type 0} (p : Problem State Op Reply) where
       }
 
   -- one call more can follow than were lifted
-  pub lifts_more : (fs : List (Frame State)) (root : List Bool) (start : State) (set : List Bool) (s : State) (i n : ℕ) (t : State) → IsPath p root start fs set s → length set ≡ length p.calls → IsNext p set s i t → AreLifts p fs set s i n → HasMany (IsContinuation p root start) (n + 1)
+  pub lifts_more : (fs : List (Level State)) (root : List Bool) (start : State) (set : List Bool) (s : State) (i n : ℕ) (t : State) → IsPath p root start fs set s → length set ≡ length p.calls → IsNext p set s i t → AreLifts p fs set s i n → HasMany (IsContinuation p root start) (n + 1)
   lifts_more fs root start set s i n t path flags next k =
       let d = k.total in
       many_as (IsContinuation p root start) (k.on_path + (k.below + 1 + 0)) (n + 1) (omega (arith, d))
@@ -161,7 +192,7 @@ module _ {State Op Reply : Type 0} {p : Problem State Op Reply} where
   entered here longest candidate reachable open_call e least =
       on_to here longest 0 candidate reachable.flags (omega arith) (rw e (searched_start p here.lifted here.state open_call)) least
 
-  pub way_start : (root : Configuration State) (fs : List (Frame State)) (longest : Longest) (candidate : Option ℕ) → fs ≡ [] → IsReachable p root.lifted root.state → (HasEveryCompleted p root.lifted → ⊥) → longest ≡ record { more = 0; first = None } → IsLeastMinimal p root.lifted 0 candidate → IsAt p root fs root longest candidate
+  pub way_start : (root : Configuration State) (fs : List (Level State)) (longest : Longest) (candidate : Option ℕ) → fs ≡ [] → IsReachable p root.lifted root.state → (HasEveryCompleted p root.lifted → ⊥) → longest ≡ record { more = 0; first = None } → IsLeastMinimal p root.lifted 0 candidate → IsAt p root fs root longest candidate
   way_start root fs longest candidate none reachable open_call e least = record {
     path = rw none (refl, refl);
     reachable = reachable;
@@ -170,7 +201,7 @@ module _ {State Op Reply : Type 0} {p : Problem State Op Reply} where
   }
 
   -- the candidate can't follow
-  pub way_skip : (root : Configuration State) (fs : List (Frame State)) (here : Configuration State) (longest : Longest) (was : Option ℕ) (c : ℕ) (candidate : Option ℕ) → was ≡ Some c → IsAt p root fs here longest was → ((t : State) → IsNext p here.lifted here.state c t → ⊥) → IsLeastMinimal p here.lifted (c + 1) candidate → IsAt p root fs here longest candidate
+  pub way_skip : (root : Configuration State) (fs : List (Level State)) (here : Configuration State) (longest : Longest) (was : Option ℕ) (c : ℕ) (candidate : Option ℕ) → was ≡ Some c → IsAt p root fs here longest was → ((t : State) → IsNext p here.lifted here.state c t → ⊥) → IsLeastMinimal p here.lifted (c + 1) candidate → IsAt p root fs here longest candidate
   way_skip root fs here longest was c candidate e way none least = record {
     path = way.path;
     reachable = way.reachable;
@@ -179,7 +210,7 @@ module _ {State Op Reply : Type 0} {p : Problem State Op Reply} where
   }
 
   -- the candidate leads to what is known to be refuted
-  pub way_hit : (root : Configuration State) (fs : List (Frame State)) (here : Configuration State) (longest deep after : Longest) (was : Option ℕ) (c : ℕ) (t : State) (candidate : Option ℕ) → was ≡ Some c → IsAt p root fs here longest was → IsNext p here.lifted here.state c t → IsRefutedWith p (with_call here.lifted c) t deep → (longest.more < deep.more + 1 → after ≡ record { more = deep.more + 1; first = Some c }) → (deep.more + 1 ≤ longest.more → after ≡ longest) → IsLeastMinimal p here.lifted (c + 1) candidate → IsAt p root fs here after candidate
+  pub way_hit : (root : Configuration State) (fs : List (Level State)) (here : Configuration State) (longest deep after : Longest) (was : Option ℕ) (c : ℕ) (t : State) (candidate : Option ℕ) → was ≡ Some c → IsAt p root fs here longest was → IsNext p here.lifted here.state c t → IsRefutedWith p (with_call here.lifted c) t deep → (longest.more < deep.more + 1 → after ≡ record { more = deep.more + 1; first = Some c }) → (deep.more + 1 ≤ longest.more → after ≡ longest) → IsLeastMinimal p here.lifted (c + 1) candidate → IsAt p root fs here after candidate
   way_hit root fs here longest deep after was c t candidate e way next refuted longer not_longer least = record {
     path = way.path;
     reachable = way.reachable;
@@ -188,7 +219,7 @@ module _ {State Op Reply : Type 0} {p : Problem State Op Reply} where
   }
 
   -- the search goes on from what the candidate leads to
-  pub way_push : (root : Configuration State) (fs : List (Frame State)) (here child : Configuration State) (longest none : Longest) (was : Option ℕ) (c : ℕ) (candidate : Option ℕ) → was ≡ Some c → IsAt p root fs here longest was → IsNext p here.lifted here.state c child.state → child.lifted ≡ with_call here.lifted c → IsReachable p child.lifted child.state → (HasEveryCompleted p child.lifted → ⊥) → none ≡ record { more = 0; first = None } → IsLeastMinimal p child.lifted 0 candidate → IsAt p root (fs ++ record { config = here; call = c; longest = longest } ∷ []) child none candidate
+  pub way_push : (root : Configuration State) (fs : List (Level State)) (here child : Configuration State) (longest none : Longest) (was : Option ℕ) (c : ℕ) (candidate : Option ℕ) → was ≡ Some c → IsAt p root fs here longest was → IsNext p here.lifted here.state c child.state → child.lifted ≡ with_call here.lifted c → IsReachable p child.lifted child.state → (HasEveryCompleted p child.lifted → ⊥) → none ≡ record { more = 0; first = None } → IsLeastMinimal p child.lifted 0 candidate → IsAt p root (fs ++ record { config = here; call = c; longest = longest } ∷ []) child none candidate
   way_push root fs here child longest none was c candidate e way next lifted reachable open_call z least = record {
     path = rw lifted (leads_push p fs (record { config = here; call = c; longest = longest }) root.lifted root.state child.state way.path (record { reachable = way.reachable; searched = rw e at way.searched; next = next }));
     reachable = reachable;
@@ -197,19 +228,19 @@ module _ {State Op Reply : Type 0} {p : Problem State Op Reply} where
   }
 
   -- all calls here were tried
-  pub way_refuted : (root : Configuration State) (fs : List (Frame State)) (here : Configuration State) (longest : Longest) (candidate : Option ℕ) → candidate ≡ None → IsAt p root fs here longest candidate → IsRefutedWith p here.lifted here.state longest
+  pub way_refuted : (root : Configuration State) (fs : List (Level State)) (here : Configuration State) (longest : Longest) (candidate : Option ℕ) → candidate ≡ None → IsAt p root fs here longest candidate → IsRefutedWith p here.lifted here.state longest
   way_refuted root fs here longest candidate e way =
       let all = searched_all p here.lifted here.state (length p.calls) longest.more longest.first refl way.reachable.flags (rw e at way.searched) in
       record { refuted = record { reachable = way.reachable; none = all.0 }; longest_is = all.1 }
 
-  pub way_end : (root : Configuration State) (fs : List (Frame State)) (here : Configuration State) (longest : Longest) (candidate : Option ℕ) → fs ≡ [] → candidate ≡ None → IsAt p root fs here longest candidate → ((l : List ℕ) → IsCompletion p root.lifted root.state l → ⊥) × IsLongest (IsContinuation p root.lifted root.state) longest.more longest.first
+  pub way_end : (root : Configuration State) (fs : List (Level State)) (here : Configuration State) (longest : Longest) (candidate : Option ℕ) → fs ≡ [] → candidate ≡ None → IsAt p root fs here longest candidate → ((l : List ℕ) → IsCompletion p root.lifted root.state l → ⊥) × IsLongest (IsContinuation p root.lifted root.state) longest.more longest.first
   way_end root fs here longest candidate none e way =
       let r = way_refuted root fs here longest candidate e way in
       let l : IsPath p root.lifted root.state [] here.lifted here.state = rw none at way.path in
       rw (l.0, l.1) (r.refuted.none, r.longest_is)
 
-  -- the search goes on after the last frame's call
-  pub way_pop : (root : Configuration State) (all fs : List (Frame State)) (f : Frame State) (here : Configuration State) (longest after : Longest) (was candidate : Option ℕ) → all ≡ fs ++ f ∷ [] → was ≡ None → IsAt p root all here longest was → (f.longest.more < longest.more + 1 → after ≡ record { more = longest.more + 1; first = Some f.call }) → (longest.more + 1 ≤ f.longest.more → after ≡ f.longest) → IsLeastMinimal p f.config.lifted (f.call + 1) candidate → IsAt p root fs f.config after candidate
+  -- the search goes on after the last level's call
+  pub way_pop : (root : Configuration State) (all fs : List (Level State)) (f : Level State) (here : Configuration State) (longest after : Longest) (was candidate : Option ℕ) → all ≡ fs ++ f ∷ [] → was ≡ None → IsAt p root all here longest was → (f.longest.more < longest.more + 1 → after ≡ record { more = longest.more + 1; first = Some f.call }) → (longest.more + 1 ≤ f.longest.more → after ≡ f.longest) → IsLeastMinimal p f.config.lifted (f.call + 1) candidate → IsAt p root fs f.config after candidate
   way_pop root all fs f here longest after was candidate split e way longer not_longer least =
       let q = leads_pop p fs f root.lifted root.state here.lifted here.state (rw split at way.path) in
       let r = way_refuted root all here longest was e way in
@@ -221,110 +252,89 @@ module _ {State Op Reply : Type 0} {p : Problem State Op Reply} where
         minimal = minimal_of p f.config.lifted (f.call + 1) candidate least;
       }
 
-  -- the last frame's call is minimal where the search goes on
-  pub way_pop_minimal : (root : Configuration State) (all fs : List (Frame State)) (f : Frame State) (here : Configuration State) (longest : Longest) (was : Option ℕ) → all ≡ fs ++ f ∷ [] → IsAt p root all here longest was → IsMinimal p f.config.lifted f.call
+  -- the last level's call is minimal where the search goes on
+  pub way_pop_minimal : (root : Configuration State) (all fs : List (Level State)) (f : Level State) (here : Configuration State) (longest : Longest) (was : Option ℕ) → all ≡ fs ++ f ∷ [] → IsAt p root all here longest was → IsMinimal p f.config.lifted f.call
   way_pop_minimal root all fs f here longest was split way =
       let q = leads_pop p fs f root.lifted root.state here.lifted here.state (rw split at way.path) in
       next_minimal p f.config.lifted f.config.state f.call here.state q.1.next
 
-  -- a longest continuation here leaves room for the last frame's call
-  pub way_pop_room : (root : Configuration State) (all fs : List (Frame State)) (f : Frame State) (here : Configuration State) (longest : Longest) (was : Option ℕ) → all ≡ fs ++ f ∷ [] → was ≡ None → IsAt p root all here longest was → longest.more + 1 ≤ length p.calls
+  -- a longest continuation here leaves room for the last level's call
+  pub way_pop_room : (root : Configuration State) (all fs : List (Level State)) (f : Level State) (here : Configuration State) (longest : Longest) (was : Option ℕ) → all ≡ fs ++ f ∷ [] → was ≡ None → IsAt p root all here longest was → longest.more + 1 ≤ length p.calls
   way_pop_room root all fs f here longest was split e way =
       let q = leads_pop p fs f root.lifted root.state here.lifted here.state (rw split at way.path) in
       let r = way_refuted root all here longest was e way in
       room p f.config.lifted f.config.state f.call here.state longest.more longest.first q.1.reachable.flags q.1.next (rw q.2 r.longest_is)
 
   -- the candidate completes
-  pub way_found : (root : Configuration State) (fs : List (Frame State)) (here child : Configuration State) (longest : Longest) (was : Option ℕ) (c : ℕ) → was ≡ Some c → IsAt p root fs here longest was → IsNext p here.lifted here.state c child.state → child.lifted ≡ with_call here.lifted c → HasEveryCompleted p child.lifted → IsLeast (IsCompletion p root.lifted root.state) (calls_of fs ++ c ∷ [])
+  pub way_found : (root : Configuration State) (fs : List (Level State)) (here child : Configuration State) (longest : Longest) (was : Option ℕ) (c : ℕ) → was ≡ Some c → IsAt p root fs here longest was → IsNext p here.lifted here.state c child.state → child.lifted ≡ with_call here.lifted c → HasEveryCompleted p child.lifted → IsLeast (IsCompletion p root.lifted root.state) (calls_along fs ++ c ∷ [])
   way_found root fs here child longest was c e way next lifted all =
       least_lead p fs root.lifted root.state here.lifted here.state (c ∷ []) way.path
       (found_least p here.lifted here.state c child.state longest.more longest.first [] way.reachable.flags (rw e at way.searched) next (least_none p (with_call here.lifted c) child.state (rw lifted at all)))
 
-  -- the calls that are lifted from the entries are those of the configuration here
-  pub way_set : (root : Configuration State) (fs : List (Frame State)) (here : Configuration State) (longest : Longest) (candidate : Option ℕ) (lifted base : List ℕ) → lifted ≡ base ++ calls_of fs → with_calls (no_calls p) base ≡ root.lifted → IsAt p root fs here longest candidate → with_calls (no_calls p) lifted ≡ here.lifted
-  way_set root fs here longest candidate lifted base e b way =
-      rw (e, with_append (no_calls p) base (calls_of fs), b) (calls_lead p fs root.lifted root.state here.lifted here.state way.path)
-
   -- the memo was asked for the root
-  pub holds_start : (old now : List Bool → State → Type 0) (root : Configuration State) (candidate : Option ℕ) → ((set : List Bool) (s : State) → now set s → old set s) → ((set : List Bool) (s : State) → old set s → now set s) → IsLeastMinimal p root.lifted 0 candidate → IsClosed p old → HoldsSearched p now [] root candidate
-  holds_start old now root candidate only lasting least k = record {
-    closed = closed_look p old now only lasting k;
-    below = followed_to p now root.lifted root.state 0 (bound p candidate) (followed_start p now root.lifted root.state) (none_between p root.lifted root.state 0 candidate least);
+  pub holds_start : (holds : List Bool → State → Type 0) (root : Configuration State) (candidate : Option ℕ) → IsLeastMinimal p root.lifted 0 candidate → IsClosed p holds → HoldsSearched p holds root.lifted [] root candidate
+  holds_start holds root candidate least k = record {
+    closed = k;
+    below = followed_to p holds root.lifted root.state 0 (bound p candidate) (followed_start p holds root.lifted root.state) (none_between p root.lifted root.state 0 candidate least);
     path = tt;
+    set = refl;
   }
 
   -- the call can't follow
-  pub holds_skip : (holds : List Bool → State → Type 0) (fs : List (Frame State)) (here : Configuration State) (c : ℕ) (candidate : Option ℕ) → ((t : State) → IsNext p here.lifted here.state c t → ⊥) → IsLeastMinimal p here.lifted (c + 1) candidate → HoldsSearched p holds fs here (Some c) → HoldsSearched p holds fs here candidate
-  holds_skip holds fs here c candidate none least k = record {
+  pub holds_skip : (holds : List Bool → State → Type 0) (root : List Bool) (fs : List (Frame State)) (here : Configuration State) (c : ℕ) (candidate : Option ℕ) → ((t : State) → IsNext p here.lifted here.state c t → ⊥) → IsLeastMinimal p here.lifted (c + 1) candidate → HoldsSearched p holds root fs here (Some c) → HoldsSearched p holds root fs here candidate
+  holds_skip holds root fs here c candidate none least k = record {
     closed = k.closed;
     below = followed_to p holds here.lifted here.state (c + 1) (bound p candidate) (followed_one p holds here.lifted here.state c k.below none) (none_between p here.lifted here.state (c + 1) candidate least);
     path = k.path;
+    set = k.set;
   }
 
   -- the call leads to what the memo holds
-  pub holds_hit : (now new : List Bool → State → Type 0) (fs : List (Frame State)) (here : Configuration State) (c : ℕ) (t : State) (candidate : Option ℕ) → ((set : List Bool) (s : State) → new set s → now set s) → ((set : List Bool) (s : State) → now set s → new set s) → IsNext p here.lifted here.state c t → new (with_call here.lifted c) t → IsLeastMinimal p here.lifted (c + 1) candidate → HoldsSearched p now fs here (Some c) → HoldsSearched p new fs here candidate
-  holds_hit now new fs here c t candidate only lasting next hit least k = record {
+  pub holds_hit : (now new : List Bool → State → Type 0) (root : List Bool) (fs : List (Frame State)) (here after : Configuration State) (c : ℕ) (t : State) (candidate : Option ℕ) → ((set : List Bool) (s : State) → new set s → now set s) → ((set : List Bool) (s : State) → now set s → new set s) → after ≡ here → IsNext p here.lifted here.state c t → new (with_call here.lifted c) t → IsLeastMinimal p after.lifted (c + 1) candidate → HoldsSearched p now root fs here (Some c) → HoldsSearched p new root fs after candidate
+  holds_hit now new root fs here after c t candidate only lasting e next hit least k = rw e (record {
     closed = closed_look p now new only lasting k.closed;
-    below = followed_to p new here.lifted here.state (c + 1) (bound p candidate) (followed_next p now new here.lifted here.state c t lasting k.below next hit) (none_between p here.lifted here.state (c + 1) candidate least);
-    path = all_lasting p now new lasting fs k.path;
-  }
+    below = followed_to p new here.lifted here.state (c + 1) (bound p candidate) (followed_next p now new here.lifted here.state c t lasting k.below next hit) (none_between p here.lifted here.state (c + 1) candidate (rw e at least));
+    path = all_lasting p now new lasting (levels root fs) k.path;
+    set = k.set;
+  })
 
   -- the search goes on from what the frame's call leads to
-  pub holds_push : (now new : List Bool → State → Type 0) (fs : List (Frame State)) (f : Frame State) (child : Configuration State) (candidate : Option ℕ) → ((set : List Bool) (s : State) → new set s → now set s) → ((set : List Bool) (s : State) → now set s → new set s) → IsLeastMinimal p child.lifted 0 candidate → HoldsSearched p now fs f.config (Some f.call) → HoldsSearched p new (fs ++ f ∷ []) child candidate
-  holds_push now new fs f child candidate only lasting least k = record {
+  pub holds_push : (now new : List Bool → State → Type 0) (root : List Bool) (fs : List (Frame State)) (f : Frame State) (from here : Configuration State) (candidate : Option ℕ) → ((set : List Bool) (s : State) → new set s → now set s) → ((set : List Bool) (s : State) → now set s → new set s) → f.state ≡ from.state → here.lifted ≡ with_call from.lifted f.call → IsLeastMinimal p here.lifted 0 candidate → HoldsSearched p now root fs from (Some f.call) → HoldsSearched p new root (fs ++ f ∷ []) here candidate
+  holds_push now new root fs f from here candidate only lasting state set least k = record {
     closed = closed_look p now new only lasting k.closed;
-    below = followed_to p new child.lifted child.state 0 (bound p candidate) (followed_start p new child.lifted child.state) (none_between p child.lifted child.state 0 candidate least);
-    path = all_push p new fs f (all_lasting p now new lasting fs k.path) (followed_lasting p now new lasting f.config.lifted f.config.state f.call k.below);
+    below = followed_to p new here.lifted here.state 0 (bound p candidate) (followed_start p new here.lifted here.state) (none_between p here.lifted here.state 0 candidate least);
+    path = rw (levels_end root fs f from k.set state) (all_push p new (levels root fs) (level_of from f) (all_lasting p now new lasting (levels root fs) k.path) (followed_lasting p now new lasting from.lifted from.state f.call k.below));
+    set = rw (calls_end fs f, with_append root (calls_of fs) (f.call ∷ []), k.set, set) refl;
   }
 
   -- the memo has kept a configuration all of whose calls were tried
-  pub holds_noted : AreAlike p p → (Fresh : Type 0) (now new : List Bool → State → Type 0) (fs : List (Frame State)) (here : Configuration State) → ((set : List Bool) (s : State) → new set s → now set s ⊎ (Fresh × (set ≡ here.lifted) × (p.same_state s here.state ≡ true))) → ((set : List Bool) (s : State) → now set s → new set s) → ((set : List Bool) (s t : State) → p.same_state s t ≡ true → new set s → new set t) → HoldsSearched p now fs here None → HoldsSearched p new fs here None
-  holds_noted alike Fresh now new fs here only lasting at_equal k = record {
+  pub holds_noted : AreAlike p p → (Fresh : Type 0) (now new : List Bool → State → Type 0) (root : List Bool) (fs : List (Frame State)) (here : Configuration State) → ((set : List Bool) (s : State) → new set s → now set s ⊎ (Fresh × (set ≡ here.lifted) × (p.same_state s here.state ≡ true))) → ((set : List Bool) (s : State) → now set s → new set s) → ((set : List Bool) (s t : State) → p.same_state s t ≡ true → new set s → new set t) → HoldsSearched p now root fs here None → HoldsSearched p new root fs here None
+  holds_noted alike Fresh now new root fs here only lasting at_equal k = record {
     closed = closed_more p alike Fresh now new here.lifted here.state only lasting at_equal (followed_all p now here.lifted here.state (length p.calls) refl k.below) k.closed;
     below = followed_lasting p now new lasting here.lifted here.state (length p.calls) k.below;
-    path = all_lasting p now new lasting fs k.path;
+    path = all_lasting p now new lasting (levels root fs) k.path;
+    set = k.set;
   }
 
   -- the search goes on after the last frame's call, with what the memo holds
-  pub holds_pop : (holds : List Bool → State → Type 0) (root : Configuration State) (fs : List (Frame State)) (f : Frame State) (here : Configuration State) (longest : Longest) (candidate : Option ℕ) → IsAt p root (fs ++ f ∷ []) here longest None → holds here.lifted here.state → IsLeastMinimal p f.config.lifted (f.call + 1) candidate → HoldsSearched p holds (fs ++ f ∷ []) here None → HoldsSearched p holds fs f.config candidate
-  holds_pop holds root fs f here longest candidate way kept least k =
-      let q = leads_pop p fs f root.lifted root.state here.lifted here.state way.path in
-      let r = all_pop p holds fs f k.path in
+  pub holds_pop : (holds : List Bool → State → Type 0) (root : Configuration State) (limit : Option ℕ) (lifted : List ℕ) (all fs : List (Frame State)) (f : Frame State) (left : Option ℕ) (here now : Configuration State) (longest : Longest) (candidate : Option ℕ) → all ≡ fs ++ f ∷ [] → with_calls root.lifted (calls_of fs) ≡ now.lifted → f.state ≡ now.state → IsProgress p root limit lifted all left here longest None → holds here.lifted here.state → IsLeastMinimal p now.lifted (f.call + 1) candidate → HoldsSearched p holds root.lifted all here None → HoldsSearched p holds root.lifted fs now candidate
+  holds_pop holds root limit lifted all fs f left here now longest candidate split set state k kept least h =
+      let ends = levels_end root.lifted fs f now set state in
+      let q = leads_pop p (levels root.lifted fs) (level_of now f) root.lifted root.state here.lifted here.state (rw ends at ((rw split at k.at).path)) in
+      let r = all_pop p holds (levels root.lifted fs) (level_of now f) (rw ends at ((rw split at h).path)) in
       record {
-        closed = k.closed;
-        below = followed_to p holds f.config.lifted f.config.state (f.call + 1) (bound p candidate) (followed_next p holds holds f.config.lifted f.config.state f.call here.state (λ set s h. h) r.1 q.1.next (rw q.2 kept)) (none_between p f.config.lifted f.config.state (f.call + 1) candidate least);
+        closed = h.closed;
+        below = followed_to p holds now.lifted now.state (f.call + 1) (bound p candidate) (followed_next p holds holds now.lifted now.state f.call here.state (λ set s h. h) r.1 q.1.next (rw q.2 kept)) (none_between p now.lifted now.state (f.call + 1) candidate least);
         path = r.0;
+        set = set;
       }
 
-  pub way_root : (root : Configuration State) (fs : List (Frame State)) (here : Configuration State) (longest : Longest) (candidate : Option ℕ) → fs ≡ [] → IsAt p root fs here longest candidate → (root.lifted ≡ here.lifted) × (root.state ≡ here.state)
+  pub way_root : (root : Configuration State) (fs : List (Level State)) (here : Configuration State) (longest : Longest) (candidate : Option ℕ) → fs ≡ [] → IsAt p root fs here longest candidate → (root.lifted ≡ here.lifted) × (root.state ≡ here.state)
   way_root root fs here longest candidate none way = rw none at way.path
 
   -- the candidate comes after the one before it
   pub way_on : (set : List Bool) (c : ℕ) (candidate : Option ℕ) → IsMinimal p set c → IsLeastMinimal p set (c + 1) candidate → c + 1 ≤ bound p candidate
   way_on set c candidate minimal least = to_bound p set (c + 1) candidate (let h = minimal.within in omega (arith, h)) least
-
-  -- the calls lifted from the entries, without that of the last frame
-  pub pop_set : (base : List ℕ) (all fs : List (Frame State)) (f : Frame State) (root here : Configuration State) (longest : Longest) (was : Option ℕ) (lifted : List ℕ) → lifted ≡ base ++ calls_of fs → all ≡ fs ++ f ∷ [] → with_calls (no_calls p) base ≡ root.lifted → IsAt p root all here longest was → with_calls (no_calls p) lifted ≡ f.config.lifted
-  pop_set base all fs f root here longest was lifted e split b way =
-      let q = leads_pop p fs f root.lifted root.state here.lifted here.state (rw split at way.path) in
-      rw (e, with_append (no_calls p) base (calls_of fs), b) (calls_lead p fs root.lifted root.state f.config.lifted f.config.state q.0)
-
-module _ {State : Type 0} where
-  -- the calls of the frames, and of one frame more
-  pub calls_pushed : (base : List ℕ) (all fs : List (Frame State)) (f : Frame State) → all ≡ fs ++ f ∷ [] → base ++ calls_of all ≡ (base ++ calls_of fs) ++ f.call ∷ []
-  calls_pushed base all fs f split = rw split (ends base)
-    where
-      calls_end : (gs : List (Frame State)) → calls_of (gs ++ f ∷ []) ≡ calls_of gs ++ f.call ∷ []
-      calls_end [] = refl
-      calls_end (g ∷ gs) = ap (λ (l : List ℕ). g.call ∷ l) (calls_end gs)
-
-      ends : (l : List ℕ) → l ++ calls_of (fs ++ f ∷ []) ≡ (l ++ calls_of fs) ++ f.call ∷ []
-      ends [] = calls_end fs
-      ends (c ∷ cs) = ap (λ (l : List ℕ). c ∷ l) (ends cs)
-
-  pub none_there : (fs : List (Frame State)) → length fs ≡ 0 → fs ≡ []
-  none_there [] e = refl
-  none_there (f ∷ fs) e = absurd (omega (arith, e))
 
 -- of the lifts left, as more is known of how many were made
 left_map : (P Q : ℕ → Type 0) (limit left : Option ℕ) → ((n : ℕ) → P n → Q n) → IsLeft P limit left → IsLeft Q limit left
@@ -349,18 +359,18 @@ suc_times : (a b : ℕ) → suc a * b ≡ a * b + b
 suc_times a b = omega arith
 
 module _ {State : Type 0} where
-  work_append : (n : ℕ) (fs : List (Frame State)) (f : Frame State) → work_on_path n (fs ++ f ∷ []) ≡ work_on_path n fs + (n - f.call) * power (n + 2) (free f.config.lifted)
+  work_append : (n : ℕ) (fs : List (Level State)) (f : Level State) → work_on_path n (fs ++ f ∷ []) ≡ work_on_path n fs + (n - f.call) * power (n + 2) (free f.config.lifted)
   work_append n [] f = omega arith
   work_append n (g ∷ fs) f = let r = work_append n fs f in omega (arith, r)
 
-  pub work_on : (n : ℕ) (fs : List (Frame State)) (set : List Bool) (i j : ℕ) → i < j → j ≤ n → work n fs set j < work n fs set i
+  pub work_on : (n : ℕ) (fs : List (Level State)) (set : List Bool) (i j : ℕ) → i < j → j ≤ n → work_below n fs set j < work_below n fs set i
   work_on n fs set i j h within = on (suc (n - j)) (n - i) (power (n + 2) (free set)) (omega (arith, h, within)) (power_least (n + 2) (free set) (omega arith))
     where
       on : (a b w : ℕ) → a ≤ b → 1 ≤ w → work_on_path n fs + a * w < work_on_path n fs + suc b * w
       on a b w h k = let r = mul-le a w b w h (omega arith) in let e : suc b * w ≡ b * w + w = suc_times b w in omega (arith, r, e, k)
 
-  -- a call is lifted: its configuration becomes a frame, and the one that it leads to has a call less
-  pub work_down : (n : ℕ) (fs : List (Frame State)) (f : Frame State) (set : List Bool) (i : ℕ) → f.call < n → suc (free set) ≡ free f.config.lifted → work n (fs ++ f ∷ []) set i < work n fs f.config.lifted f.call
+  -- a call is lifted: its configuration becomes a level, and the one that it leads to has a call less
+  pub work_down : (n : ℕ) (fs : List (Level State)) (f : Level State) (set : List Bool) (i : ℕ) → f.call < n → suc (free set) ≡ free f.config.lifted → work_below n (fs ++ f ∷ []) set i < work_below n fs f.config.lifted f.call
   work_down n fs f set i within less =
       let w = power (n + 2) (free set) in
       let frame : power (n + 2) (free f.config.lifted) ≡ (n + 2) * w = ap (power (n + 2)) (sym less) in
@@ -374,8 +384,8 @@ module _ {State : Type 0} where
           let q : suc x * w ≡ x * w + w = suc_times x w in
           omega (arith, e, g, h, r, q, m)
 
-  -- all calls were tried: the search goes on after the last frame's call
-  pub work_up : (n : ℕ) (fs : List (Frame State)) (f : Frame State) (set : List Bool) (i j : ℕ) → f.call < j → j ≤ n → work n fs f.config.lifted j < work n (fs ++ f ∷ []) set i
+  -- all calls were tried: the search goes on after the last level's call
+  pub work_up : (n : ℕ) (fs : List (Level State)) (f : Level State) (set : List Bool) (i j : ℕ) → f.call < j → j ≤ n → work_below n fs f.config.lifted j < work_below n (fs ++ f ∷ []) set i
   work_up n fs f set i j h within =
       let a = work_append n fs f in
       let w = power_least (n + 2) (free set) (omega arith) in
@@ -389,18 +399,18 @@ module _ {State : Type 0} where
 
 -- with each step of a search less is left
 module _ {State Op Reply : Type 0} (p : Problem State Op Reply) where
-  pub less_on : (fs : List (Frame State)) (set : List Bool) (was : Option ℕ) (c : ℕ) (candidate : Option ℕ) → was ≡ Some c → IfSome was (λ (d : ℕ). IsMinimal p set d) → IsLeastMinimal p set (c + 1) candidate → work (length p.calls) fs set (bound p candidate) < work (length p.calls) fs set (bound p was)
+  pub less_on : (fs : List (Level State)) (set : List Bool) (was : Option ℕ) (c : ℕ) (candidate : Option ℕ) → was ≡ Some c → IfSome was (λ (d : ℕ). IsMinimal p set d) → IsLeastMinimal p set (c + 1) candidate → work_below (length p.calls) fs set (bound p candidate) < work_below (length p.calls) fs set (bound p was)
   less_on fs set was c candidate e minimal least =
       rw e (work_on (length p.calls) fs set c (bound p candidate) (let h = way_on set c candidate (rw e at minimal) least in omega (arith, h)) (bound_within p set (c + 1) candidate least))
 
-  pub less_down : (root : Configuration State) (all fs : List (Frame State)) (here child : Configuration State) (longest : Longest) (was : Option ℕ) (c : ℕ) (candidate : Option ℕ) → was ≡ Some c → all ≡ fs ++ record { config = here; call = c; longest = longest } ∷ [] → IsAt p root fs here longest was → IsNext p here.lifted here.state c child.state → child.lifted ≡ with_call here.lifted c → work (length p.calls) all child.lifted (bound p candidate) < work (length p.calls) fs here.lifted (bound p was)
+  pub less_down : (root : Configuration State) (all fs : List (Level State)) (here child : Configuration State) (longest : Longest) (was : Option ℕ) (c : ℕ) (candidate : Option ℕ) → was ≡ Some c → all ≡ fs ++ record { config = here; call = c; longest = longest } ∷ [] → IsAt p root fs here longest was → IsNext p here.lifted here.state c child.state → child.lifted ≡ with_call here.lifted c → work_below (length p.calls) all child.lifted (bound p candidate) < work_below (length p.calls) fs here.lifted (bound p was)
   less_down root all fs here child longest was c candidate e split way next lifted =
       let within = next_within p here.state child.state c next.step in
       let flags = way.reachable.flags in
       let less = free_less here.lifted c (omega (arith, flags, within)) next.outside in
       rw (e, split, lifted) (work_down (length p.calls) fs (record { config = here; call = c; longest = longest }) (with_call here.lifted c) (bound p candidate) within less)
 
-  pub less_up : (all fs : List (Frame State)) (f : Frame State) (set : List Bool) (was candidate : Option ℕ) → all ≡ fs ++ f ∷ [] → IsMinimal p f.config.lifted f.call → IsLeastMinimal p f.config.lifted (f.call + 1) candidate → work (length p.calls) fs f.config.lifted (bound p candidate) < work (length p.calls) all set (bound p was)
+  pub less_up : (all fs : List (Level State)) (f : Level State) (set : List Bool) (was candidate : Option ℕ) → all ≡ fs ++ f ∷ [] → IsMinimal p f.config.lifted f.call → IsLeastMinimal p f.config.lifted (f.call + 1) candidate → work_below (length p.calls) fs f.config.lifted (bound p candidate) < work_below (length p.calls) all set (bound p was)
   less_up all fs f set was candidate split minimal least =
       rw split (work_up (length p.calls) fs f set (bound p was) (bound p candidate) (let h = way_on f.config.lifted f.call candidate minimal least in omega (arith, h)) (bound_within p f.config.lifted (f.call + 1) candidate least))
 
@@ -419,72 +429,187 @@ module _ {Object State Op Reply : Type 0} (after : Object → State → ℕ → 
   pub incomplete_here : (IsComplete q → ⊥) → HasEveryCompleted (problem_of after same_state same_reply r) set → ⊥
   incomplete_here k h = k (subst IsComplete (sym same) (subst (λ (s : List Bool). HasEveryCompleted (problem_of after same_state same_reply r) s) (sym calls) h))
 
+-- a set without a call is known by the set with it
+pub same_without : (a b : List Bool) (c : ℕ) → with_call a c ≡ with_call b c → has a c ≡ has b c → a ≡ b
+same_without a b c more out =
+    let len : length a ≡ length b = sym (length-set a c true) ∙ ap length more ∙ length-set b c true in
+    ext_get_or false a b len
+    (λ i below. elim (same_or_not i c) as (λ _. has a i ≡ has b i) [
+      | inl here ↦ rw here out
+      | inr apart ↦ sym (has_other a c i apart) ∙ ap (λ (s : List Bool). has s i) more ∙ has_other b c i apart
+    ])
+
+pub set_length : {State Op Reply : Type 0} (p : Problem State Op Reply) (lifted : List ℕ) (set : List Bool) → lifted_set p lifted ≡ set → length set ≡ length p.calls
+set_length p lifted set is = rw (← is) (length_calls (no_calls p) lifted ∙ length-replicate (length p.calls) false)
+
+-- the call that was lifted last
+module _ {State Op Reply : Type 0} (p : Problem State Op Reply) (lifted : List ℕ) (set : List Bool) (c : ℕ) (is : lifted_set p lifted ≡ set) (last : (b : List ℕ) × (lifted ≡ b ++ c ∷ []) × IsMinimal p (lifted_set p b) c) where
+  last_more : set ≡ with_call (lifted_set p last.0) c
+  last_more = sym is ∙ ap (λ (l : List ℕ). lifted_set p l) last.1 ∙ with_append (no_calls p) last.0 (c ∷ [])
+
+  pub last_there : has set c ≡ true
+  last_there =
+      let within = last.2.within in
+      let len = set_length p last.0 (lifted_set p last.0) refl in
+      rw last_more (has_same (lifted_set p last.0) c (omega (arith, within, len)))
+
+  -- the set without it is that of the calls lifted before
+  pub last_taken : (unlifted : List ℕ) (new : List Bool) → ((b : List ℕ) → lifted ≡ b ++ c ∷ [] → unlifted ≡ b) → with_call new c ≡ set → has new c ≡ false → lifted_set p unlifted ≡ new
+  last_taken unlifted new without_last more out =
+      ap (λ (l : List ℕ). lifted_set p l) (without_last last.0 last.1)
+      ∙ same_without (lifted_set p last.0) new c (sym last_more ∙ sym more) (last.2.outside ∙ sym out)
+
 -- the steps of a search
 module _ {State Op Reply : Type 0} {p : Problem State Op Reply} where
+  -- the frames' calls lead to the set here
+  pub set_here : (root : Configuration State) (limit : Option ℕ) (lifted : List ℕ) (fs : List (Frame State)) (left : Option ℕ) (here : Configuration State) (longest : Longest) (candidate : Option ℕ) → IsProgress p root limit lifted fs left here longest candidate → with_calls root.lifted (calls_of fs) ≡ here.lifted
+  set_here root limit lifted fs left here longest candidate k =
+      rw calls_levels at (calls_lead p (levels root.lifted fs) root.lifted root.state here.lifted here.state k.at.path)
+
   -- the calls lifted are those of the configuration here
   pub calls_here : (root : Configuration State) (limit : Option ℕ) (lifted : List ℕ) (fs : List (Frame State)) (left : Option ℕ) (here : Configuration State) (longest : Longest) (candidate : Option ℕ) → IsProgress p root limit lifted fs left here longest candidate → lifted_set p lifted ≡ here.lifted
-  calls_here root limit lifted fs left here longest candidate k = way_set root fs here longest candidate lifted k.calls.0 k.calls.1 k.calls.2 k.at
+  calls_here root limit lifted fs left here longest candidate k =
+      rw (k.calls.1, with_append (no_calls p) k.calls.0 (calls_of fs), k.calls.2) (set_here root limit lifted fs left here longest candidate k)
 
-  pub progress_start : (root : Configuration State) (limit : Option ℕ) (lifted : List ℕ) (longest : Longest) (candidate : Option ℕ) → lifted_set p lifted ≡ root.lifted → IsReachable p root.lifted root.state → (HasEveryCompleted p root.lifted → ⊥) → longest ≡ record { more = 0; first = None } → IsLeastMinimal p root.lifted 0 candidate → IsProgress p root limit lifted [] limit root longest candidate
-  progress_start root limit lifted longest candidate set reachable open_call e least = record {
+  pub progress_start : (root : Configuration State) (limit : Option ℕ) (lifted : List ℕ) (fs : List (Frame State)) (longest : Longest) (candidate : Option ℕ) → fs ≡ [] → lifted_set p lifted ≡ root.lifted → IsReachable p root.lifted root.state → (HasEveryCompleted p root.lifted → ⊥) → longest ≡ record { more = 0; first = None } → IsLeastMinimal p root.lifted 0 candidate → IsProgress p root limit lifted fs limit root longest candidate
+  progress_start root limit lifted fs longest candidate none set reachable open_call e least = rw none (record {
     at = way_start root [] longest candidate refl reachable open_call e least;
     calls = (lifted, sym (append-nil lifted), set);
     lifts = start limit;
-  }
+  })
     where
       start : (limit : Option ℕ) → IsLeft (AreLifts p [] root.lifted root.state (bound p candidate)) limit limit
       start None = tt
       start (Some most) = (0, omega arith, record { on_path = 0; below = 0; path = refl; many = many_none (IsContinuationBelow p root.lifted root.state (bound p candidate)); total = refl })
 
-  pub step_skip : (root : Configuration State) (limit : Option ℕ) (lifted : List ℕ) (fs : List (Frame State)) (left : Option ℕ) (here : Configuration State) (longest : Longest) (c : ℕ) (candidate : Option ℕ) → ((t : State) → IsNext p here.lifted here.state c t → ⊥) → IsLeastMinimal p here.lifted (c + 1) candidate → IsProgress p root limit lifted fs left here longest (Some c) → GoesOn p root limit lifted fs left here longest candidate (work (length p.calls) fs here.lifted c)
-  step_skip root limit lifted fs left here longest c candidate none least k = (
+  pub step_skip : (root : Configuration State) (limit : Option ℕ) (lifted : List ℕ) (fs : List (Frame State)) (left : Option ℕ) (here : Configuration State) (longest new : Longest) (c : ℕ) (candidate : Option ℕ) → new ≡ longest → ((t : State) → IsNext p here.lifted here.state c t → ⊥) → IsLeastMinimal p here.lifted (c + 1) candidate → IsProgress p root limit lifted fs left here longest (Some c) → GoesOn p root limit lifted fs left here new candidate (work (length p.calls) root.lifted fs here.lifted c)
+  step_skip root limit lifted fs left here longest new c candidate same none least k = rw same (
     record {
-      at = way_skip root fs here longest (Some c) c candidate refl k.at none least;
+      at = way_skip root (levels root.lifted fs) here longest (Some c) c candidate refl k.at none least;
       calls = k.calls;
-      lifts = left_map (AreLifts p fs here.lifted here.state c) (AreLifts p fs here.lifted here.state (bound p candidate)) limit left (λ n. lifts_to p fs here.lifted here.state c (bound p candidate) n (let on = way_on here.lifted c candidate k.at.minimal least in omega (arith, on))) k.lifts;
+      lifts = left_map (AreLifts p (levels root.lifted fs) here.lifted here.state c) (AreLifts p (levels root.lifted fs) here.lifted here.state (bound p candidate)) limit left (λ n. lifts_to p (levels root.lifted fs) here.lifted here.state c (bound p candidate) n (let on = way_on here.lifted c candidate k.at.minimal least in omega (arith, on))) k.lifts;
     },
-    less_on p fs here.lifted (Some c) c candidate refl k.at.minimal least,
+    less_on p (levels root.lifted fs) here.lifted (Some c) c candidate refl k.at.minimal least,
   )
 
-  pub step_hit : (root : Configuration State) (limit : Option ℕ) (lifted : List ℕ) (fs : List (Frame State)) (left after : Option ℕ) (here : Configuration State) (longest deep new : Longest) (c : ℕ) (t : State) (candidate : Option ℕ) → IsTaken left after → IsNext p here.lifted here.state c t → IsRefutedWith p (with_call here.lifted c) t deep → (longest.more < deep.more + 1 → new ≡ record { more = deep.more + 1; first = Some c }) → (deep.more + 1 ≤ longest.more → new ≡ longest) → IsLeastMinimal p here.lifted (c + 1) candidate → IsProgress p root limit lifted fs left here longest (Some c) → GoesOn p root limit lifted fs after here new candidate (work (length p.calls) fs here.lifted c)
-  step_hit root limit lifted fs left after here longest deep new c t candidate taken next refuted longer not_longer least k = (
-    record {
-      at = way_hit root fs here longest deep new (Some c) c t candidate refl k.at next refuted longer not_longer least;
-      calls = k.calls;
-      lifts = left_taken (AreLifts p fs here.lifted here.state c) (AreLifts p fs here.lifted here.state (bound p candidate)) limit left after (λ n h. lifts_to p fs here.lifted here.state (c + 1) (bound p candidate) (n + 1) (way_on here.lifted c candidate k.at.minimal least) (lifts_hit p fs here.lifted here.state c n t k.at.reachable.flags next h)) taken k.lifts;
-    },
-    less_on p fs here.lifted (Some c) c candidate refl k.at.minimal least,
-  )
-
-  pub step_push : (root : Configuration State) (limit : Option ℕ) (lifted : List ℕ) (fs : List (Frame State)) (left after : Option ℕ) (f : Frame State) (child : Configuration State) (longest : Longest) (candidate : Option ℕ) → IsTaken left after → IsNext p f.config.lifted f.config.state f.call child.state → child.lifted ≡ with_call f.config.lifted f.call → IsReachable p child.lifted child.state → (HasEveryCompleted p child.lifted → ⊥) → longest ≡ record { more = 0; first = None } → IsLeastMinimal p child.lifted 0 candidate → IsProgress p root limit lifted fs left f.config f.longest (Some f.call) → GoesOn p root limit (lifted ++ f.call ∷ []) (fs ++ f ∷ []) after child longest candidate (work (length p.calls) fs f.config.lifted f.call)
-  step_push root limit lifted fs left after f child longest candidate taken next set reachable open_call e least k = (
-    record {
-      at = way_push root fs f.config child f.longest longest (Some f.call) f.call candidate refl k.at next set reachable open_call e least;
-      calls = (k.calls.0, ap (λ (l : List ℕ). l ++ f.call ∷ []) k.calls.1 ∙ sym (calls_pushed k.calls.0 (fs ++ f ∷ []) fs f refl), k.calls.2);
-      lifts = left_taken (AreLifts p fs f.config.lifted f.config.state f.call) (AreLifts p (fs ++ f ∷ []) child.lifted child.state (bound p candidate)) limit left after (λ n h. lifts_push p fs f child.lifted child.state (bound p candidate) n h) taken k.lifts;
-    },
-    less_down p root (fs ++ f ∷ []) fs f.config child f.longest (Some f.call) f.call candidate refl refl k.at next set,
-  )
-
-  -- the calls lifted, without that of the last frame
-  pub calls_back : (root : Configuration State) (limit : Option ℕ) (lifted : List ℕ) (fs : List (Frame State)) (f : Frame State) (left : Option ℕ) (here : Configuration State) (longest : Longest) (candidate : Option ℕ) → IsProgress p root limit lifted (fs ++ f ∷ []) left here longest candidate → (before : List ℕ) × (lifted ≡ before ++ f.call ∷ []) × (lifted_set p before ≡ f.config.lifted)
-  calls_back root limit lifted fs f left here longest candidate k = (
-    k.calls.0 ++ calls_of fs,
-    k.calls.1 ∙ calls_pushed k.calls.0 (fs ++ f ∷ []) fs f refl,
-    pop_set k.calls.0 (fs ++ f ∷ []) fs f root here longest candidate (k.calls.0 ++ calls_of fs) refl refl k.calls.2 k.at,
-  )
-
-  pub step_back : (root : Configuration State) (limit : Option ℕ) (lifted unlifted : List ℕ) (fs : List (Frame State)) (f : Frame State) (left : Option ℕ) (here : Configuration State) (longest new : Longest) (candidate : Option ℕ) → ((before : List ℕ) → lifted ≡ before ++ f.call ∷ [] → unlifted ≡ before) → (f.longest.more < longest.more + 1 → new ≡ record { more = longest.more + 1; first = Some f.call }) → (longest.more + 1 ≤ f.longest.more → new ≡ f.longest) → IsLeastMinimal p f.config.lifted (f.call + 1) candidate → IsProgress p root limit lifted (fs ++ f ∷ []) left here longest None → GoesOn p root limit unlifted fs left f.config new candidate (work (length p.calls) (fs ++ f ∷ []) here.lifted (length p.calls))
-  step_back root limit lifted unlifted fs f left here longest new candidate without_last longer not_longer least k =
-      let q = leads_pop p fs f root.lifted root.state here.lifted here.state k.at.path in
-      let minimal = next_minimal p f.config.lifted f.config.state f.call here.state q.1.next in (
+  pub step_hit : (root : Configuration State) (limit : Option ℕ) (lifted unlifted : List ℕ) (fs : List (Frame State)) (left after : Option ℕ) (from here now : Configuration State) (f : Frame State) (deep new : Longest) (candidate : Option ℕ) → IsTaken left after → (k : IsLifted p root limit lifted fs left from f here) → unlifted ≡ k.before → now ≡ from → IsRefutedWith p here.lifted here.state deep → (f.longest.more < deep.more + 1 → new ≡ record { more = deep.more + 1; first = Some f.call }) → (deep.more + 1 ≤ f.longest.more → new ≡ f.longest) → IsLeastMinimal p now.lifted (f.call + 1) candidate → GoesOn p root limit unlifted fs after now new candidate (work (length p.calls) root.lifted fs from.lifted f.call)
+  step_hit root limit lifted unlifted fs left after from here now f deep new candidate taken k back same refuted longer not_longer least =
+      let q = k.progress in
+      let least_here = rw same at least in
+      rw (back, same) (
         record {
-          at = way_pop root (fs ++ f ∷ []) fs f here longest new None candidate refl refl k.at longer not_longer least;
-          calls = (k.calls.0, without_last (k.calls.0 ++ calls_of fs) (k.calls.1 ∙ calls_pushed k.calls.0 (fs ++ f ∷ []) fs f refl), k.calls.2);
-          lifts = left_map (AreLifts p (fs ++ f ∷ []) here.lifted here.state (length p.calls)) (AreLifts p fs f.config.lifted f.config.state (bound p candidate)) limit left (λ n h. lifts_to p fs f.config.lifted f.config.state (f.call + 1) (bound p candidate) n (way_on f.config.lifted f.call candidate minimal least) (lifts_pop p fs f here.lifted here.state (length p.calls) n q.1 q.2 h)) k.lifts;
+          at = way_hit root (levels root.lifted fs) from f.longest deep new (Some f.call) f.call here.state candidate refl q.at k.next (rw k.set at refuted) longer not_longer least_here;
+          calls = q.calls;
+          lifts = left_taken (AreLifts p (levels root.lifted fs) from.lifted from.state f.call) (AreLifts p (levels root.lifted fs) from.lifted from.state (bound p candidate)) limit left after (λ n h. lifts_to p (levels root.lifted fs) from.lifted from.state (f.call + 1) (bound p candidate) (n + 1) (way_on from.lifted f.call candidate q.at.minimal least_here) (lifts_hit p (levels root.lifted fs) from.lifted from.state f.call n here.state q.at.reachable.flags k.next h)) taken q.lifts;
         },
-        less_up p (fs ++ f ∷ []) fs f here.lifted None candidate refl minimal least,
+        less_on p (levels root.lifted fs) from.lifted (Some f.call) f.call candidate refl q.at.minimal least_here,
       )
+
+  pub step_push : (root : Configuration State) (limit : Option ℕ) (lifted : List ℕ) (fs : List (Frame State)) (left after : Option ℕ) (from here : Configuration State) (f : Frame State) (longest : Longest) (candidate : Option ℕ) → IsTaken left after → IsLifted p root limit lifted fs left from f here → (HasEveryCompleted p here.lifted → ⊥) → longest ≡ record { more = 0; first = None } → IsLeastMinimal p here.lifted 0 candidate → GoesOn p root limit lifted (fs ++ f ∷ []) after here longest candidate (work (length p.calls) root.lifted fs from.lifted f.call)
+  step_push root limit lifted fs left after from here f longest candidate taken k open_call e least =
+      let q = k.progress in
+      let ends = levels_end root.lifted fs f from (set_here root limit k.before fs left from f.longest (Some f.call) q) k.state in (
+        record {
+          at = rw ends (way_push root (levels root.lifted fs) from here f.longest longest (Some f.call) f.call candidate refl q.at k.next k.set k.reachable open_call e least);
+          calls = (q.calls.0, k.last ∙ ap (λ (l : List ℕ). l ++ f.call ∷ []) q.calls.1 ∙ sym (calls_pushed q.calls.0 fs f), q.calls.2);
+          lifts = rw ends (left_taken (AreLifts p (levels root.lifted fs) from.lifted from.state f.call) (AreLifts p (levels root.lifted fs ++ level_of from f ∷ []) here.lifted here.state (bound p candidate)) limit left after (λ n h. lifts_push p (levels root.lifted fs) (level_of from f) here.lifted here.state (bound p candidate) n h) taken q.lifts);
+        },
+        rw ends (less_down p root (levels root.lifted fs ++ level_of from f ∷ []) (levels root.lifted fs) from here f.longest (Some f.call) f.call candidate refl refl q.at k.next k.set),
+      )
+
+  pub lifted_now : (root : Configuration State) (limit : Option ℕ) (before lifted : List ℕ) (fs : List (Frame State)) (left : Option ℕ) (from here : Configuration State) (next f : Frame State) → IsProgress p root limit before fs left from next.longest (Some next.call) → IsNext p from.lifted from.state next.call next.state → IsReachable p (with_call from.lifted next.call) next.state → lifted ≡ before ++ next.call ∷ [] → here.lifted ≡ with_call from.lifted next.call → here.state ≡ next.state → f ≡ record { state = from.state; call = next.call; longest = next.longest } → IsLifted p root limit lifted fs left from f here
+  lifted_now root limit before lifted fs left from here next f progress follows reachable last set state is = rw is (record {
+    before = before;
+    progress = progress;
+    last = last;
+    state = refl;
+    set = set;
+    next = rw state follows;
+    reachable = rw (set, state) reachable;
+  })
+
+  -- what is known where a call was lifted
+  module _ (root : Configuration State) (limit : Option ℕ) (lifted : List ℕ) (fs : List (Frame State)) (left : Option ℕ) (from : Configuration State) (f : Frame State) (here : Configuration State) (k : IsLifted p root limit lifted fs left from f here) where
+    set_from : lifted_set p k.before ≡ from.lifted
+    set_from = calls_here root limit k.before fs left from f.longest (Some f.call) k.progress
+
+    pub lifted_here : lifted_set p lifted ≡ here.lifted
+    lifted_here = rw (k.last, with_append (no_calls p) k.before (f.call ∷ []), set_from, k.set) refl
+
+    pub lifted_last : (b : List ℕ) × (lifted ≡ b ++ f.call ∷ []) × IsMinimal p (lifted_set p b) f.call
+    lifted_last = (k.before, k.last, rw set_from k.progress.at.minimal)
+
+    pub lifted_room : (deep : Longest) → IsRefutedWith p here.lifted here.state deep → deep.more < length p.calls
+    lifted_room deep refuted =
+        let known : IsRefutedWith p (with_call from.lifted f.call) here.state deep = rw k.set at refuted in
+        let fits = room p from.lifted from.state f.call here.state deep.more deep.first k.progress.at.reachable.flags k.next known.longest_is in
+        omega (arith, fits)
+
+    -- the call was taken out again
+    pub lifted_back : (unlifted : List ℕ) (now : Configuration State) → unlifted ≡ k.before → lifted_set p unlifted ≡ now.lifted → now.state ≡ f.state → now ≡ from
+    lifted_back unlifted now back set state =
+        let lifted_is : now.lifted ≡ from.lifted = sym set ∙ ap (λ (l : List ℕ). lifted_set p l) back ∙ set_from in
+        let state_is : now.state ≡ from.state = state ∙ k.state in
+        rw (lifted_is, state_is) refl
+
+  -- the configuration that the last frame's call was lifted from
+  module _ (root : Configuration State) (limit : Option ℕ) (lifted : List ℕ) (all fs : List (Frame State)) (f : Frame State) (left : Option ℕ) (here : Configuration State) (longest : Longest) (split : all ≡ fs ++ f ∷ []) (k : IsProgress p root limit lifted all left here longest None) where
+    abbrev unlifted_calls : List ℕ
+    unlifted_calls = k.calls.0 ++ calls_of fs
+
+    abbrev back : Configuration State
+    back = record { lifted = with_calls root.lifted (calls_of fs); state = f.state }
+
+    last_before : lifted ≡ unlifted_calls ++ f.call ∷ []
+    last_before = k.calls.1 ∙ ap (λ (l : List (Frame State)). k.calls.0 ++ calls_of l) split ∙ calls_pushed k.calls.0 fs f
+
+    set_before : lifted_set p unlifted_calls ≡ with_calls root.lifted (calls_of fs)
+    set_before = with_append (no_calls p) k.calls.0 (calls_of fs) ∙ ap (λ (s : List Bool). with_calls s (calls_of fs)) k.calls.2
+
+    at_back : IsAt p root (levels root.lifted fs ++ level_of back f ∷ []) here longest None
+    at_back = rw (levels_end root.lifted fs f back refl refl) at ((rw split at k).at)
+
+    pub pop_last : (b : List ℕ) × (lifted ≡ b ++ f.call ∷ []) × IsMinimal p (lifted_set p b) f.call
+    pop_last = (
+      unlifted_calls,
+      last_before,
+      rw set_before (way_pop_minimal root (levels root.lifted fs ++ level_of back f ∷ []) (levels root.lifted fs) (level_of back f) here longest None refl at_back),
+    )
+
+    pub pop_room : longest.more < length p.calls
+    pop_room =
+        let room = way_pop_room root (levels root.lifted fs ++ level_of back f ∷ []) (levels root.lifted fs) (level_of back f) here longest None refl refl at_back in
+        omega (arith, room)
+
+    -- the set that is left when the call is taken out again
+    pub pop_set : (unlifted : List ℕ) (set : List Bool) → ((b : List ℕ) → lifted ≡ b ++ f.call ∷ [] → unlifted ≡ b) → lifted_set p unlifted ≡ set → with_calls root.lifted (calls_of fs) ≡ set
+    pop_set unlifted set without_last is = sym set_before ∙ ap (λ (l : List ℕ). lifted_set p l) (sym (without_last unlifted_calls last_before)) ∙ is
+
+    pub step_back : (unlifted : List ℕ) (now : Configuration State) (new : Longest) (candidate : Option ℕ) → ((b : List ℕ) → lifted ≡ b ++ f.call ∷ [] → unlifted ≡ b) → lifted_set p unlifted ≡ now.lifted → f.state ≡ now.state → (f.longest.more < longest.more + 1 → new ≡ record { more = longest.more + 1; first = Some f.call }) → (longest.more + 1 ≤ f.longest.more → new ≡ f.longest) → IsLeastMinimal p now.lifted (f.call + 1) candidate → GoesOn p root limit unlifted fs left now new candidate (work (length p.calls) root.lifted all here.lifted (length p.calls))
+    step_back unlifted now new candidate without_last set state longer not_longer least =
+        let ls = levels root.lifted fs in
+        let l = level_of now f in
+        let ends = levels_end root.lifted fs f now (pop_set unlifted now.lifted without_last set) state in
+        let at : IsAt p root (ls ++ l ∷ []) here longest None = rw ends at ((rw split at k).at) in
+        let lifts : IsLeft (AreLifts p (ls ++ l ∷ []) here.lifted here.state (length p.calls)) limit left = rw ends at ((rw split at k).lifts) in
+        let q = leads_pop p ls l root.lifted root.state here.lifted here.state at.path in
+        let minimal = next_minimal p now.lifted now.state f.call here.state q.1.next in (
+          record {
+            at = way_pop root (ls ++ l ∷ []) ls l here longest new None candidate refl refl at longer not_longer least;
+            calls = (k.calls.0, without_last unlifted_calls last_before, k.calls.2);
+            lifts = left_map (AreLifts p (ls ++ l ∷ []) here.lifted here.state (length p.calls)) (AreLifts p ls now.lifted now.state (bound p candidate)) limit left (λ n h. lifts_to p ls now.lifted now.state (f.call + 1) (bound p candidate) n (way_on now.lifted f.call candidate minimal least) (lifts_pop p ls l here.lifted here.state (length p.calls) n q.1 q.2 h)) lifts;
+          },
+          rw (split, ends) (less_up p (ls ++ l ∷ []) ls l here.lifted None candidate refl minimal least),
+        )
+
+  -- all calls here were tried
+  pub refuted_here : (root : Configuration State) (limit : Option ℕ) (lifted : List ℕ) (fs : List (Frame State)) (left : Option ℕ) (here : Configuration State) (longest : Longest) → IsProgress p root limit lifted fs left here longest None → IsRefutedWith p here.lifted here.state longest
+  refuted_here root limit lifted fs left here longest k = way_refuted root (levels root.lifted fs) here longest None refl k.at
+
+  -- the call completes
+  pub found_here : (root : Configuration State) (limit : Option ℕ) (lifted : List ℕ) (fs : List (Frame State)) (left : Option ℕ) (from here : Configuration State) (f : Frame State) → IsLifted p root limit lifted fs left from f here → HasEveryCompleted p here.lifted → IsLeast (IsCompletion p root.lifted root.state) (calls_of fs ++ f.call ∷ [])
+  found_here root limit lifted fs left from here f k all =
+      rw calls_levels at (way_found root (levels root.lifted fs) from here f.longest (Some f.call) f.call refl k.progress.at k.next k.set all)
 
   -- no lift is left, or the stop answered, and one call more can follow
   pub answer_refused : (root : Configuration State) (limit : Option ℕ) (lifted : List ℕ) (fs : List (Frame State)) (left : Option ℕ) (here : Configuration State) (longest : Longest) (c : ℕ) (t : State) (tells : ℕ → Type 0) (o : Outcome) → IsNext p here.lifted here.state c t → IsProgress p root limit lifted fs left here longest (Some c) → IsRefusal left tells o → IsAnswer p root.lifted root.state limit tells o
@@ -492,19 +617,25 @@ module _ {State Op Reply : Type 0} {p : Problem State Op Reply} where
   answer_refused root limit lifted fs left here longest c t tells (Refuted deep) next k h = absurd h
   answer_refused root limit lifted fs left here longest c t tells Undecided next k h = more limit left h k.lifts
     where
-      more : (limit left : Option ℕ) → left ≡ Some 0 → IsLeft (AreLifts p fs here.lifted here.state c) limit left → IsSomeAnd limit (λ (most : ℕ). HasMoreThan (IsContinuation p root.lifted root.state) most)
+      more : (limit left : Option ℕ) → left ≡ Some 0 → IsLeft (AreLifts p (levels root.lifted fs) here.lifted here.state c) limit left → IsSomeAnd limit (λ (most : ℕ). HasMoreThan (IsContinuation p root.lifted root.state) most)
       more None None e l = absurd (cc)
       more (Some most) None e l = absurd l
       more None (Some rest) e l = absurd l
       more (Some most) (Some rest) e l =
           let d = l.1 in
           let z : rest ≡ 0 = cc in
-          many_as (IsContinuation p root.lifted root.state) (l.0 + 1) (most + 1) (omega (arith, d, z)) (lifts_more p fs root.lifted root.state here.lifted here.state c l.0 t k.at.path k.at.reachable.flags next l.2)
+          many_as (IsContinuation p root.lifted root.state) (l.0 + 1) (most + 1) (omega (arith, d, z)) (lifts_more p (levels root.lifted fs) root.lifted root.state here.lifted here.state c l.0 t k.at.path k.at.reachable.flags next l.2)
   answer_refused root limit lifted fs left here longest c t tells (Stopped told) next k h = h
 
   -- all calls of the root were tried
-  pub answer_refuted : (root : Configuration State) (limit : Option ℕ) (lifted : List ℕ) (fs : List (Frame State)) (left : Option ℕ) (here : Configuration State) (longest : Longest) → fs ≡ [] → IsProgress p root limit lifted fs left here longest None → ((l : List ℕ) → IsCompletion p root.lifted root.state l → ⊥) × IsLongest (IsContinuation p root.lifted root.state) longest.more longest.first
-  answer_refuted root limit lifted fs left here longest none k = way_end root fs here longest None none refl k.at
+  pub answer_refuted : (root : Configuration State) (limit : Option ℕ) (lifted : List ℕ) (fs : List (Frame State)) (left : Option ℕ) (here : Configuration State) (longest : Longest) → fs ≡ [] → IsProgress p root limit lifted fs left here longest None → (((l : List ℕ) → IsCompletion p root.lifted root.state l → ⊥) × IsLongest (IsContinuation p root.lifted root.state) longest.more longest.first) × (here ≡ root)
+  answer_refuted root limit lifted fs left here longest none k =
+      let at : IsAt p root [] here longest None = (rw none at k).at in
+      let q = way_root root [] here longest None refl at in
+      (way_end root [] here longest None refl refl at, rw (q.0, q.1) refl)
+
+  pub holds_refuted : (holds : List Bool → State → Type 0) (root : Configuration State) (fs : List (Frame State)) (here : Configuration State) → fs ≡ [] → here ≡ root → HoldsSearched p holds root.lifted fs here None → HoldsSearched p holds root.lifted [] root None
+  holds_refuted holds root fs here none same k = rw same at (rw none at k)
 
 pub not_refusal : (left : Option ℕ) (tells : ℕ → Type 0) (o : Outcome) → IsRefusal left tells o → IsRefutation o → ⊥
 not_refusal left tells (Found order) k h = h
@@ -513,28 +644,31 @@ not_refusal left tells Undecided k h = h
 not_refusal left tells (Stopped told) k h = h
 
 module _ {State Op Reply : Type 0} (p : Problem State Op Reply) where
+  -- an answer that no limit and no stop had a part in
+  pub answer_decided : (set : List Bool) (s : State) (limit : Option ℕ) (tells : ℕ → Type 0) (o : Outcome) → IsDecision p set s o → IsAnswer p set s limit tells o
+  answer_decided set s limit tells (Found order) k = k
+  answer_decided set s limit tells (Refuted longest) k = k
+  answer_decided set s limit tells Undecided k = absurd k
+  answer_decided set s limit tells (Stopped told) k = absurd k
+
+  pub answer_refutes : (set : List Bool) (s : State) (limit : Option ℕ) (tells : ℕ → Type 0) (o : Outcome) (longest : Longest) → o ≡ Refuted longest → IsReachable p set s → IsAnswer p set s limit tells o → IsRefutedWith p set s longest
+  answer_refutes set s limit tells o longest is reachable answer =
+      let refuted : IsAnswer p set s limit tells (Refuted longest) = rw is at answer in
+      record { refuted = record { reachable = reachable; none = refuted.0 }; longest_is = refuted.1 }
+
   -- a step that no stop had a part in
-  pub step_tells : (root : Configuration State) (limit : Option ℕ) (lifted : List ℕ) (fs : List (Frame State)) (left : Option ℕ) (tells : ℕ → Type 0) (before : ℕ) (step : ControlFlow Outcome (Position State)) → IsStep p root limit lifted fs left (λ told. ⊥) before step → IsStep p root limit lifted fs left tells before step
-  step_tells root limit lifted fs left tells before (Continue at) k = k
-  step_tells root limit lifted fs left tells before (Break (Found order)) k = k
-  step_tells root limit lifted fs left tells before (Break (Refuted longest)) k = k
-  step_tells root limit lifted fs left tells before (Break Undecided) k = k
-  step_tells root limit lifted fs left tells before (Break (Stopped told)) k = absurd k
-
-  -- what the memo holds, as the search goes back
-  pub holds_back : (holds : List Bool → State → Type 0) (root : Configuration State) (limit : Option ℕ) (lifted : List ℕ) (old new : List (Frame State)) (left : Option ℕ) (here : Configuration State) (longest : Longest) (step : ControlFlow Outcome (Position State)) → IsStepBack p old new step → IsProgress p root limit lifted old left here longest None → holds here.lifted here.state → HoldsSearched p holds old here None → HoldsStep p root holds new step
-  holds_back holds root limit lifted old new left here longest (Continue at) back k kept h =
-      rw back.2 (holds_pop holds root new back.0 here longest at.candidate (rw back.1 at k.at) kept back.3 (rw back.1 at h))
-  holds_back holds root limit lifted old new left here longest (Break outcome) back k kept h =
-      λ refuted. let q = way_root root old here longest None back k.at in (h.closed, rw (q.0, q.1) kept)
-
-  -- the same of what a search may not give for want of memory
-  pub steps_tell : {E : Type 0} (r : Result (ControlFlow Outcome (Position State)) E) (fs old : List (Frame State)) (lifted was : List ℕ) (here : Configuration State) (longest : Longest) (candidate : Option ℕ) (before : ℕ) (left after : Option ℕ) (tells : ℕ → Type 0) → IsTaken left after → IfOk r (λ step. (root : Configuration State) (limit rest then : Option ℕ) → IsTaken rest then → IsProgress p root limit was old rest here longest candidate → IsStep p root limit lifted fs then (λ told. ⊥) before step) → IfOk r (λ step. (root : Configuration State) (limit : Option ℕ) → IsProgress p root limit was old left here longest candidate → IsStep p root limit lifted fs after tells before step)
-  steps_tell (Ok step) fs old lifted was here longest candidate before left after tells taken k =
-      λ root limit progress. step_tells root limit lifted fs after tells before step (k root limit left after taken progress)
-  steps_tell (Err e) fs old lifted was here longest candidate before left after tells taken k = tt
+  pub step_tells : (root : Configuration State) (limit : Option ℕ) (lifted : List ℕ) (fs : List (Frame State)) (left : Option ℕ) (here : Configuration State) (tells : ℕ → Type 0) (before : ℕ) (step : ControlFlow Outcome Position) → IsStep p root limit lifted fs left here (λ told. ⊥) before step → IsStep p root limit lifted fs left here tells before step
+  step_tells root limit lifted fs left here tells was (Continue at) k = k
+  step_tells root limit lifted fs left here tells was (Break (Found order)) k = k
+  step_tells root limit lifted fs left here tells was (Break (Refuted longest)) k = k
+  step_tells root limit lifted fs left here tells was (Break Undecided) k = k
+  step_tells root limit lifted fs left here tells was (Break (Stopped told)) k = absurd k.0
 
 -- what is told of a result, told otherwise
 pub ok_map : {T E : Type 0} (P Q : T → Type 0) (r : Result T E) → ((x : T) → P x → Q x) → IfOk r P → IfOk r Q
 ok_map P Q (Ok x) f k = f x k
 ok_map P Q (Err e) f k = tt
+
+pub ok_both : {T E : Type 0} (P Q R : T → Type 0) (r : Result T E) → ((x : T) → P x → Q x → R x) → IfOk r P → IfOk r Q → IfOk r R
+ok_both P Q R (Ok x) f k h = f x k h
+ok_both P Q R (Err e) f k h = tt

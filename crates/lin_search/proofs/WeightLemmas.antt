@@ -33,6 +33,10 @@ pub hash_none : (calls : ℕ) → hash_of (replicate calls false) ≡ 0
 unfolding hash_of
 hash_none calls = rw (total_none weight_of 0 calls) refl
 
+pub hash_small : (flags : List Bool) → hash_of flags < 2 ^ 64
+unfolding hash_of
+hash_small flags = omega arith
+
 pub sum_none : (calls : ℕ) → sum_of (replicate calls false) ≡ 0
 unfolding sum_of
 sum_none calls = rw (total_none (λ c. c) 0 calls) refl

@@ -1,12 +1,11 @@
 -- Sets of calls as words of 64 calls: that equal sets have equal words, and what one call more changes.
-use Rattle.std.proofs.Common.{◌≡◌, ◌≢◌, inl, inr, ℕ, ◌+◌, ◌-◌, ◌*◌, ◌/◌, ◌%◌, ◌^◌, ◌<◌, ◌≤◌, true, false, not, cond, eqb, List, [], length, replicate, get_or, set, drop, sym, ◌∙◌, ap, arith, w64, ext_get_or, length-set, get_or-set_same, get_or-set_other, eq-eqb, eqb-true, ne_eqb, true≢false}
+use Rattle.std.proofs.Common.{◌≡◌, ◌≢◌, inl, inr, ℕ, ◌+◌, ◌-◌, ◌*◌, ◌/◌, ◌%◌, ◌^◌, ◌<◌, ◌≤◌, true, false, not, cond, eqb, List, [], length, replicate, get_or, set, drop, take, sym, ◌∙◌, ap, refl, arith, w64, suc, ◌∷◌, ext_get_or, length-set, get_or-set_same, get_or-set_other, eq-eqb, eqb-true, ne_eqb, true≢false}
 use Rattle.std.specs.Prelude.{max, bit_and, bit_or}
-use Rattle.std.specs.Int.{bit_at}
-use Rattle.std.specs.Int.Bits.{or_zero_l}
+use Rattle.std.specs.Int.{bit_at, bit_not}
 use Rattle.std.proofs.lemmas.Bool.{cases_lt, cases_eq, lt-ltb, le-ltb, eqb-false}
-use Rattle.std.proofs.lemmas.Nat.{one_shl, pow_pos, pow_below, or_lt, le_or_r}
-use Rattle.std.proofs.lemmas.Nat.Bits.{bit_at_set_same, bit_at_set_other, bit_at-zero, bit_at-lt, bit_at_ones, and_pow, same_from_bits_below}
-use Rattle.std.proofs.lemmas.List.{get_or_past, get_or-drop, length-drop, length-replicate, get_or-replicate}
+use Rattle.std.proofs.lemmas.Nat.{one_shl, pow_pos, or_lt, le_or_r, and_le_l}
+use Rattle.std.proofs.lemmas.Nat.Bits.{bit_at_set_same, bit_at_set_other, bit_at_clear_same, bit_at_clear_other, bit_at-zero, bit_at-lt, bit_at_ones, and_pow, same_from_bits_below}
+use Rattle.std.proofs.lemmas.List.{get_or_past, get_or-drop, get_or-take, length-drop, length-take, length-replicate, get_or-replicate}
 use Rattle.std.proofs.lemmas.List.FromFn.{length-map-range_with_len, get_or-map-range_with_len}
 use Rattle.lin_search.specs.Window.{word_at, has_bit, flags_of, IsWindow, Adds}
 
@@ -233,103 +232,251 @@ word_fits word c h =
     let bit : 1 * 2 ^ (c % 64) % 2 ^ 64 < 2 ^ 64 = omega arith in
     or_lt 64 word (1 * 2 ^ (c % 64) % 2 ^ 64) h bit
 
--- a single call does not fill a word
-one_is_not_full : (c : ℕ) → 2 ^ (c % 64) ≢ 2 ^ 64 - 1
-one_is_not_full c =
-    elim (cases_lt (c % 64) 63) [
-      | inl h ↦
-          let below : 2 ^ (c % 64) < 2 ^ 63 = pow_below (c % 64) 63 h in
-          omega arith
-      | inr h ↦
-          let top : c % 64 ≡ 63 = omega arith in
-          rw top (omega arith)
-    ]
+-- words that are the same have the same calls
+same_bit : (old new : ℕ → ℕ) → ((i : ℕ) → new i ≡ old i) → (c : ℕ) → has_bit new c ≡ has_bit old c
+unfolding has_bit
+same_bit old new same c = ap (λ x. eqb (bit_at x (c % 64)) 1) (same (c / 64))
 
--- a call that fills the first word comes to a word that is there
-pub some_kept : (ws : List ℕ) (c : ℕ) → bit_or (get_or ws 0 0) (1 * 2 ^ (c % 64) % 2 ^ 64) ≡ 2 ^ 64 - 1 → 0 < length ws
-some_kept ws c full =
-    elim (cases_lt 0 (length ws)) [
-      | inl some ↦ some
-      | inr none ↦
-          let zero : get_or ws 0 0 ≡ 0 = get_or_past ws 0 0 none in
-          absurd (one_is_not_full c (sym (bit_is c) ∙ sym (or_zero_l (1 * 2 ^ (c % 64) % 2 ^ 64)) ∙ rw zero at full))
-    ]
+-- a call is put in: its word is set in the list, which was made longer, and the words that are full then leave it
+module _ (calls f : ℕ) (ws us vs : List ℕ) (c k : ℕ) (window : IsWindow calls f ws) (below : c < calls) (from : f ≤ c / 64)
+    (len : length us ≡ max (length ws) (c / 64 - f + 1))
+    (longer : (i : ℕ) → get_or us i 0 ≡ get_or ws i 0)
+    (is : vs ≡ set us (c / 64 - f) (bit_or (get_or us (c / 64 - f) 0) (1 * 2 ^ (c % 64) % 2 ^ 64)))
+    (all_full : (i : ℕ) → i < k → get_or vs i 0 ≡ 2 ^ 64 - 1)
+    (stops : k < length vs → get_or vs k 0 ≢ 2 ^ 64 - 1) where
+  set_len : length vs ≡ length us
+  set_len = rw is (length-set us (c / 64 - f) (bit_or (get_or us (c / 64 - f) 0) (1 * 2 ^ (c % 64) % 2 ^ 64)))
 
--- the call's word is set in the list
-module _ (f : ℕ) (ws vs : List ℕ) (c : ℕ) (from : f ≤ c / 64)
-    (same : get_or vs (c / 64 - f) 0 ≡ bit_or (get_or ws (c / 64 - f) 0) (1 * 2 ^ (c % 64) % 2 ^ 64))
-    (other : (i : ℕ) → i ≢ c / 64 - f → get_or vs i 0 ≡ get_or ws i 0) where
-  pub adds_set : Adds (word_at f ws) (word_at f vs) c
-  adds_set = record {
-    same = rw (word_at_kept f vs (c / 64) from, word_at_kept f ws (c / 64) from) same;
+  set_same : get_or vs (c / 64 - f) 0 ≡ bit_or (get_or ws (c / 64 - f) 0) (1 * 2 ^ (c % 64) % 2 ^ 64)
+  set_same =
+      rw is
+      (get_or-set_same us (c / 64 - f) (bit_or (get_or us (c / 64 - f) 0) (1 * 2 ^ (c % 64) % 2 ^ 64)) 0 (omega (arith, len))
+      ∙ ap (λ w. bit_or w (1 * 2 ^ (c % 64) % 2 ^ 64)) (longer (c / 64 - f)))
+
+  set_other : (i : ℕ) → i ≢ c / 64 - f → get_or vs i 0 ≡ get_or ws i 0
+  set_other i apart =
+      rw is
+      (get_or-set_other us (c / 64 - f) i (bit_or (get_or us (c / 64 - f) 0) (1 * 2 ^ (c % 64) % 2 ^ 64)) 0 apart
+      ∙ longer i)
+
+  set_adds : Adds (word_at f ws) (word_at f vs) c
+  set_adds = record {
+    same = rw (word_at_kept f vs (c / 64) from, word_at_kept f ws (c / 64) from) set_same;
     other = λ i apart. elim (cases_lt i f) [
       | inl h ↦ word_at_full f vs i h ∙ sym (word_at_full f ws i h)
-      | inr h ↦ word_at_kept f vs i h ∙ other (i - f) (omega arith) ∙ sym (word_at_kept f ws i h)
+      | inr h ↦ word_at_kept f vs i h ∙ set_other (i - f) (omega arith) ∙ sym (word_at_kept f ws i h)
     ];
   }
 
-  pub window_set : (calls : ℕ) → c < calls → IsWindow calls f ws → length vs ≡ max (length ws) (c / 64 - f + 1) → (c / 64 - f ≡ 0 → get_or vs (c / 64 - f) 0 ≢ 2 ^ 64 - 1) → IsWindow calls f vs
-  window_set calls below window len first_open = record {
-    first = λ some. elim (cases_eq (c / 64 - f) 0) [
-      | inl here ↦ rw here at (first_open here)
-      | inr apart ↦
-          let is : get_or vs 0 0 ≡ get_or ws 0 0 = other 0 (omega arith) in
-          elim (cases_lt 0 (length ws)) [
-            | inl was ↦ λ full. window.first was (sym is ∙ full)
-            | inr none ↦
-                let zero : get_or ws 0 0 ≡ 0 = get_or_past ws 0 0 none in
-                omega arith
-          ]
-    ];
-    last = λ some. elim (cases_lt (c / 64 - f + 1) (length ws)) [
+  set_last : 0 < length vs → get_or vs (length vs - 1) 0 ≢ 0
+  set_last some = elim (cases_lt (c / 64 - f + 1) (length ws)) [
+    | inl inside ↦
+        let end : length vs - 1 ≡ length ws - 1 = omega (arith, set_len, len) in
+        rw end (λ zero. window.last (omega arith) (sym (set_other (length ws - 1) (omega arith)) ∙ zero))
+    | inr outside ↦
+        let end : length vs - 1 ≡ c / 64 - f = omega (arith, set_len, len) in
+        rw (end, set_same) (λ zero. let positive = word_positive (get_or ws (c / 64 - f) 0) c in omega arith)
+  ]
+
+  set_small : (i : ℕ) → get_or vs i 0 < 2 ^ 64
+  set_small i = elim (cases_eq i (c / 64 - f)) [
+    | inl here ↦ rw (here, set_same) (word_fits (get_or ws (c / 64 - f) 0) c (window.small (c / 64 - f)))
+    | inr apart ↦ rw (set_other i apart) (window.small i)
+  ]
+
+  dropped_same : (i : ℕ) → word_at (f + k) (drop k vs) i ≡ word_at f vs i
+  dropped_same i = elim (cases_lt i f) [
+    | inl h ↦ word_at_full (f + k) (drop k vs) i (omega arith) ∙ sym (word_at_full f vs i h)
+    | inr h ↦ elim (cases_lt i (f + k)) [
       | inl inside ↦
-          let end : length vs - 1 ≡ length ws - 1 = omega arith in
-          rw end (λ zero. window.last (omega arith) (sym (other (length ws - 1) (omega arith)) ∙ zero))
+          word_at_full (f + k) (drop k vs) i inside
+          ∙ sym (word_at_kept f vs i h ∙ all_full (i - f) (omega arith))
       | inr outside ↦
-          let end : length vs - 1 ≡ c / 64 - f = omega arith in
-          rw (end, same) (λ zero. let positive = word_positive (get_or ws (c / 64 - f) 0) c in omega arith)
-    ];
-    small = λ i. elim (cases_eq i (c / 64 - f)) [
-      | inl here ↦ rw (here, same) (word_fits (get_or ws (c / 64 - f) 0) c (window.small (c / 64 - f)))
-      | inr apart ↦ rw (other i apart) (window.small i)
-    ];
-    within = within_with calls f f ws vs c below window adds_set;
+          let place : k + (i - (f + k)) ≡ i - f = omega arith in
+          word_at_kept (f + k) (drop k vs) i outside
+          ∙ get_or-drop k vs (i - (f + k)) 0
+          ∙ ap (λ n. get_or vs n 0) place
+          ∙ sym (word_at_kept f vs i h)
+    ]
+  ]
+
+  pub inserted_adds : Adds (word_at f ws) (word_at (f + k) (drop k vs)) c
+  inserted_adds = record {
+    same = dropped_same (c / 64) ∙ set_adds.same;
+    other = λ i apart. dropped_same i ∙ set_adds.other i apart;
   }
 
--- the call fills the first word, and the words that are full leave the list
-module _ (f : ℕ) (ws : List ℕ) (c : ℕ) (end : ℕ) (here : c / 64 ≡ f) (bounds : 1 ≤ end)
-    (fills : bit_or (get_or ws 0 0) (1 * 2 ^ (c % 64) % 2 ^ 64) ≡ 2 ^ 64 - 1)
-    (all_full : (i : ℕ) → 1 ≤ i → i < end → get_or ws i 0 ≡ 2 ^ 64 - 1) where
-  pub adds_dropped : Adds (word_at f ws) (word_at (f + end) (drop end ws)) c
-  adds_dropped = record {
-    same =
-        let place : f + 0 ≡ f = omega arith in
-        let first : word_at f ws f ≡ get_or ws 0 0 = rw place at (word_at_plus f ws 0) in
-        rw (here, first, fills) (word_at_full (f + end) (drop end ws) f (omega arith));
-    other = λ i apart. elim (cases_lt i f) [
-      | inl h ↦ word_at_full (f + end) (drop end ws) i (omega arith) ∙ sym (word_at_full f ws i h)
-      | inr h ↦ elim (cases_lt i (f + end)) [
-        | inl inside ↦
-            word_at_full (f + end) (drop end ws) i inside
-            ∙ sym (word_at_kept f ws i h ∙ all_full (i - f) (omega arith) (omega arith))
-        | inr outside ↦
-            let place : end + (i - (f + end)) ≡ i - f = omega arith in
-            word_at_kept (f + end) (drop end ws) i outside
-            ∙ get_or-drop end ws (i - (f + end)) 0
-            ∙ ap (λ k. get_or ws k 0) place
-            ∙ sym (word_at_kept f ws i h)
-      ]
-    ];
-  }
-
-  pub window_dropped : (calls : ℕ) → c < calls → IsWindow calls f ws → (end < length ws → get_or ws end 0 ≢ 2 ^ 64 - 1) → IsWindow calls (f + end) (drop end ws)
-  window_dropped calls below window stops = record {
+  pub inserted_window : IsWindow calls (f + k) (drop k vs)
+  inserted_window = record {
     first = λ some.
-        let place : end + 0 ≡ end = omega arith in
-        rw (get_or-drop end ws 0 0, place) (stops (omega (arith, length-drop end ws)));
+        let place : k + 0 ≡ k = omega arith in
+        rw (get_or-drop k vs 0 0, place) (stops (omega (arith, length-drop k vs)));
     last = λ some.
-        let place : end + (length (drop end ws) - 1) ≡ length ws - 1 = omega (arith, length-drop end ws) in
-        rw (get_or-drop end ws (length (drop end ws) - 1) 0, place) (window.last (omega (arith, length-drop end ws)));
-    small = λ i. rw (get_or-drop end ws i 0) (window.small (end + i));
-    within = within_with calls f (f + end) ws (drop end ws) c below window adds_dropped;
+        let place : k + (length (drop k vs) - 1) ≡ length vs - 1 = omega (arith, length-drop k vs) in
+        rw (get_or-drop k vs (length (drop k vs) - 1) 0, place) (set_last (omega (arith, length-drop k vs)));
+    small = λ i. rw (get_or-drop k vs i 0) (set_small (k + i));
+    within = within_with calls f (f + k) ws (drop k vs) c below window inserted_adds;
   }
+
+-- ---- the window with one call less
+
+-- one word more in front, where one leading word less is counted
+pub opened_one : (f : ℕ) (ws : List ℕ) → 0 < f → (i : ℕ) → word_at (f - 1) ((2 ^ 64 - 1) ∷ ws) i ≡ word_at f ws i
+opened_one f ws some i = elim (cases_lt i (f - 1)) [
+  | inl h ↦ word_at_full (f - 1) ((2 ^ 64 - 1) ∷ ws) i h ∙ sym (word_at_full f ws i (omega arith))
+  | inr h ↦ elim (cases_eq i (f - 1)) [
+    | inl here ↦
+        let place : i - (f - 1) ≡ 0 = omega arith in
+        word_at_kept (f - 1) ((2 ^ 64 - 1) ∷ ws) i h
+        ∙ ap (λ n. get_or ((2 ^ 64 - 1) ∷ ws) n 0) place
+        ∙ sym (word_at_full f ws i (omega arith))
+    | inr apart ↦
+        let place : i - (f - 1) ≡ suc (i - f) = omega arith in
+        word_at_kept (f - 1) ((2 ^ 64 - 1) ∷ ws) i h
+        ∙ ap (λ n. get_or ((2 ^ 64 - 1) ∷ ws) n 0) place
+        ∙ sym (word_at_kept f ws i (omega arith))
+  ]
+]
+
+bit_one : (word k : ℕ) → eqb (bit_at word k) 1 ≡ true → bit_at word k ≡ 1
+bit_one word k e = eqb-true (bit_at word k) 1 e
+
+-- a word with a call is not 0
+pub word_there : (word : ℕ → ℕ) (c : ℕ) → has_bit word c ≡ true → word (c / 64) ≢ 0
+unfolding has_bit
+word_there word c there zero =
+    let one : bit_at (word (c / 64)) (c % 64) ≡ 1 = bit_one (word (c / 64)) (c % 64) there in
+    let none : bit_at (word (c / 64)) (c % 64) ≡ 0 = rw zero (bit_at-zero (c % 64)) in
+    omega arith
+
+-- a bit that is cleared and set again
+cleared_set : (word k : ℕ) → word < 2 ^ 64 → k < 64 → bit_at word k ≡ 1 → word ≡ bit_or (bit_and word (bit_not w64 (1 * 2 ^ k % 2 ^ 64))) (1 * 2 ^ k % 2 ^ 64)
+cleared_set word k fits h one =
+    let small : bit_and word (bit_not w64 (1 * 2 ^ k % 2 ^ 64)) < 2 ^ 64 = omega (arith, and_le_l word (bit_not w64 (1 * 2 ^ k % 2 ^ 64))) in
+    let bit : 1 * 2 ^ k % 2 ^ 64 < 2 ^ 64 = omega arith in
+    same_from_bits_below 64 word (bit_or (bit_and word (bit_not w64 (1 * 2 ^ k % 2 ^ 64))) (1 * 2 ^ k % 2 ^ 64)) fits
+    (or_lt 64 (bit_and word (bit_not w64 (1 * 2 ^ k % 2 ^ 64))) (1 * 2 ^ k % 2 ^ 64) small bit)
+    (λ i below. elim (cases_eq i k) [
+      | inl here ↦ rw here (one ∙ sym (bit_at_set_same w64 (bit_and word (bit_not w64 (1 * 2 ^ k % 2 ^ 64))) k h))
+      | inr other ↦
+          sym (bit_at_set_other w64 (bit_and word (bit_not w64 (1 * 2 ^ k % 2 ^ 64))) k h i other ∙ bit_at_clear_other w64 word k h i below other)
+    ])
+
+-- the full words up to the call's own come back into the list
+module _ (f g : ℕ) (ws us : List ℕ) (c : ℕ)
+    (there : has_bit (word_at f ws) c ≡ true)
+    (same : (i : ℕ) → word_at g us i ≡ word_at f ws i)
+    (opened : c / 64 < f → g ≡ c / 64)
+    (kept : f ≤ c / 64 → (g ≡ f) × (us ≡ ws)) where
+  opened_from : g ≤ c / 64
+  opened_from = elim (cases_lt (c / 64) f) [ inl h ↦ omega (arith, opened h) | inr h ↦ omega (arith, (kept h).0) ]
+
+  opened_word : get_or us (c / 64 - g) 0 ≡ word_at f ws (c / 64)
+  opened_word = sym (word_at_kept g us (c / 64) opened_from) ∙ same (c / 64)
+
+  pub opened_within : c / 64 - g < length us
+  opened_within = elim (cases_lt (c / 64 - g) (length us)) [
+    | inl h ↦ h
+    | inr h ↦ absurd (word_there (word_at f ws) c there (sym opened_word ∙ get_or_past us (c / 64 - g) 0 h))
+  ]
+
+-- a call is taken out: its bit is cleared, and the words that are 0 then leave the end
+module _ (calls f g : ℕ) (ws us vs xs : List ℕ) (c : ℕ) (window : IsWindow calls f ws)
+    (there : has_bit (word_at f ws) c ≡ true)
+    (same : (i : ℕ) → word_at g us i ≡ word_at f ws i)
+    (opened : c / 64 < f → g ≡ c / 64)
+    (kept : f ≤ c / 64 → (g ≡ f) × (us ≡ ws))
+    (is : vs ≡ set us (c / 64 - g) (bit_and (get_or us (c / 64 - g) 0) (bit_not w64 (1 * 2 ^ (c % 64) % 2 ^ 64))))
+    (shorter : (i : ℕ) → get_or xs i 0 ≡ get_or vs i 0)
+    (last : 0 < length xs → get_or xs (length xs - 1) 0 ≢ 0) where
+  from : g ≤ c / 64
+  from = opened_from f g ws us c there same opened kept
+
+  word_is : get_or us (c / 64 - g) 0 ≡ word_at f ws (c / 64)
+  word_is = opened_word f g ws us c there same opened kept
+
+  taken_within : c / 64 - g < length us
+  taken_within = opened_within f g ws us c there same opened kept
+
+  word_one : bit_at (word_at f ws (c / 64)) (c % 64) ≡ 1
+  unfolding has_bit
+  word_one = bit_one (word_at f ws (c / 64)) (c % 64) there
+
+  cleared : get_or xs (c / 64 - g) 0 ≡ bit_and (word_at f ws (c / 64)) (bit_not w64 (1 * 2 ^ (c % 64) % 2 ^ 64))
+  cleared =
+      shorter (c / 64 - g)
+      ∙ rw is
+      (get_or-set_same us (c / 64 - g) (bit_and (get_or us (c / 64 - g) 0) (bit_not w64 (1 * 2 ^ (c % 64) % 2 ^ 64))) 0 taken_within
+      ∙ ap (λ w. bit_and w (bit_not w64 (1 * 2 ^ (c % 64) % 2 ^ 64))) word_is)
+
+  others : (i : ℕ) → i ≢ c / 64 - g → get_or xs i 0 ≡ get_or us i 0
+  others i apart =
+      shorter i
+      ∙ rw is
+      (get_or-set_other us (c / 64 - g) i (bit_and (get_or us (c / 64 - g) 0) (bit_not w64 (1 * 2 ^ (c % 64) % 2 ^ 64))) 0 apart)
+
+  pub removed_adds : Adds (word_at g xs) (word_at f ws) c
+  removed_adds = record {
+    same =
+        rw (word_at_kept g xs (c / 64) from, cleared)
+        (cleared_set (word_at f ws (c / 64)) (c % 64) (word_at_small calls f ws window (c / 64)) (omega arith) word_one);
+    other = λ i apart. elim (cases_lt i g) [
+      | inl h ↦ sym (same i) ∙ word_at_full g us i h ∙ sym (word_at_full g xs i h)
+      | inr h ↦ sym (same i) ∙ word_at_kept g us i h ∙ sym (word_at_kept g xs i h ∙ others (i - g) (omega (arith, from)))
+    ];
+  }
+
+  cleared_bit : bit_at (get_or xs (c / 64 - g) 0) (c % 64) ≡ 0
+  cleared_bit = rw cleared (bit_at_clear_same w64 (word_at f ws (c / 64)) (c % 64) (omega arith))
+
+  pub removed_out : has_bit (word_at g xs) c ≡ false
+  unfolding has_bit
+  removed_out = rw (word_at_kept g xs (c / 64) from, cleared_bit) refl
+
+  not_opened : c / 64 - g ≢ 0 → f ≤ c / 64
+  not_opened apart = elim (cases_lt (c / 64) f) [
+    | inl h ↦
+        let none : c / 64 - g ≡ 0 = omega (arith, opened h) in
+        absurd (apart none)
+    | inr h ↦ h
+  ]
+
+  pub removed_window : IsWindow calls g xs
+  removed_window = record {
+    first = λ some full. elim (cases_eq (c / 64 - g) 0) [
+      | inl here ↦
+          let ones : bit_at (2 ^ 64 - 1) (c % 64) ≡ 1 = bit_at_ones 64 (c % 64) (omega arith) in
+          let none : bit_at (2 ^ 64 - 1) (c % 64) ≡ 0 = rw (here, full) at cleared_bit in
+          omega arith
+      | inr apart ↦
+          let at = kept (not_opened apart) in
+          let some_words : 0 < length us = omega (arith, taken_within) in
+          window.first (rw at.1 at some_words) (rw at.1 at (sym (others 0 (λ e. apart (sym e))) ∙ full))
+    ];
+    last = last;
+    small = λ i. elim (cases_eq i (c / 64 - g)) [
+      | inl here ↦
+          let fits = word_at_small calls f ws window (c / 64) in
+          rw (here, cleared) (omega (arith, fits, and_le_l (word_at f ws (c / 64)) (bit_not w64 (1 * 2 ^ (c % 64) % 2 ^ 64))))
+      | inr apart ↦
+          let fits = word_at_small calls f ws window (g + i) in
+          rw (others i apart ∙ sym (word_at_plus g us i) ∙ same (g + i)) fits
+    ];
+    within = λ k past. elim (cases_eq k c) as (λ _. has_bit (word_at g xs) k ≡ false) [
+      | inl here ↦ rw here removed_out
+      | inr other ↦ sym (has_others (word_at g xs) (word_at f ws) c removed_adds k other) ∙ window.within k past
+    ];
+  }
+
+-- a last word that is 0 may leave the list
+pub taken_zero : (ws : List ℕ) → get_or ws (length ws - 1) 0 ≡ 0 → (i : ℕ) → get_or (take (length ws - 1) ws) i 0 ≡ get_or ws i 0
+taken_zero ws zero i = elim (cases_lt i (length ws - 1)) [
+  | inl h ↦ get_or-take (length ws - 1) ws i 0 h
+  | inr h ↦
+      let short : length (take (length ws - 1) ws) ≤ i = omega (arith, length-take (length ws - 1) ws) in
+      get_or_past (take (length ws - 1) ws) i 0 short
+      ∙ (elim (cases_eq i (length ws - 1)) as (λ _. 0 ≡ get_or ws i 0) [
+        | inl here ↦ rw here (sym zero)
+        | inr apart ↦ sym (get_or_past ws i 0 (omega arith))
+      ])
+]

@@ -1,5 +1,6 @@
 //! Sets of calls, kept as words of bits.
-ghost use Rattle.std.specs.Prelude.{◌≡◌, ◌≢◌, ℕ, ◌+◌, ◌-◌, ◌*◌, ◌/◌, ◌%◌, ◌^◌, ◌<◌, ◌≤◌, ◌↔◌, Bool, false, max, length, replicate, drop, slice_index, bit_or, IfOk, IsTrue};
+ghost use Rattle.std.specs.Prelude.{◌≡◌, ◌≢◌, ℕ, ◌+◌, ◌-◌, ◌*◌, ◌/◌, ◌%◌, ◌^◌, ◌<◌, ◌≤◌, ◌↔◌, Bool, false, true, max, length, replicate, drop, slice_index, slice_set, bit_and, bit_or, IfOk, OnErr, IsTrue};
+ghost use Rattle.std.specs.Int.{bit_not, w64};
 ghost use Rattle.lin_history.specs.Problems.Continuations.{has};
 ghost use Rattle.lin_search.specs.CallSet.{with_call, sum_of, folded, weight_of};
 ghost use Rattle.lin_search.specs.Window.{word_at};
@@ -129,38 +130,86 @@ fn are_same(a: &[u64], b: &[u64]) -> bool
     a == b
 }
 
-// The first index from 1 on whose word is not full, or the length.
-fn end_of_full(words: &[u64]) -> usize
-    requires { 0 < length words.now }
-    ensures bounds { (1 ≤ result) × (result ≤ length words.now) }
-    ensures full { (i : ℕ) → 1 ≤ i → i < result → slice_index words.now i ≡ 2 ^ 64 - 1 }
-    ensures stops { result < length words.now → slice_index words.now result ≢ 2 ^ 64 - 1 }
+// Puts words of 0 at the end, up to one at the index.
+fn lengthen(words: &mut SmallVec<u64, 4>, index: usize) -> Result<(), AllocError>
+    requires { index < 2 ^ 63 }
+    ensures len { IfOk result (λ done. length words.new.items
+        ≡ max (length words.old.items) (index + 1)) }
+    ensures same { (i : ℕ) → slice_index words.new.items i ≡ slice_index words.old.items i }
+    ensures err { OnErr result (words.new ≡ words.old) }
 {
-    let mut end = 1;
-    while end < words.len() && words[end] == u64::MAX {
-        end += 1;
+    if index < words.len() {
+        return Ok(());
     }
-    end
+    words.reserve(index + 1 - words.len())?;
+    while words.len() <= index {
+        words.push_reserved(0);
+    }
+    Ok(())
 }
 
-// The words with this one at an index, and with 0 where there were none before it.
-fn with_word(
-    alloc: Global,
-    words: &[u64],
-    index: usize,
-    word: u64,
-) -> Result<SmallVec<u64, 4>, AllocError>
-    ensures len { IfOk result (λ new. length new.items ≡ max (length words.now) (index + 1)) }
-    ensures same { IfOk result (λ new. slice_index new.items index ≡ word) }
-    ensures other { IfOk result (λ new. (i : ℕ) → i ≢ index
-        → slice_index new.items i ≡ slice_index words.now i) }
+// Sets the call's bit in the word at the index.
+fn set_bit(words: &mut SmallVec<u64, 4>, index: usize, call: usize)
+    requires { index < length words.old.items }
+    ensures { words.new.items ≡ slice_set words.old.items index
+        (bit_or (slice_index words.old.items index) (1 * 2 ^ (call % 64) % 2 ^ 64)) }
 {
-    let mut new = SmallVec::from_slice(alloc, words)?;
-    while new.len() <= index {
-        new.push(0)?;
+    words.as_mut_slice()[index] |= bit(call);
+}
+
+// Takes the leading full words out, and tells how many they were.
+fn drop_full(words: &mut SmallVec<u64, 4>) -> usize
+    ensures within { result ≤ length words.old.items }
+    ensures rest { words.new.items ≡ drop result words.old.items }
+    ensures full { (i : ℕ) → i < result → slice_index words.old.items i ≡ 2 ^ 64 - 1 }
+    ensures stops { result < length words.old.items
+        → slice_index words.old.items result ≢ 2 ^ 64 - 1 }
+{
+    let len = words.len();
+    let mut count = 0;
+    while count < len && words.as_slice()[0] == u64::MAX {
+        words.remove(0);
+        count += 1;
     }
-    new.as_mut_slice()[index] = word;
-    Ok(new)
+    count
+}
+
+// Puts full words in front, from the one at the index on, where so many leading words are full.
+fn open_full(full: &mut usize, words: &mut SmallVec<u64, 4>, index: usize) -> Result<(), AllocError>
+    ensures same { (i : ℕ) → word_at full.new words.new.items i
+        ≡ word_at full.old words.old.items i }
+    ensures opened { IfOk result (λ done. index < full.old → full.new ≡ index) }
+    ensures kept { full.old ≤ index → (full.new ≡ full.old)
+        × (words.new.items ≡ words.old.items) }
+    ensures err { OnErr result ((full.new ≡ full.old) × (words.new ≡ words.old)) }
+{
+    words.reserve(full.saturating_sub(index))?;
+    while *full > index {
+        words.insert(0, u64::MAX)?;
+        *full -= 1;
+    }
+    Ok(())
+}
+
+// Clears the call's bit, which is set, in the word at the index.
+fn clear_bit(words: &mut SmallVec<u64, 4>, index: usize, call: usize)
+    requires { index < length words.old.items }
+    ensures { words.new.items ≡ slice_set words.old.items index
+        (bit_and (slice_index words.old.items index)
+        (bit_not w64 (1 * 2 ^ (call % 64) % 2 ^ 64))) }
+{
+    words.as_mut_slice()[index] &= !bit(call);
+}
+
+// Takes the words of 0 at the end out.
+fn drop_empty(words: &mut SmallVec<u64, 4>)
+    ensures same { (i : ℕ) → slice_index words.new.items i ≡ slice_index words.old.items i }
+    ensures last { 0 < length words.new.items
+        → slice_index words.new.items (length words.new.items - 1) ≢ 0 }
+{
+    while words.len() > 0 && words.as_slice()[words.len() - 1] == 0 {
+        words.pop();
+    }
 }
 
 impl CallSet {
@@ -204,35 +253,32 @@ impl CallSet {
         self.sum
     }
 
-    // The set with one call more.
-    pub(crate) fn with_call(&self, alloc: Global, call: usize) -> Result<CallSet, AllocError>
-        requires { call < length self.now }
-        ensures { IfOk result (λ set. set ≡ with_call self.now call) }
+    // Puts the call, which is not in the set, in. Where memory was refused nothing changes.
+    pub(crate) fn insert(&mut self, call: usize) -> Result<(), AllocError>
+        requires within { call < length self.old }
+        requires outside { has self.old call ≡ false }
+        ensures { IfOk result (λ done. self.new ≡ with_call self.old call) }
     {
-        if self.has(call) {
-            return self.copy(alloc);
-        }
-        let words = self.words.as_slice();
         let index = call / 64 - self.full;
-        let word = word_or_zero(words, index) | bit(call);
-        let hash = self.hash.wrapping_add(weight(call));
-        let sum = self.sum + call as u64;
-        if index == 0 && word == u64::MAX {
-            let end = end_of_full(words);
-            return Ok(CallSet {
-                hash,
-                sum,
-                calls: self.calls,
-                full: self.full + end,
-                words: SmallVec::from_slice(alloc, &words[end..])?,
-            });
-        }
-        Ok(CallSet {
-            hash,
-            sum,
-            calls: self.calls,
-            full: self.full,
-            words: with_word(alloc, words, index, word)?,
-        })
+        lengthen(&mut self.words, index)?;
+        set_bit(&mut self.words, index, call);
+        self.full += drop_full(&mut self.words);
+        self.hash = self.hash.wrapping_add(weight(call));
+        self.sum += call as u64;
+        Ok(())
+    }
+
+    // Takes the call, which is in the set, out. Where memory was refused nothing changes.
+    pub(crate) fn remove(&mut self, call: usize) -> Result<(), AllocError>
+        requires { has self.old call ≡ true }
+        ensures before { IfOk result (λ done. with_call self.new call ≡ self.old) }
+        ensures outside { IfOk result (λ done. has self.new call ≡ false) }
+    {
+        open_full(&mut self.full, &mut self.words, call / 64)?;
+        clear_bit(&mut self.words, call / 64 - self.full, call);
+        drop_empty(&mut self.words);
+        self.hash = self.hash.wrapping_sub(weight(call));
+        self.sum -= call as u64;
+        Ok(())
     }
 }

@@ -1,5 +1,5 @@
 //! Configurations: a set of lifted calls, and the state that they lead to.
-ghost use Rattle.std.specs.Prelude.{◌≡◌, ℕ, ◌<◌, ◌≤◌, ◌↔◌, true, length, IfOk, IfSome, IfNone, IsTrue};
+ghost use Rattle.std.specs.Prelude.{◌≡◌, ℕ, ◌<◌, ◌≤◌, ◌↔◌, true, false, length, IfOk, IfSome, IfNone, IsTrue};
 ghost use Rattle.lin_history.specs.Problems.Problem.{problem_of};
 ghost use Rattle.lin_history.specs.Problems.LegalLists.{next};
 ghost use Rattle.lin_history.specs.Problems.Precedence.{Before};
@@ -15,6 +15,7 @@ use lin_object::{SeqObject, lawful};
 use std::alloc::{AllocError, Global};
 use std::hash::{Hash, Hasher};
 use std::marker::Model;
+use std::mem;
 
 /// A configuration of a problem: the set of the calls that are lifted, and the state that they lead to
 /// (Lowe 2017). Two are equal, and are hashed alike, where their sets are the same and their states equal.
@@ -185,43 +186,75 @@ impl<O: SeqObject> Config<O> {
             ((t : O.State) → IsNext (problem_of O.after O.State.eq O.Reply.eq problem.now)
             self.now.lifted self.now.state call t → ⊥)) }
     {
-        if is_minimal(problem, &self.lifted, call) {
-            self.child_of_minimal(alloc, problem, call)
-        } else {
-            Ok(None)
+        if !is_minimal(problem, &self.lifted, call) {
+            return Ok(None);
         }
+        let Some(state) = self.next_state(alloc, problem, call)? else {
+            return Ok(None);
+        };
+        let mut lifted = self.lifted.copy(alloc)?;
+        lifted.insert(call)?;
+        Ok(Some(Config { lifted, state }))
     }
 
-    // `child` of a call that is minimal: its cost does not grow with the number of calls.
-    pub(crate) fn child_of_minimal(
+    // The state that the call, which is minimal, leads to. `None` exactly where it has no step from the state, or its
+    // step's reply is not the recorded one.
+    pub(crate) fn next_state(
         &self,
         alloc: Global,
         problem: &Problem<O>,
         call: usize,
-    ) -> Result<Option<Config<O>>, AllocError>
+    ) -> Result<Option<O::State>, AllocError>
         requires reachable { IsReachable (problem_of O.after O.State.eq O.Reply.eq problem.now)
             self.now.lifted self.now.state }
         requires minimal { IsMinimal (problem_of O.after O.State.eq O.Reply.eq problem.now)
             self.now.lifted call }
-        ensures some { IfOk result (λ answer. IfSome answer
-            (λ child. (child.lifted ≡ with_call self.now.lifted call)
-            × IsNext (problem_of O.after O.State.eq O.Reply.eq problem.now) self.now.lifted
-            self.now.state call child.state)) }
+        ensures next { IfOk result (λ answer. IfSome answer
+            (λ t. IsNext (problem_of O.after O.State.eq O.Reply.eq problem.now) self.now.lifted
+            self.now.state call t)) }
         ensures reachable { IfOk result (λ answer. IfSome answer
-            (λ child. IsReachable (problem_of O.after O.State.eq O.Reply.eq problem.now)
-            child.lifted child.state)) }
+            (λ t. IsReachable (problem_of O.after O.State.eq O.Reply.eq problem.now)
+            (with_call self.now.lifted call) t)) }
         ensures none { IfOk result (λ answer. IfNone answer
             ((t : O.State) → IsNext (problem_of O.after O.State.eq O.Reply.eq problem.now)
             self.now.lifted self.now.state call t → ⊥)) }
     {
         lawful::<O>();
-        let Some(state) = state_after(alloc, problem, &self.state, call)? else {
-            return Ok(None);
-        };
-        Ok(Some(Config {
-            lifted: self.lifted.with_call(alloc, call)?,
-            state,
-        }))
+        state_after(alloc, problem, &self.state, call)
+    }
+
+    // Lifts the call, which is not lifted and leads to the state. The state before it comes in that one's place.
+    pub(crate) fn lift(&mut self, call: usize, state: &mut O::State) -> Result<(), AllocError>
+        requires within { call < length self.old.lifted }
+        requires outside { has self.old.lifted call ≡ false }
+        ensures lifted { IfOk result (λ done. self.new.lifted ≡ with_call self.old.lifted call) }
+        ensures state { IfOk result (λ done. self.new.state ≡ state.old) }
+        ensures before { IfOk result (λ done. state.new ≡ self.old.state) }
+    {
+        self.lifted.insert(call)?;
+        mem::swap(&mut self.state, state);
+        Ok(())
+    }
+
+    // Takes the call, which is lifted, out again, and puts the state before it in. The state that it led to comes in
+    // that one's place.
+    pub(crate) fn unlift(&mut self, call: usize, state: &mut O::State) -> Result<(), AllocError>
+        requires { has self.old.lifted call ≡ true }
+        ensures lifted { IfOk result (λ done. with_call self.new.lifted call ≡ self.old.lifted) }
+        ensures outside { IfOk result (λ done. has self.new.lifted call ≡ false) }
+        ensures state { IfOk result (λ done. self.new.state ≡ state.old) }
+        ensures after { IfOk result (λ done. state.new ≡ self.old.state) }
+    {
+        self.lifted.remove(call)?;
+        mem::swap(&mut self.state, state);
+        Ok(())
+    }
+
+    // The calls that are lifted.
+    pub(crate) fn lifted(&self) -> &CallSet
+        ensures { result.now ≡ self.now.lifted }
+    {
+        &self.lifted
     }
 
     /// A configuration equal to this one. `AllocError` where memory was refused.

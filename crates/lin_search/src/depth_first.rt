@@ -1,18 +1,18 @@
 //! The depth-first search over a memo (Wing and Gong 1993; Lowe 2017), step by step.
-ghost use Rattle.std.specs.Prelude.{◌≡◌, ℕ, ◌⊎◌, ◌++◌, ◌∷◌, Bool, List, Option, Some, None, [], length, true, IfOk, IfSome, IfNone, IsTrue};
+ghost use Rattle.std.specs.Prelude.{◌≡◌, ℕ, ◌++◌, ◌∷◌, Bool, List, Option, Some, None, [], length, true, IfOk, IfSome, IfNone, IsTrue};
 ghost use Rattle.lin_history.specs.Problems.Problem.{problem_of};
 ghost use Rattle.lin_history.specs.Problems.Configurations.{IsReachable};
-ghost use Rattle.lin_search.specs.Answer.{IsAnswer, IsRefutation};
+ghost use Rattle.lin_search.specs.Answer.{IsAnswer, IsDecision, IsRefutation};
 ghost use Rattle.lin_search.specs.CallSet.{with_call, lifted_set};
-ghost use Rattle.lin_search.specs.Memo.{IsClosed};
+ghost use Rattle.lin_search.specs.Memo.{IsClosed, IsKept};
 ghost use Rattle.lin_search.specs.Configuration.{Configuration};
 ghost use Rattle.lin_search.specs.NextCall.{IsNext, HasEveryCompleted};
 ghost use Rattle.lin_search.specs.Refutation.{IsRefutedWith};
-ghost use Rattle.lin_search.specs.Memo.{IsKept};
 ghost use Rattle.lin_search.specs.Path.{Frame as PathFrame, calls_of};
-ghost use Rattle.lin_search.specs.declared.outcome.Outcome.TheVariants.{Found};
+ghost use Rattle.lin_search.specs.declared.longest.Longest.{Longest};
+ghost use Rattle.lin_search.specs.declared.outcome.Outcome.TheVariants.{Found, Refuted};
 ghost use Rattle.std.proofs.Common.{Break};
-ghost use Rattle.lin_search.specs.Progress.{IsProgress, IsStep, HoldsSearched, HoldsStep, IsTaken, IsRefusal, bound, work};
+ghost use Rattle.lin_search.specs.Progress.{IsProgress, IsStep, IsLifted, HoldsSearched, HoldsStep, IsTaken, IsRefusal, bound, work};
 
 use crate::config::Config;
 use crate::longest::Longest;
@@ -31,6 +31,19 @@ pub(crate) struct Ended {
     pub(crate) outcome: Outcome,
     /// Whether the memo kept all that it was handed.
     pub(crate) whole: bool,
+}
+
+impl Ended {
+    // The same, where this tells whether the memo has one configuration more.
+    fn with_note(self, is_kept: bool) -> Ended
+        ensures outcome { result.outcome ≡ self.outcome }
+        ensures whole { IsTrue result.whole → IsTrue self.whole × IsTrue is_kept }
+    {
+        Ended {
+            outcome: self.outcome,
+            whole: self.whole && is_kept,
+        }
+    }
 }
 
 // Asks the memo for a configuration; `is_for_problem` tells that it names the problem.
@@ -67,10 +80,11 @@ fn note_at<O: SeqObject, M: Memo<O>>(
     requires of { IsTrue is_for_problem → M.is_of memo.old problem.now }
     requires refuted { IsRefutedWith (problem_of O.after O.State.eq O.Reply.eq problem.now)
         config.lifted config.state longest }
-    ensures holds { IsKept result → (frames : List (PathFrame O.State))
+    ensures holds { IsKept result → (root : List Bool) (frames : List (PathFrame O.State))
         → HoldsSearched (problem_of O.after O.State.eq O.Reply.eq problem.now) (M.holds memo.old)
-        frames config None → HoldsSearched (problem_of O.after O.State.eq O.Reply.eq problem.now)
-        (M.holds memo.new) frames config None × M.holds memo.new config.lifted config.state }
+        root frames config None
+        → HoldsSearched (problem_of O.after O.State.eq O.Reply.eq problem.now) (M.holds memo.new)
+        root frames config None × M.holds memo.new config.lifted config.state }
     ensures changes { M.changes memo.old memo.new }
 {
     lawful::<O>();
@@ -112,149 +126,128 @@ fn refusal<S: Stop>(left: &mut Option<u64>, stop: &mut S) -> Option<Outcome>
     }
 }
 
-// Goes on from the child that the frame's call, which was lifted last, leads to: asks the memo for it, and goes on after
-// the call where the memo has it, or else from the child.
+// Goes on from the configuration that the frame's call, which was lifted last, led to: asks the memo for it, and goes
+// on after the call where the memo has it, or else from there.
 fn go_on<O: SeqObject, M: Memo<O>>(
     path: &mut Path<'_, O>,
     frame: Frame<O>,
-    child: Config<O>,
     memo: &mut M,
     is_for_problem: bool,
-) -> Result<ControlFlow<Outcome, Position<O>>, AllocError>
+) -> Result<ControlFlow<Outcome, Position>, AllocError>
     requires of { IsTrue is_for_problem → M.is_of memo.old path.old.entries.problem }
-    requires last { (before : List ℕ) × (path.old.entries.lifted ≡ before ++ frame.call ∷ [])
-        × (root : Configuration O.State) × (limit left : Option ℕ)
-        × IsProgress (problem_of O.after O.State.eq O.Reply.eq path.old.entries.problem) root limit
-        before path.old.frames.items left frame.config frame.longest (Some frame.call) }
-    requires lifted { child.lifted ≡ with_call frame.config.lifted frame.call }
-    requires next { IsNext (problem_of O.after O.State.eq O.Reply.eq path.old.entries.problem)
-        frame.config.lifted frame.config.state frame.call child.state }
-    requires reachable { IsReachable (problem_of O.after O.State.eq O.Reply.eq
-        path.old.entries.problem) child.lifted child.state }
-    requires incomplete { HasEveryCompleted (problem_of O.after O.State.eq O.Reply.eq
-        path.old.entries.problem) child.lifted → ⊥ }
+    requires lifted { (root from : Configuration O.State) × (limit left : Option ℕ)
+        × IsLifted (problem_of O.after O.State.eq O.Reply.eq path.old.entries.problem) root limit path.old.entries.lifted
+        path.old.frames.items left from frame path.old.config }
+    requires incomplete { HasEveryCompleted (problem_of O.after O.State.eq O.Reply.eq path.old.entries.problem) path.old.config.lifted → ⊥ }
     ensures problem { path.new.entries.problem ≡ path.old.entries.problem }
-    ensures step { IfOk result (λ step. (before : List ℕ)
-        → path.old.entries.lifted ≡ before ++ frame.call ∷ []
-        → (root : Configuration O.State) (limit left after : Option ℕ)
-        → IsTaken left after → IsProgress
-        (problem_of O.after O.State.eq O.Reply.eq path.old.entries.problem) root limit before
-        path.old.frames.items left frame.config frame.longest (Some frame.call)
-        → IsStep (problem_of O.after O.State.eq O.Reply.eq path.old.entries.problem) root limit
-        path.new.entries.lifted path.new.frames.items after (λ told. ⊥)
-        (work (length path.old.entries.problem.calls) path.old.frames.items frame.config.lifted
-        frame.call) step) }
-    ensures holds { IfOk result (λ step. (root : Configuration O.State)
-        → HoldsSearched (problem_of O.after O.State.eq O.Reply.eq path.old.entries.problem)
-        (M.holds memo.old) path.old.frames.items frame.config (Some frame.call)
-        → HoldsStep (problem_of O.after O.State.eq O.Reply.eq path.old.entries.problem) root
-        (M.holds memo.new) path.new.frames.items step) }
+    ensures step { IfOk result (λ step. (root from : Configuration O.State) (limit left after : Option ℕ)
+        → IsTaken left after → IsLifted (problem_of O.after O.State.eq O.Reply.eq path.old.entries.problem) root limit path.old.entries.lifted
+        path.old.frames.items left from frame path.old.config
+        → IsStep (problem_of O.after O.State.eq O.Reply.eq path.old.entries.problem) root limit path.new.entries.lifted path.new.frames.items after path.new.config
+        (λ told. ⊥) (work (length path.old.entries.problem.calls) root.lifted
+        path.old.frames.items from.lifted frame.call) step) }
+    ensures holds { IfOk result (λ step. (root from : Configuration O.State) (limit left : Option ℕ)
+        → IsLifted (problem_of O.after O.State.eq O.Reply.eq path.old.entries.problem) root limit path.old.entries.lifted path.old.frames.items left from frame
+        path.old.config → HoldsSearched (problem_of O.after O.State.eq O.Reply.eq path.old.entries.problem) (M.holds memo.old) root.lifted path.old.frames.items from
+        (Some frame.call) → HoldsStep (problem_of O.after O.State.eq O.Reply.eq path.old.entries.problem) root (M.holds memo.new) path.new.frames.items
+        path.new.config step) }
     ensures changes { M.changes memo.old memo.new }
 {
-    match look_at(path.problem(), &child, memo, is_for_problem) {
-        Some(deep) => Ok(ControlFlow::Continue(path.leave(frame, deep))),
-        None => Ok(ControlFlow::Continue(path.descend(frame, child)?)),
+    match look_at(path.problem(), path.config(), memo, is_for_problem) {
+        Some(deep) => {
+            let mut left = frame;
+            Ok(ControlFlow::Continue(path.leave(&mut left, deep)?))
+        }
+        None => Ok(ControlFlow::Continue(path.descend(frame)?)),
     }
 }
 
 // The success of a search that the call ends: the calls on the path, and then that one.
 fn success<O: SeqObject>(
-    alloc: Global,
     path: &Path<'_, O>,
     call: usize,
-) -> Result<ControlFlow<Outcome, Position<O>>, AllocError>
+) -> Result<ControlFlow<Outcome, Position>, AllocError>
     ensures { IfOk result (λ step. step
         ≡ Break (Found (calls_of path.now.frames.items ++ call ∷ []))) }
 {
-    let order = path.order_through(alloc, call)?;
-    Ok(ControlFlow::Break(Outcome::Found(order)))
+    Ok(ControlFlow::Break(Outcome::Found(path.order_through(call)?)))
 }
 
-// Lifts the frame's call, which leads to the child: that is a success where the child is complete. Else the memo
-// is asked for the child, and the search goes on after the call or from the child.
+// Lifts the call, which leads to the frame's state: that is a success where the configuration is complete then. Else the
+// search goes on from there.
 fn visit<O: SeqObject, M: Memo<O>>(
-    alloc: Global,
     path: &mut Path<'_, O>,
-    frame: Frame<O>,
-    child: Config<O>,
+    next: Frame<O>,
     memo: &mut M,
     is_for_problem: bool,
-) -> Result<ControlFlow<Outcome, Position<O>>, AllocError>
+) -> Result<ControlFlow<Outcome, Position>, AllocError>
     requires of { IsTrue is_for_problem → M.is_of memo.old path.old.entries.problem }
     requires progress { (root : Configuration O.State) × (limit left : Option ℕ)
-        × IsProgress (problem_of O.after O.State.eq O.Reply.eq path.old.entries.problem) root limit
-        path.old.entries.lifted path.old.frames.items left frame.config frame.longest
-        (Some frame.call) }
-    requires lifted { child.lifted ≡ with_call frame.config.lifted frame.call }
-    requires next { IsNext (problem_of O.after O.State.eq O.Reply.eq path.old.entries.problem)
-        frame.config.lifted frame.config.state frame.call child.state }
-    requires reachable { IsReachable (problem_of O.after O.State.eq O.Reply.eq
-        path.old.entries.problem) child.lifted child.state }
+        × IsProgress (problem_of O.after O.State.eq O.Reply.eq path.old.entries.problem) root limit path.old.entries.lifted
+        path.old.frames.items left path.old.config next.longest (Some next.call) }
+    requires next { IsNext (problem_of O.after O.State.eq O.Reply.eq path.old.entries.problem) path.old.config.lifted path.old.config.state next.call next.state }
+    requires reachable { IsReachable (problem_of O.after O.State.eq O.Reply.eq path.old.entries.problem) (with_call path.old.config.lifted next.call) next.state }
     ensures problem { path.new.entries.problem ≡ path.old.entries.problem }
     ensures step { IfOk result (λ step. (root : Configuration O.State) (limit left after : Option ℕ)
-        → IsTaken left after → IsProgress
-        (problem_of O.after O.State.eq O.Reply.eq path.old.entries.problem) root limit
-        path.old.entries.lifted path.old.frames.items left frame.config frame.longest
-        (Some frame.call)
-        → IsStep (problem_of O.after O.State.eq O.Reply.eq path.old.entries.problem) root limit
-        path.new.entries.lifted path.new.frames.items after (λ told. ⊥)
-        (work (length path.old.entries.problem.calls) path.old.frames.items frame.config.lifted
-        frame.call) step) }
-    ensures holds { IfOk result (λ step. (root : Configuration O.State)
-        → HoldsSearched (problem_of O.after O.State.eq O.Reply.eq path.old.entries.problem)
-        (M.holds memo.old) path.old.frames.items frame.config (Some frame.call)
-        → HoldsStep (problem_of O.after O.State.eq O.Reply.eq path.old.entries.problem) root
-        (M.holds memo.new) path.new.frames.items step) }
+        → IsTaken left after → IsProgress (problem_of O.after O.State.eq O.Reply.eq path.old.entries.problem) root limit path.old.entries.lifted
+        path.old.frames.items left path.old.config next.longest (Some next.call)
+        → IsStep (problem_of O.after O.State.eq O.Reply.eq path.old.entries.problem) root limit path.new.entries.lifted path.new.frames.items after path.new.config
+        (λ told. ⊥) (work (length path.old.entries.problem.calls) root.lifted
+        path.old.frames.items path.old.config.lifted next.call) step) }
+    ensures holds { IfOk result (λ step. (root : Configuration O.State) (limit left : Option ℕ)
+        → IsProgress (problem_of O.after O.State.eq O.Reply.eq path.old.entries.problem) root limit path.old.entries.lifted
+        path.old.frames.items left path.old.config next.longest (Some next.call)
+        → HoldsSearched (problem_of O.after O.State.eq O.Reply.eq path.old.entries.problem) (M.holds memo.old) root.lifted path.old.frames.items path.old.config
+        (Some next.call) → HoldsStep (problem_of O.after O.State.eq O.Reply.eq path.old.entries.problem) root (M.holds memo.new) path.new.frames.items
+        path.new.config step) }
     ensures changes { M.changes memo.old memo.new }
 {
-    let call = frame.call();
-    path.lift(call);
+    let mut frame = next;
+    path.lift(&mut frame)?;
     if path.is_complete() {
-        return success(alloc, path, call);
+        return success(path, frame.call());
     }
-    go_on(path, frame, child, memo, is_for_problem)
+    go_on(path, frame, memo, is_for_problem)
 }
 
-// Tries the frame's call: passes it over where it can't follow, and else visits what it leads to, where
-// another call may be lifted.
+// Tries the call: passes it over where it can't follow, and else visits what it leads to, where another call may be
+// lifted. `longest` is what the calls before it tell.
 fn try_call<O: SeqObject, M: Memo<O>, S: Stop>(
-    alloc: Global,
     path: &mut Path<'_, O>,
-    frame: Frame<O>,
+    call: usize,
+    longest: Longest,
     memo: &mut M,
     is_for_problem: bool,
     left: &mut Option<u64>,
     stop: &mut S,
-) -> Result<ControlFlow<Outcome, Position<O>>, AllocError>
+) -> Result<ControlFlow<Outcome, Position>, AllocError>
     requires of { IsTrue is_for_problem → M.is_of memo.old path.old.entries.problem }
     requires progress { (root : Configuration O.State) × (limit : Option ℕ)
-        × IsProgress (problem_of O.after O.State.eq O.Reply.eq path.old.entries.problem) root limit
-        path.old.entries.lifted path.old.frames.items left.old frame.config frame.longest
-        (Some frame.call) }
+        × IsProgress (problem_of O.after O.State.eq O.Reply.eq path.old.entries.problem) root limit path.old.entries.lifted
+        path.old.frames.items left.old path.old.config longest (Some call) }
     ensures problem { path.new.entries.problem ≡ path.old.entries.problem }
     ensures step { IfOk result (λ step. (root : Configuration O.State) (limit : Option ℕ)
-        → IsProgress (problem_of O.after O.State.eq O.Reply.eq path.old.entries.problem) root limit
-        path.old.entries.lifted path.old.frames.items left.old frame.config frame.longest
-        (Some frame.call)
-        → IsStep (problem_of O.after O.State.eq O.Reply.eq path.old.entries.problem) root limit
-        path.new.entries.lifted path.new.frames.items left.new (S.tells stop.new)
-        (work (length path.old.entries.problem.calls) path.old.frames.items frame.config.lifted
-        frame.call) step) }
-    ensures holds { IfOk result (λ step. (root : Configuration O.State)
-        → HoldsSearched (problem_of O.after O.State.eq O.Reply.eq path.old.entries.problem)
-        (M.holds memo.old) path.old.frames.items frame.config (Some frame.call)
-        → HoldsStep (problem_of O.after O.State.eq O.Reply.eq path.old.entries.problem) root
-        (M.holds memo.new) path.new.frames.items step) }
+        → IsProgress (problem_of O.after O.State.eq O.Reply.eq path.old.entries.problem) root limit path.old.entries.lifted
+        path.old.frames.items left.old path.old.config longest (Some call)
+        → IsStep (problem_of O.after O.State.eq O.Reply.eq path.old.entries.problem) root limit path.new.entries.lifted path.new.frames.items left.new path.new.config
+        (S.tells stop.new) (work (length path.old.entries.problem.calls) root.lifted
+        path.old.frames.items path.old.config.lifted call) step) }
+    ensures holds { IfOk result (λ step. (root : Configuration O.State) (limit : Option ℕ)
+        → IsProgress (problem_of O.after O.State.eq O.Reply.eq path.old.entries.problem) root limit path.old.entries.lifted
+        path.old.frames.items left.old path.old.config longest (Some call)
+        → HoldsSearched (problem_of O.after O.State.eq O.Reply.eq path.old.entries.problem) (M.holds memo.old) root.lifted path.old.frames.items path.old.config
+        (Some call) → HoldsStep (problem_of O.after O.State.eq O.Reply.eq path.old.entries.problem) root (M.holds memo.new) path.new.frames.items path.new.config
+        step) }
     ensures changes { M.changes memo.old memo.new }
     ensures stop { S.follows stop.old stop.new }
 {
-    let Some(child) = path.child(alloc, &frame)? else {
-        return Ok(ControlFlow::Continue(path.skip(frame)));
+    let Some(state) = path.next_state(call)? else {
+        return Ok(ControlFlow::Continue(path.after(call, longest)));
     };
     if let Some(outcome) = refusal(left, stop) {
         return Ok(ControlFlow::Break(outcome));
     }
-    visit(alloc, path, frame, child, memo, is_for_problem)
+    visit(path, Frame::new(state, call, longest), memo, is_for_problem)
 }
 
 // What a search keeps count of.
@@ -276,68 +269,97 @@ impl Tally {
     }
 }
 
-// One step of a search: tries the candidate. Where none is left, the configuration is refuted: hands it to the memo,
-// and goes back.
-fn step<O: SeqObject, M: Memo<O>, S: Stop>(
-    alloc: Global,
+// Goes back from a configuration all of whose calls were tried, and which is so refuted with this longest: hands it to
+// the memo, and goes on after the last frame's call. Where there is no frame, the root is refuted.
+fn go_back<O: SeqObject, M: Memo<O>>(
     path: &mut Path<'_, O>,
-    position: Position<O>,
+    longest: Longest,
+    memo: &mut M,
+    is_for_problem: bool,
+    tally: &mut Tally,
+) -> Result<ControlFlow<Outcome, Position>, AllocError>
+    requires of { IsTrue is_for_problem → M.is_of memo.old path.old.entries.problem }
+    requires progress { (root : Configuration O.State) × (limit : Option ℕ)
+        × IsProgress (problem_of O.after O.State.eq O.Reply.eq path.old.entries.problem) root limit path.old.entries.lifted
+        path.old.frames.items tally.old.left path.old.config longest None }
+    ensures problem { path.new.entries.problem ≡ path.old.entries.problem }
+    ensures left { tally.new.left ≡ tally.old.left }
+    ensures step { IfOk result (λ step. (root : Configuration O.State) (limit : Option ℕ)
+        → IsProgress (problem_of O.after O.State.eq O.Reply.eq path.old.entries.problem) root limit path.old.entries.lifted
+        path.old.frames.items tally.old.left path.old.config longest None
+        → IsStep (problem_of O.after O.State.eq O.Reply.eq path.old.entries.problem) root limit path.new.entries.lifted path.new.frames.items tally.old.left
+        path.new.config (λ told. ⊥) (work (length path.old.entries.problem.calls) root.lifted
+        path.old.frames.items path.old.config.lifted (length path.old.entries.problem.calls))
+        step) }
+    ensures whole { IsTrue tally.new.whole → IsTrue tally.old.whole }
+    ensures holds { IfOk result (λ step. IsTrue tally.new.whole
+        → (root : Configuration O.State) (limit : Option ℕ)
+        → IsProgress (problem_of O.after O.State.eq O.Reply.eq path.old.entries.problem) root limit path.old.entries.lifted
+        path.old.frames.items tally.old.left path.old.config longest None
+        → HoldsSearched (problem_of O.after O.State.eq O.Reply.eq path.old.entries.problem) (M.holds memo.old) root.lifted path.old.frames.items path.old.config None
+        → HoldsStep (problem_of O.after O.State.eq O.Reply.eq path.old.entries.problem) root (M.holds memo.new) path.new.frames.items path.new.config step) }
+    ensures changes { M.changes memo.old memo.new }
+{
+    let Some(frame) = path.pop() else {
+        return Ok(ControlFlow::Break(Outcome::Refuted(longest)));
+    };
+    let (refuted, position) = path.retreat(frame, longest)?;
+    let noted = note_at(path.problem(), refuted, longest, memo, is_for_problem);
+    tally.add(noted);
+    Ok(ControlFlow::Continue(position))
+}
+
+// One step of a search: tries the candidate, or goes back where none is left.
+fn step<O: SeqObject, M: Memo<O>, S: Stop>(
+    path: &mut Path<'_, O>,
+    position: Position,
     memo: &mut M,
     is_for_problem: bool,
     tally: &mut Tally,
     stop: &mut S,
-) -> Result<ControlFlow<Outcome, Position<O>>, AllocError>
+) -> Result<ControlFlow<Outcome, Position>, AllocError>
     requires of { IsTrue is_for_problem → M.is_of memo.old path.old.entries.problem }
     requires progress { (root : Configuration O.State) × (limit : Option ℕ)
-        × IsProgress (problem_of O.after O.State.eq O.Reply.eq path.old.entries.problem) root limit
-        path.old.entries.lifted path.old.frames.items tally.old.left position.config
-        position.longest position.candidate }
+        × IsProgress (problem_of O.after O.State.eq O.Reply.eq path.old.entries.problem) root limit path.old.entries.lifted path.old.frames.items tally.old.left
+        path.old.config position.longest position.candidate }
     ensures problem { path.new.entries.problem ≡ path.old.entries.problem }
     ensures step { IfOk result (λ step. (root : Configuration O.State) (limit : Option ℕ)
-        → IsProgress (problem_of O.after O.State.eq O.Reply.eq path.old.entries.problem) root limit
-        path.old.entries.lifted path.old.frames.items tally.old.left position.config
-        position.longest position.candidate
-        → IsStep (problem_of O.after O.State.eq O.Reply.eq path.old.entries.problem) root limit
-        path.new.entries.lifted path.new.frames.items tally.new.left (S.tells stop.new)
-        (work (length path.old.entries.problem.calls) path.old.frames.items position.config.lifted
-        (bound (problem_of O.after O.State.eq O.Reply.eq path.old.entries.problem)
-        position.candidate)) step) }
+        → IsProgress (problem_of O.after O.State.eq O.Reply.eq path.old.entries.problem) root limit path.old.entries.lifted path.old.frames.items tally.old.left
+        path.old.config position.longest position.candidate
+        → IsStep (problem_of O.after O.State.eq O.Reply.eq path.old.entries.problem) root limit path.new.entries.lifted path.new.frames.items tally.new.left
+        path.new.config (S.tells stop.new) (work (length path.old.entries.problem.calls)
+        root.lifted path.old.frames.items path.old.config.lifted (bound (problem_of O.after O.State.eq O.Reply.eq path.old.entries.problem) position.candidate))
+        step) }
     ensures whole { IsTrue tally.new.whole → IsTrue tally.old.whole }
     ensures holds { IfOk result (λ step. IsTrue tally.new.whole
         → (root : Configuration O.State) (limit : Option ℕ)
-        → IsProgress (problem_of O.after O.State.eq O.Reply.eq path.old.entries.problem) root limit
-        path.old.entries.lifted path.old.frames.items tally.old.left position.config
-        position.longest position.candidate
-        → HoldsSearched (problem_of O.after O.State.eq O.Reply.eq path.old.entries.problem)
-        (M.holds memo.old) path.old.frames.items position.config position.candidate
-        → HoldsStep (problem_of O.after O.State.eq O.Reply.eq path.old.entries.problem) root
-        (M.holds memo.new) path.new.frames.items step) }
+        → IsProgress (problem_of O.after O.State.eq O.Reply.eq path.old.entries.problem) root limit path.old.entries.lifted path.old.frames.items tally.old.left
+        path.old.config position.longest position.candidate
+        → HoldsSearched (problem_of O.after O.State.eq O.Reply.eq path.old.entries.problem) (M.holds memo.old) root.lifted path.old.frames.items path.old.config
+        position.candidate → HoldsStep (problem_of O.after O.State.eq O.Reply.eq path.old.entries.problem) root (M.holds memo.new) path.new.frames.items
+        path.new.config step) }
     ensures changes { M.changes memo.old memo.new }
     ensures stop { S.follows stop.old stop.new }
 {
-    let (config, longest, candidate) = position.into_parts();
-    let Some(call) = candidate else {
-        let noted = note_at(path.problem(), config, longest, memo, is_for_problem);
-        tally.add(noted);
-        return Ok(path.backtrack(longest));
-    };
-    let frame = Frame::new(config, call, longest);
-    try_call(
-        alloc,
-        path,
-        frame,
-        memo,
-        is_for_problem,
-        &mut tally.left,
-        stop,
-    )
+    let longest = position.longest;
+    match position.candidate {
+        Some(call) => try_call(
+            path,
+            call,
+            longest,
+            memo,
+            is_for_problem,
+            &mut tally.left,
+            stop,
+        ),
+        None => go_back(path, longest, memo, is_for_problem, tally),
+    }
 }
 
-// Searches on from a position without a frame, where the root is, until the search ends.
+// Searches on from a path without a frame until the search ends. Where the configuration there is refuted, the search
+// is back at it; it is not handed to the memo.
 fn search_on<O: SeqObject, M: Memo<O>, S: Stop>(
-    alloc: Global,
     path: &mut Path<'_, O>,
-    root: Position<O>,
     memo: &mut M,
     is_for_problem: bool,
     limit: Option<u64>,
@@ -345,35 +367,27 @@ fn search_on<O: SeqObject, M: Memo<O>, S: Stop>(
 ) -> Result<Ended, AllocError>
     requires of { IsTrue is_for_problem → M.is_of memo.old path.old.entries.problem }
     requires frames { path.old.frames.items ≡ [] }
-    requires progress { IsProgress (problem_of O.after O.State.eq O.Reply.eq
-        path.old.entries.problem) root.config limit path.old.entries.lifted path.old.frames.items
-        limit root.config root.longest root.candidate }
-    ensures answer { IfOk result (λ ended. IsAnswer
-        (problem_of O.after O.State.eq O.Reply.eq path.old.entries.problem) root.config.lifted
-        root.config.state limit (S.tells stop.new) ended.outcome) }
-    ensures closed { IfOk result (λ ended. IsTrue ended.whole → IsRefutation ended.outcome
-        → HoldsSearched (problem_of O.after O.State.eq O.Reply.eq path.old.entries.problem)
-        (M.holds memo.old) [] root.config root.candidate
-        → IsClosed (problem_of O.after O.State.eq O.Reply.eq path.old.entries.problem)
-        (M.holds memo.new) × M.holds memo.new root.config.lifted root.config.state) }
+    requires reachable { IsReachable (problem_of O.after O.State.eq O.Reply.eq path.old.entries.problem) path.old.config.lifted path.old.config.state }
+    requires lifted { lifted_set (problem_of O.after O.State.eq O.Reply.eq path.old.entries.problem) path.old.entries.lifted ≡ path.old.config.lifted }
+    requires incomplete { HasEveryCompleted (problem_of O.after O.State.eq O.Reply.eq path.old.entries.problem) path.old.config.lifted → ⊥ }
+    ensures problem { path.new.entries.problem ≡ path.old.entries.problem }
+    ensures answer { IfOk result (λ ended. IsAnswer (problem_of O.after O.State.eq O.Reply.eq path.old.entries.problem) path.old.config.lifted path.old.config.state
+        limit (S.tells stop.new) ended.outcome) }
+    ensures back { IfOk result (λ ended. IsRefutation ended.outcome
+        → path.new.config ≡ path.old.config) }
+    ensures holds { IfOk result (λ ended. IsTrue ended.whole → IsRefutation ended.outcome
+        → IsClosed (problem_of O.after O.State.eq O.Reply.eq path.old.entries.problem) (M.holds memo.old)
+        → HoldsSearched (problem_of O.after O.State.eq O.Reply.eq path.old.entries.problem) (M.holds memo.new) path.old.config.lifted [] path.old.config None) }
     ensures memo { M.changes memo.old memo.new }
     ensures stop { S.follows stop.old stop.new }
 {
-    let mut position = root;
+    let mut position = path.enter();
     let mut tally = Tally {
         left: limit,
         whole: true,
     };
     loop {
-        match step(
-            alloc,
-            path,
-            position,
-            memo,
-            is_for_problem,
-            &mut tally,
-            stop,
-        )? {
+        match step(path, position, memo, is_for_problem, &mut tally, stop)? {
             ControlFlow::Continue(next) => position = next,
             ControlFlow::Break(outcome) => {
                 return Ok(Ended {
@@ -385,48 +399,92 @@ fn search_on<O: SeqObject, M: Memo<O>, S: Stop>(
     }
 }
 
-// Searches a configuration and what it leads to, over the path that begins there.
-fn search_path<O: SeqObject, M: Memo<O>, S: Stop>(
+// What is known of a configuration before a call is tried: it is complete, or the memo has it.
+fn known_of<O: SeqObject, M: Memo<O>>(
     alloc: Global,
-    path: &mut Path<'_, O>,
+    problem: &Problem<O>,
+    config: &Config<O>,
+    memo: &mut M,
+    is_for_problem: bool,
+) -> Option<Outcome>
+    requires of { IsTrue is_for_problem → M.is_of memo.old problem.now }
+    requires reachable { IsReachable (problem_of O.after O.State.eq O.Reply.eq problem.now)
+        config.now.lifted config.now.state }
+    ensures answer { IfSome result (λ outcome. IsDecision
+        (problem_of O.after O.State.eq O.Reply.eq problem.now) config.now.lifted config.now.state
+        outcome) }
+    ensures held { IfSome result (λ outcome. IsRefutation outcome
+        → M.holds memo.new config.now.lifted config.now.state) }
+    ensures incomplete { IfNone result (HasEveryCompleted
+        (problem_of O.after O.State.eq O.Reply.eq problem.now) config.now.lifted → ⊥) }
+    ensures only { (set : List Bool) (s : O.State) → M.holds memo.new set s
+        → M.holds memo.old set s }
+    ensures changes { M.changes memo.old memo.new }
+{
+    if config.is_complete(problem) {
+        return Some(Outcome::Found(Order::new(Vec::new(alloc))));
+    }
+    match look_at(problem, config, memo, is_for_problem) {
+        Some(longest) => Some(Outcome::Refuted(longest)),
+        None => None,
+    }
+}
+
+// Hands the memo the configuration that the search began at, where the outcome is that it is refuted, and tells whether
+// the memo has it then.
+fn note_root<O: SeqObject, M: Memo<O>>(
+    problem: &Problem<O>,
+    config: Config<O>,
+    outcome: &Outcome,
+    memo: &mut M,
+    is_for_problem: bool,
+) -> bool
+    requires of { IsTrue is_for_problem → M.is_of memo.old problem.now }
+    requires refuted { (longest : Longest) → outcome.now ≡ Refuted longest → IsRefutedWith
+        (problem_of O.after O.State.eq O.Reply.eq problem.now) config.lifted config.state longest }
+    ensures closed { IsTrue result → IsRefutation outcome.now
+        → HoldsSearched (problem_of O.after O.State.eq O.Reply.eq problem.now) (M.holds memo.old)
+        config.lifted [] config None
+        → IsClosed (problem_of O.after O.State.eq O.Reply.eq problem.now) (M.holds memo.new)
+        × M.holds memo.new config.lifted config.state }
+    ensures changes { M.changes memo.old memo.new }
+{
+    let Outcome::Refuted(longest) = outcome else {
+        return true;
+    };
+    note_at(problem, config, *longest, memo, is_for_problem).is_kept()
+}
+
+// Searches a configuration of which nothing is known, and what it leads to.
+fn search_unknown<O: SeqObject, M: Memo<O>, S: Stop>(
+    alloc: Global,
+    problem: &Problem<O>,
     config: Config<O>,
     memo: &mut M,
     is_for_problem: bool,
     limit: Option<u64>,
     stop: &mut S,
 ) -> Result<Ended, AllocError>
-    requires reachable { IsReachable (problem_of O.after O.State.eq O.Reply.eq
-        path.old.entries.problem) config.lifted config.state }
-    requires lifted { lifted_set (problem_of O.after O.State.eq O.Reply.eq path.old.entries.problem)
-        path.old.entries.lifted ≡ config.lifted }
-    requires frames { path.old.frames.items ≡ [] }
-    requires of { IsTrue is_for_problem → M.is_of memo.old path.old.entries.problem }
+    requires reachable { IsReachable (problem_of O.after O.State.eq O.Reply.eq problem.now)
+        config.lifted config.state }
+    requires of { IsTrue is_for_problem → M.is_of memo.old problem.now }
+    requires incomplete { HasEveryCompleted (problem_of O.after O.State.eq O.Reply.eq problem.now)
+        config.lifted → ⊥ }
     ensures answer { IfOk result (λ ended. IsAnswer
-        (problem_of O.after O.State.eq O.Reply.eq path.old.entries.problem) config.lifted
-        config.state limit (S.tells stop.new) ended.outcome) }
+        (problem_of O.after O.State.eq O.Reply.eq problem.now) config.lifted config.state limit
+        (S.tells stop.new) ended.outcome) }
     ensures closed { IfOk result (λ ended. IsTrue ended.whole → IsRefutation ended.outcome
-        → IsClosed (problem_of O.after O.State.eq O.Reply.eq path.old.entries.problem)
-        (M.holds memo.old)
-        → IsClosed (problem_of O.after O.State.eq O.Reply.eq path.old.entries.problem)
-        (M.holds memo.new) × M.holds memo.new config.lifted config.state) }
+        → IsClosed (problem_of O.after O.State.eq O.Reply.eq problem.now) (M.holds memo.old)
+        → IsClosed (problem_of O.after O.State.eq O.Reply.eq problem.now) (M.holds memo.new)
+        × M.holds memo.new config.lifted config.state) }
     ensures memo { M.changes memo.old memo.new }
     ensures stop { S.follows stop.old stop.new }
 {
-    if path.is_complete() {
-        return Ok(Ended {
-            outcome: Outcome::Found(Order::new(Vec::new(alloc))),
-            whole: true,
-        });
-    }
-    let problem = path.problem();
-    if let Some(longest) = look_at(problem, &config, memo, is_for_problem) {
-        return Ok(Ended {
-            outcome: Outcome::Refuted(longest),
-            whole: true,
-        });
-    }
-    let root = path.enter(config);
-    search_on(alloc, path, root, memo, is_for_problem, limit, stop)
+    let mut path = Path::new(alloc, problem, config)?;
+    let ended = search_on(&mut path, memo, is_for_problem, limit, stop)?;
+    let config = path.into_config();
+    let is_kept = note_root(problem, config, &ended.outcome, memo, is_for_problem);
+    Ok(ended.with_note(is_kept))
 }
 
 // Searches a configuration and what it leads to. `is_for_problem` tells that the memo names the problem, so that
@@ -453,8 +511,13 @@ pub(crate) fn search_from<O: SeqObject, M: Memo<O>, S: Stop>(
     ensures memo { M.changes memo.old memo.new }
     ensures stop { S.follows stop.old stop.new }
 {
-    let mut path = Path::new(alloc, problem, &config)?;
-    search_path(alloc, &mut path, config, memo, is_for_problem, limit, stop)
+    if let Some(outcome) = known_of(alloc, problem, &config, memo, is_for_problem) {
+        return Ok(Ended {
+            outcome,
+            whole: true,
+        });
+    }
+    search_unknown(alloc, problem, config, memo, is_for_problem, limit, stop)
 }
 
 /// The depth-first search from a configuration over a memo (Wing and Gong 1993; Lowe 2017): a complete

@@ -80,11 +80,10 @@ fn follow<O: SeqObject>(
         (problem_of O.after O.State.eq O.Reply.eq problem.now) config.new.lifted
         config.new.state) }
 {
-    let Some(child) = config.child_of_minimal(alloc, problem, call)? else {
+    let Some(mut state) = config.next_state(alloc, problem, call)? else {
         unreachable!()
     };
-    *config = child;
-    Ok(())
+    config.lift(call, &mut state)
 }
 
 // The first of the longest continuations of a configuration with no completion, which is left at the end of it.

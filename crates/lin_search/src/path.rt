@@ -1,30 +1,25 @@
-//! The path of a search: the frames behind it, the position that it is at, and the entries left.
+//! The path of a search: where it is, the frames behind it, and the entries left.
 ghost use Rattle.std.specs.Prelude.{◌≡◌, ℕ, ◌+◌, ◌<◌, ◌≤◌, ◌↔◌, ◌++◌, ◌∷◌, [], Bool, false, List, Option, Some, None, length, IfOk, IfSome, IfNone, IsTrue};
 ghost use Rattle.lin_history.specs.Problems.Problem.{problem_of};
-ghost use Rattle.lin_history.specs.Problems.Continuations.{has};
 ghost use Rattle.lin_history.specs.Problems.Configurations.{IsReachable};
 ghost use Rattle.lin_search.specs.CallSet.{with_call, lifted_set};
-ghost use Rattle.lin_search.specs.Configuration.{Configuration};
 ghost use Rattle.lin_search.specs.Entries.{IsMinimal, IsLeastMinimal};
 ghost use Rattle.lin_search.specs.NextCall.{IsNext, HasEveryCompleted};
 ghost use Rattle.lin_search.specs.Path.{calls_of};
-ghost use Rattle.lin_search.specs.Progress.{IsProgress, IsStep, IsStepBack, work};
 
 use crate::config::Config;
 use crate::entries::Entries;
 use crate::longest::Longest;
-use crate::outcome::Outcome;
 use lin_history::{Order, Problem};
 use lin_object::SeqObject;
 use std::alloc::{AllocError, Global};
 use std::marker::Model;
-use std::ops::ControlFlow;
 
-// A configuration on the path of a search, the call that leads on from it, and what the continuations of it
-// that begin with a call before that one tell.
+// A state on the path of a search, the call that leads on from it, and what the continuations that begin with a call
+// before that one tell. Its set of calls is not kept: it is the one that the search is at, without the calls since.
 #[derive(Drop)]
 pub(crate) struct Frame<O: SeqObject> {
-    config: Config<O>,
+    state: O::State,
     call: usize,
     longest: Longest,
 }
@@ -34,35 +29,33 @@ impl<O: SeqObject> Model for Frame<O> {
 
     ghost Value = { Frame O.State };
 
-    ghost view = { λ f. record { config = f.config; call = f.call; longest = f.longest } };
+    ghost view = { λ f. record { state = f.state; call = f.call; longest = f.longest } };
 }
 
 impl<O: SeqObject> Frame<O> {
-    // The configuration, the call that leads on from it, and what the calls before that one tell.
-    pub(crate) fn new(config: Config<O>, call: usize, longest: Longest) -> Self
-        ensures { result ≡ record { config = config; call = call; longest = longest } }
+    // The state, the call, and what the calls before that one tell.
+    pub(crate) fn new(state: O::State, call: usize, longest: Longest) -> Self
+        ensures { result ≡ record { state = state; call = call; longest = longest } }
     {
         Frame {
-            config,
+            state,
             call,
             longest,
         }
     }
 
-    // The call that leads on.
+    // The call.
     pub(crate) fn call(&self) -> usize
         ensures { result ≡ self.now.call }
     {
         self.call
     }
 
-    // The configuration, its call, and what the calls before that one tell.
-    fn into_parts(self) -> (Config<O>, usize, Longest)
-        ensures config { result.0 ≡ self.config }
-        ensures call { result.1 ≡ self.call }
-        ensures longest { result.2 ≡ self.longest }
+    // The state.
+    fn into_state(self) -> O::State
+        ensures { result ≡ self.state }
     {
-        (self.config, self.call, self.longest)
+        self.state
     }
 }
 
@@ -82,42 +75,41 @@ fn order_through<O: SeqObject>(
     Ok(Order::new(calls))
 }
 
-// Where a search is: a configuration, what its calls before the candidate tell, and the candidate, which is tried next.
-#[derive(Drop)]
-pub(crate) struct Position<O: SeqObject> {
-    config: Config<O>,
-    longest: Longest,
-    candidate: Option<usize>,
-}
-
-impl<O: SeqObject> Model for Position<O> {
-    ghost use Rattle.lin_search.specs.Path.{Position};
-
-    ghost Value = { Position O.State };
-
-    ghost view = { λ p. record {
-      config = p.config;
-      longest = p.longest;
-      candidate = p.candidate;
-    } };
-}
-
-impl<O: SeqObject> Position<O> {
-    // The configuration, what its calls before the candidate tell, and the candidate.
-    pub(crate) fn into_parts(self) -> (Config<O>, Longest, Option<usize>)
-        ensures config { result.0 ≡ self.config }
-        ensures longest { result.1 ≡ self.longest }
-        ensures candidate { result.2 ≡ self.candidate }
-    {
-        (self.config, self.longest, self.candidate)
+// The entries of the problem, without those of the calls that the configuration has.
+fn entries_without<'p, O: SeqObject>(
+    alloc: Global,
+    problem: &'p Problem<O>,
+    config: &Config<O>,
+) -> Result<Entries<'p, O>, AllocError>
+    requires { length config.now.lifted ≡ length problem.now.calls }
+    ensures problem { IfOk result (λ entries. entries.problem ≡ problem.now) }
+    ensures lifted { IfOk result (λ entries. lifted_set
+        (problem_of O.after O.State.eq O.Reply.eq problem.now) entries.lifted
+        ≡ config.now.lifted) }
+{
+    let mut entries = Entries::new(alloc, problem)?;
+    for call in 0..problem.len() {
+        if config.has(call) {
+            entries.lift(call);
+        }
     }
+    Ok(entries)
 }
 
-// The path of a search from its root: the entries of the problem, without those of the calls lifted, and a
-// frame for each configuration that the search will come back to.
+// Which call is tried next, the candidate, and what the calls before it tell.
+#[derive(Clone, Copy, Drop)]
+pub(crate) struct Position {
+    pub(crate) longest: Longest,
+    pub(crate) candidate: Option<usize>,
+}
+
+// The path of a search from its root: the configuration that it is at, which changes in place, the entries of the
+// problem, without those of the calls lifted, and a frame for each call that the search will come back to.
 #[derive(Drop)]
 pub(crate) struct Path<'p, O: SeqObject> {
+    alloc: Global,
     entries: Entries<'p, O>,
+    config: Config<O>,
     frames: Vec<Frame<O>>,
 }
 
@@ -126,23 +118,22 @@ impl<'p, O: SeqObject> Path<'p, O> {
     pub(crate) fn new(
         alloc: Global,
         problem: &'p Problem<O>,
-        config: &Config<O>,
+        config: Config<O>,
     ) -> Result<Path<'p, O>, AllocError>
-        requires { length config.now.lifted ≡ length problem.now.calls }
+        requires { length config.lifted ≡ length problem.now.calls }
         ensures problem { IfOk result (λ path. path.entries.problem ≡ problem.now) }
         ensures lifted { IfOk result (λ path. lifted_set
             (problem_of O.after O.State.eq O.Reply.eq problem.now) path.entries.lifted
-            ≡ config.now.lifted) }
+            ≡ config.lifted) }
+        ensures config { IfOk result (λ path. path.config ≡ config) }
         ensures frames { IfOk result (λ path. path.frames.items ≡ []) }
     {
-        let mut entries = Entries::new(alloc, problem)?;
-        for call in 0..problem.len() {
-            if config.has(call) {
-                entries.lift(call);
-            }
-        }
-        let frames = Vec::with_capacity(alloc, problem.len())?;
-        Ok(Path { entries, frames })
+        Ok(Path {
+            alloc,
+            entries: entries_without(alloc, problem, &config)?,
+            frames: Vec::with_capacity(alloc, problem.len())?,
+            config,
+        })
     }
 
     // The problem.
@@ -150,6 +141,20 @@ impl<'p, O: SeqObject> Path<'p, O> {
         ensures { result.now ≡ self.now.entries.problem }
     {
         self.entries.problem()
+    }
+
+    // The configuration that the search is at.
+    pub(crate) fn config(&self) -> &Config<O>
+        ensures { result.now ≡ self.now.config }
+    {
+        &self.config
+    }
+
+    // The same, when the search is over.
+    pub(crate) fn into_config(self) -> Config<O>
+        ensures { result ≡ self.entry.config }
+    {
+        self.config
     }
 
     // Whether every completed call is lifted.
@@ -162,162 +167,218 @@ impl<'p, O: SeqObject> Path<'p, O> {
         self.entries.is_complete()
     }
 
-    // The configuration that the frame's call leads to; `None` exactly where the call can't follow.
-    pub(crate) fn child(
-        &self,
-        alloc: Global,
-        frame: &Frame<O>,
-    ) -> Result<Option<Config<O>>, AllocError>
+    // The state that the call leads to; `None` exactly where the call can't follow.
+    pub(crate) fn next_state(&self, call: usize) -> Result<Option<O::State>, AllocError>
         requires reachable { IsReachable (problem_of O.after O.State.eq O.Reply.eq
-            self.now.entries.problem) frame.now.config.lifted frame.now.config.state }
+            self.now.entries.problem) self.now.config.lifted self.now.config.state }
         requires minimal { IsMinimal (problem_of O.after O.State.eq O.Reply.eq
-            self.now.entries.problem) frame.now.config.lifted frame.now.call }
-        ensures lifted { IfOk result (λ answer. IfSome answer
-            (λ child. child.lifted ≡ with_call frame.now.config.lifted frame.now.call)) }
+            self.now.entries.problem) self.now.config.lifted call }
         ensures next { IfOk result (λ answer. IfSome answer
-            (λ child. IsNext (problem_of O.after O.State.eq O.Reply.eq self.now.entries.problem)
-            frame.now.config.lifted frame.now.config.state frame.now.call child.state)) }
+            (λ t. IsNext (problem_of O.after O.State.eq O.Reply.eq self.now.entries.problem)
+            self.now.config.lifted self.now.config.state call t)) }
         ensures reachable { IfOk result (λ answer. IfSome answer
-            (λ child. IsReachable (problem_of O.after O.State.eq O.Reply.eq
-            self.now.entries.problem) child.lifted child.state)) }
+            (λ t. IsReachable (problem_of O.after O.State.eq O.Reply.eq self.now.entries.problem)
+            (with_call self.now.config.lifted call) t)) }
         ensures none { IfOk result (λ answer. IfNone answer
             ((t : O.State)
             → IsNext (problem_of O.after O.State.eq O.Reply.eq self.now.entries.problem)
-            frame.now.config.lifted frame.now.config.state frame.now.call t → ⊥)) }
+            self.now.config.lifted self.now.config.state call t → ⊥)) }
     {
-        frame
-            .config
-            .child_of_minimal(alloc, self.problem(), frame.call)
+        self.config.next_state(self.alloc, self.problem(), call)
     }
 
     // The position at a configuration of which no call was tried.
-    pub(crate) fn enter(&self, config: Config<O>) -> Position<O>
+    pub(crate) fn enter(&self) -> Position
         requires { lifted_set (problem_of O.after O.State.eq O.Reply.eq self.now.entries.problem)
-            self.now.entries.lifted ≡ config.lifted }
-        ensures config { result.config ≡ config }
+            self.now.entries.lifted ≡ self.now.config.lifted }
         ensures longest { result.longest ≡ record { more = 0; first = None } }
         ensures candidate { IsLeastMinimal (problem_of O.after O.State.eq O.Reply.eq
-            self.now.entries.problem) config.lifted 0 result.candidate }
+            self.now.entries.problem) self.now.config.lifted 0 result.candidate }
     {
         Position {
-            config,
             longest: Longest::none(),
             candidate: self.entries.first_minimal(),
         }
     }
 
-    // The position after the frame's call, which can't follow.
-    pub(crate) fn skip(&self, frame: Frame<O>) -> Position<O>
+    // The position after the call, with what the calls up to it tell.
+    pub(crate) fn after(&self, call: usize, longest: Longest) -> Position
         requires lifted { lifted_set (problem_of O.after O.State.eq O.Reply.eq
-            self.now.entries.problem) self.now.entries.lifted ≡ frame.config.lifted }
+            self.now.entries.problem) self.now.entries.lifted ≡ self.now.config.lifted }
         requires minimal { IsMinimal (problem_of O.after O.State.eq O.Reply.eq
-            self.now.entries.problem) frame.config.lifted frame.call }
-        ensures config { result.config ≡ frame.config }
-        ensures longest { result.longest ≡ frame.longest }
+            self.now.entries.problem) self.now.config.lifted call }
+        ensures longest { result.longest ≡ longest }
         ensures candidate { IsLeastMinimal (problem_of O.after O.State.eq O.Reply.eq
-            self.now.entries.problem) frame.config.lifted (frame.call + 1) result.candidate }
+            self.now.entries.problem) self.now.config.lifted (call + 1) result.candidate }
     {
-        let (config, call, longest) = frame.into_parts();
         Position {
-            config,
             longest,
             candidate: self.entries.next_minimal(call),
         }
     }
 
-    // The position after the frame's call, which was lifted last and leads to a configuration that is refuted with this longest.
-    pub(crate) fn leave(&mut self, frame: Frame<O>, deep: Longest) -> Position<O>
+    // Lifts the frame's call, which leads to the frame's state. The state before it comes into the frame.
+    pub(crate) fn lift(&mut self, frame: &mut Frame<O>) -> Result<(), AllocError>
+        requires lifted { lifted_set (problem_of O.after O.State.eq O.Reply.eq
+            self.old.entries.problem) self.old.entries.lifted ≡ self.old.config.lifted }
         requires minimal { IsMinimal (problem_of O.after O.State.eq O.Reply.eq
-            self.old.entries.problem) frame.config.lifted frame.call }
-        requires last { (before : List ℕ) × (self.old.entries.lifted ≡ before ++ frame.call ∷ [])
-            × (lifted_set (problem_of O.after O.State.eq O.Reply.eq self.old.entries.problem) before
-            ≡ frame.config.lifted) }
+            self.old.entries.problem) self.old.config.lifted frame.old.call }
+        ensures problem { self.new.entries.problem ≡ self.old.entries.problem }
+        ensures last { self.new.entries.lifted ≡ self.old.entries.lifted ++ frame.old.call ∷ [] }
+        ensures frames { self.new.frames ≡ self.old.frames }
+        ensures lifted { IfOk result (λ done. self.new.config.lifted
+            ≡ with_call self.old.config.lifted frame.old.call) }
+        ensures state { IfOk result (λ done. self.new.config.state ≡ frame.old.state) }
+        ensures before { IfOk result (λ done. frame.new ≡ record {
+          state = self.old.config.state;
+          call = frame.old.call;
+          longest = frame.old.longest;
+        }) }
+    {
+        self.entries.lift(frame.call);
+        self.config.lift(frame.call, &mut frame.state)
+    }
+
+    // Takes the frame's call, which was lifted last, back, and puts the frame's state in again. The state that the call
+    // led to comes into the frame.
+    fn unlift(&mut self, frame: &mut Frame<O>) -> Result<(), AllocError>
+        requires lifted { lifted_set (problem_of O.after O.State.eq O.Reply.eq
+            self.old.entries.problem) self.old.entries.lifted ≡ self.old.config.lifted }
+        requires last { (before : List ℕ)
+            × (self.old.entries.lifted ≡ before ++ frame.old.call ∷ [])
+            × IsMinimal (problem_of O.after O.State.eq O.Reply.eq self.old.entries.problem)
+            (lifted_set (problem_of O.after O.State.eq O.Reply.eq self.old.entries.problem) before)
+            frame.old.call }
+        ensures problem { self.new.entries.problem ≡ self.old.entries.problem }
+        ensures frames { self.new.frames ≡ self.old.frames }
+        ensures last { (before : List ℕ)
+            → self.old.entries.lifted ≡ before ++ frame.old.call ∷ []
+            → self.new.entries.lifted ≡ before }
+        ensures lifted { IfOk result (λ done. lifted_set
+            (problem_of O.after O.State.eq O.Reply.eq self.old.entries.problem)
+            self.new.entries.lifted ≡ self.new.config.lifted) }
+        ensures state { IfOk result (λ done. self.new.config.state ≡ frame.old.state) }
+        ensures after { IfOk result (λ done. frame.new ≡ record {
+          state = self.old.config.state;
+          call = frame.old.call;
+          longest = frame.old.longest;
+        }) }
+    {
+        self.entries.unlift(frame.call);
+        self.config.unlift(frame.call, &mut frame.state)
+    }
+
+    // Goes back before the frame's call, which was lifted last and led to a configuration that is refuted with this
+    // longest: to the position after it. The state of that configuration comes into the frame.
+    pub(crate) fn leave(
+        &mut self,
+        frame: &mut Frame<O>,
+        deep: Longest,
+    ) -> Result<Position, AllocError>
+        requires lifted { lifted_set (problem_of O.after O.State.eq O.Reply.eq
+            self.old.entries.problem) self.old.entries.lifted ≡ self.old.config.lifted }
+        requires last { (before : List ℕ)
+            × (self.old.entries.lifted ≡ before ++ frame.old.call ∷ [])
+            × IsMinimal (problem_of O.after O.State.eq O.Reply.eq self.old.entries.problem)
+            (lifted_set (problem_of O.after O.State.eq O.Reply.eq self.old.entries.problem) before)
+            frame.old.call }
         requires room { deep.more < length self.old.entries.problem.calls }
         ensures problem { self.new.entries.problem ≡ self.old.entries.problem }
-        ensures lifted { (before : List ℕ) → self.old.entries.lifted ≡ before ++ frame.call ∷ []
-            → self.new.entries.lifted ≡ before }
         ensures frames { self.new.frames ≡ self.old.frames }
-        ensures config { result.config ≡ frame.config }
-        ensures longer { frame.longest.more < deep.more + 1
-            → result.longest ≡ record { more = deep.more + 1; first = Some frame.call } }
-        ensures not_longer { deep.more + 1 ≤ frame.longest.more → result.longest ≡ frame.longest }
-        ensures candidate { IsLeastMinimal (problem_of O.after O.State.eq O.Reply.eq
-            self.old.entries.problem) frame.config.lifted (frame.call + 1) result.candidate }
+        ensures last { (before : List ℕ)
+            → self.old.entries.lifted ≡ before ++ frame.old.call ∷ []
+            → self.new.entries.lifted ≡ before }
+        ensures lifted { IfOk result (λ position. lifted_set
+            (problem_of O.after O.State.eq O.Reply.eq self.old.entries.problem)
+            self.new.entries.lifted ≡ self.new.config.lifted) }
+        ensures state { IfOk result (λ position. self.new.config.state ≡ frame.old.state) }
+        ensures after { IfOk result (λ position. frame.new.state ≡ self.old.config.state) }
+        ensures longer { IfOk result (λ position. frame.old.longest.more < deep.more + 1
+            → position.longest ≡ record { more = deep.more + 1; first = Some frame.old.call }) }
+        ensures not_longer { IfOk result (λ position. deep.more + 1 ≤ frame.old.longest.more
+            → position.longest ≡ frame.old.longest) }
+        ensures candidate { IfOk result (λ position. IsLeastMinimal
+            (problem_of O.after O.State.eq O.Reply.eq self.old.entries.problem)
+            self.new.config.lifted (frame.old.call + 1) position.candidate) }
     {
         let calls = self.entries.problem().len();
         prove!(deep.more < calls);
-        let (config, call, longest) = frame.into_parts();
-        self.entries.unlift(call);
-        Position {
-            config,
-            longest: longest.or_after(call, deep),
-            candidate: self.entries.next_minimal(call),
-        }
+        self.unlift(frame)?;
+        Ok(self.after(frame.call, frame.longest.or_after(frame.call, deep)))
     }
 
-    // Lifts the call: takes its entries out.
-    pub(crate) fn lift(&mut self, call: usize)
-        requires within { call < length self.old.entries.problem.calls }
-        requires outside { has
-            (lifted_set (problem_of O.after O.State.eq O.Reply.eq self.old.entries.problem)
-            self.old.entries.lifted) call ≡ false }
+    // The same, and hands out the configuration that was left.
+    pub(crate) fn retreat(
+        &mut self,
+        frame: Frame<O>,
+        deep: Longest,
+    ) -> Result<(Config<O>, Position), AllocError>
+        requires lifted { lifted_set (problem_of O.after O.State.eq O.Reply.eq
+            self.old.entries.problem) self.old.entries.lifted ≡ self.old.config.lifted }
+        requires last { (before : List ℕ) × (self.old.entries.lifted ≡ before ++ frame.call ∷ [])
+            × IsMinimal (problem_of O.after O.State.eq O.Reply.eq self.old.entries.problem)
+            (lifted_set (problem_of O.after O.State.eq O.Reply.eq self.old.entries.problem) before)
+            frame.call }
+        requires room { deep.more < length self.old.entries.problem.calls }
         ensures problem { self.new.entries.problem ≡ self.old.entries.problem }
-        ensures lifted { self.new.entries.lifted ≡ self.old.entries.lifted ++ call ∷ [] }
         ensures frames { self.new.frames ≡ self.old.frames }
+        ensures last { IfOk result (λ r. (before : List ℕ)
+            → self.old.entries.lifted ≡ before ++ frame.call ∷ []
+            → self.new.entries.lifted ≡ before) }
+        ensures lifted { IfOk result (λ r. lifted_set
+            (problem_of O.after O.State.eq O.Reply.eq self.old.entries.problem)
+            self.new.entries.lifted ≡ self.new.config.lifted) }
+        ensures state { IfOk result (λ r. self.new.config.state ≡ frame.state) }
+        ensures left { IfOk result (λ r. r.0 ≡ self.old.config) }
+        ensures longer { IfOk result (λ r. frame.longest.more < deep.more + 1
+            → r.1.longest ≡ record { more = deep.more + 1; first = Some frame.call }) }
+        ensures not_longer { IfOk result (λ r. deep.more + 1 ≤ frame.longest.more
+            → r.1.longest ≡ frame.longest) }
+        ensures candidate { IfOk result (λ r. IsLeastMinimal
+            (problem_of O.after O.State.eq O.Reply.eq self.old.entries.problem)
+            self.new.config.lifted (frame.call + 1) r.1.candidate) }
     {
-        self.entries.lift(call);
+        let lifted = self.config.lifted().copy(self.alloc)?;
+        let mut frame = frame;
+        let position = self.leave(&mut frame, deep)?;
+        Ok((Config::from_parts(lifted, frame.into_state()), position))
     }
 
     // The calls on the path, in order, and then this one.
-    pub(crate) fn order_through(&self, alloc: Global, call: usize) -> Result<Order, AllocError>
+    pub(crate) fn order_through(&self, call: usize) -> Result<Order, AllocError>
         ensures { IfOk result (λ order. order ≡ calls_of self.now.frames.items ++ call ∷ []) }
     {
-        order_through(alloc, self.frames.as_slice(), call)
+        order_through(self.alloc, self.frames.as_slice(), call)
     }
 
-    // The position at the configuration that the frame's call, which was lifted last, leads to. The search will come
-    // back to the frame.
-    pub(crate) fn descend(
-        &mut self,
-        frame: Frame<O>,
-        child: Config<O>,
-    ) -> Result<Position<O>, AllocError>
+    // Goes on from the configuration that the frame's call, which was lifted last, led to: to the position there. The
+    // search will come back to the frame.
+    pub(crate) fn descend(&mut self, frame: Frame<O>) -> Result<Position, AllocError>
         requires { lifted_set (problem_of O.after O.State.eq O.Reply.eq self.old.entries.problem)
-            self.old.entries.lifted ≡ child.lifted }
+            self.old.entries.lifted ≡ self.old.config.lifted }
         ensures entries { self.new.entries ≡ self.old.entries }
+        ensures config { self.new.config ≡ self.old.config }
         ensures frames { IfOk result (λ position. self.new.frames.items
             ≡ self.old.frames.items ++ frame ∷ []) }
-        ensures config { IfOk result (λ position. position.config ≡ child) }
         ensures longest { IfOk result (λ position. position.longest
             ≡ record { more = 0; first = None }) }
         ensures candidate { IfOk result (λ position. IsLeastMinimal
-            (problem_of O.after O.State.eq O.Reply.eq self.old.entries.problem) child.lifted 0
-            position.candidate) }
+            (problem_of O.after O.State.eq O.Reply.eq self.old.entries.problem)
+            self.old.config.lifted 0 position.candidate) }
     {
         self.frames.push(frame)?;
-        Ok(self.enter(child))
+        Ok(self.enter())
     }
 
-    // Goes back from a configuration all of whose calls were tried, and which is so refuted with this longest: to the
-    // position after the last frame's call. Where there is no frame, the root is refuted.
-    pub(crate) fn backtrack(&mut self, longest: Longest) -> ControlFlow<Outcome, Position<O>>
-        requires { (root here : Configuration O.State) × (limit left : Option ℕ)
-            × IsProgress (problem_of O.after O.State.eq O.Reply.eq self.old.entries.problem) root
-            limit self.old.entries.lifted self.old.frames.items left here longest None }
-        ensures problem { self.new.entries.problem ≡ self.old.entries.problem }
-        ensures step { (root here : Configuration O.State) (limit left : Option ℕ)
-            → IsProgress (problem_of O.after O.State.eq O.Reply.eq self.old.entries.problem) root
-            limit self.old.entries.lifted self.old.frames.items left here longest None
-            → IsStep (problem_of O.after O.State.eq O.Reply.eq self.old.entries.problem) root limit
-            self.new.entries.lifted self.new.frames.items left (λ told. ⊥)
-            (work (length self.old.entries.problem.calls) self.old.frames.items here.lifted
-            (length self.old.entries.problem.calls)) result }
-        ensures back { IsStepBack (problem_of O.after O.State.eq O.Reply.eq
-            self.old.entries.problem) self.old.frames.items self.new.frames.items result }
+    // The last frame, which is taken off.
+    pub(crate) fn pop(&mut self) -> Option<Frame<O>>
+        ensures entries { self.new.entries ≡ self.old.entries }
+        ensures config { self.new.config ≡ self.old.config }
+        ensures some { IfSome result (λ frame. self.old.frames.items
+            ≡ self.new.frames.items ++ frame ∷ []) }
+        ensures none { IfNone result ((self.old.frames.items ≡ [])
+            × (self.new.frames.items ≡ [])) }
     {
-        match self.frames.pop() {
-            Some(frame) => ControlFlow::Continue(self.leave(frame, longest)),
-            None => ControlFlow::Break(Outcome::Refuted(longest)),
-        }
+        self.frames.pop()
     }
 }

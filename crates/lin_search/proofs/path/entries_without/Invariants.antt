@@ -2,7 +2,7 @@ use Rattle.std.proofs.Common.{◌≡◌}
 use Rattle.lin_history.specs.Problems.Problem.{problem_of}
 use Rattle.lin_search.specs.CallSet.{lifted_set}
 use Rattle.lin_search.proofs.LiftedSetLemmas.{IsFilledTo}
-use Rattle.lin_search.proofs.path.Path.new.Given as goal
+use Rattle.lin_search.proofs.path.entries_without.Given as goal
 
 abbrev pub invariant-loop-call : goal.invariant-loop-call
 invariant-loop-call g l = record {

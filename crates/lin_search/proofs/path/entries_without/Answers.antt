@@ -1,8 +1,8 @@
 use Rattle.std.proofs.Common.{sym, ◌∙◌, arith}
 use Rattle.lin_history.specs.Problems.Problem.{problem_of}
 use Rattle.lin_search.proofs.LiftedSetLemmas.{filled_skip, filled_lifted, filled_all}
-use Rattle.lin_search.proofs.path.Path.new.Goals as goal
-use Rattle.lin_search.proofs.path.Path.new.Goals.{then-has, else-has}
+use Rattle.lin_search.proofs.path.entries_without.Goals as goal
+use Rattle.lin_search.proofs.path.entries_without.Goals.{then-has, else-has}
 
 pub loop-call-preserved : goal.loop-call-preserved
 loop-call-preserved g c = elim c.if-has.branch [

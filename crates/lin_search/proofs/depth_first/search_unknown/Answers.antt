@@ -1,0 +1,29 @@
+use Rattle.std.proofs.Common.{◌∙◌}
+use Rattle.lin_history.specs.Problems.Problem.{problem_of}
+use Rattle.lin_search.proofs.PathLemmas.{answer_refutes}
+use Rattle.lin_search.proofs.depth_first.search_unknown.Goals as goal
+
+pub search_on-requires-clause-of : goal.search_on-requires-clause-of
+search_on-requires-clause-of g c = λ h. rw c.in_ok-path.ensures.problem (c.requires.of h)
+
+pub note_root-is_kept-requires-clause-of : goal.note_root-is_kept-requires-clause-of
+note_root-is_kept-requires-clause-of g c =
+    λ h. g.met.M.Memo.keeps_problem _ _ c.search_on.ensures.memo _ (c.requires.of h)
+
+pub note_root-is_kept-requires-clause-refuted : goal.note_root-is_kept-requires-clause-refuted
+note_root-is_kept-requires-clause-refuted g c =
+    λ longest is.
+    let back = c.into_config-config.ensures ∙ c.in_ok-ended.ensures.back (rw is tt) ∙ c.in_ok-path.ensures.config in
+    rw back (answer_refutes (problem_of g.O.SeqObject.after g.O.State.PartialEq.eq g.O.Reply.PartialEq.eq c.args.problem.now) _ _ _ _ c.in_ok-ended.ended.outcome longest is c.requires.reachable (rw (c.in_ok-path.ensures.problem, c.in_ok-path.ensures.config) at c.in_ok-ended.ensures.answer))
+
+pub returns-clause-closed : goal.returns-clause-closed
+returns-clause-closed g c =
+    λ w refutation closed.
+    let both = c.with_note.ensures.whole w in
+    let refuted = rw c.with_note.ensures.outcome at refutation in
+    let back = c.into_config-config.ensures ∙ c.in_ok-ended.ensures.back refuted ∙ c.in_ok-path.ensures.config in
+    let held = (rw (c.in_ok-path.ensures.problem, c.in_ok-path.ensures.config) at c.in_ok-ended.ensures.holds) both.0 refuted closed in
+    (rw back at c.note_root-is_kept.ensures.closed) both.1 refuted held
+
+pub returns-clause-memo : goal.returns-clause-memo
+returns-clause-memo g c = g.met.M.Memo.chained _ _ _ c.search_on.ensures.memo c.note_root-is_kept.ensures.changes
