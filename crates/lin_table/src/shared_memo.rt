@@ -76,11 +76,10 @@ impl<'a, 'p, O: SeqObject> Memo<O> for SharedMemo<'a, 'p, O> {
         state: O::State,
         longest: Longest,
     ) -> Noted {
-        if !self.table.problem().same(problem) {
+        if !self.is_for(problem) {
             return Noted::Stranger;
         }
-        self.table
-            .note_here(self.hand, problem, lifted, state, longest)
+        self.note_here(problem, lifted, state, longest)
     }
 
     fn is_for(&self, problem: &Problem<O>) -> bool
@@ -114,8 +113,8 @@ impl<'a, 'p, O: SeqObject> Memo<O> for SharedMemo<'a, 'p, O> {
         state: O::State,
         longest: Longest,
     ) -> Noted {
-        self.table
-            .note_here(self.hand, problem, lifted, state, longest)
+        let table = self.table;
+        table.note_here(self.hand, problem, lifted, state, longest)
     }
 
     ghost unchanged = { λ m. (refl, refl, grown_itself m.hand.now) };

@@ -1,6 +1,6 @@
 //! Shards and tables: what they keep and tell, and two threads that search over one table.
 
-ghost use Rattle.std.specs.Prelude.{All};
+ghost use Rattle.std.specs.Prelude.{All, IfOk};
 ghost use Rattle.lin_table.specs.Hand.{IsHandOf};
 
 use super::fakes::Keeping;
@@ -302,15 +302,15 @@ fn share_none(these: &[Config<AnyObject>], those: &[Config<AnyObject>]) -> bool 
 
 // Whether both refuted the problem, and the table has what they kept, at most 13, each once.
 fn brought_each_once(
+    alloc: Global,
     table: Table<'_, AnyObject>,
-    mut hands: Vec<Hand<AnyObject>>,
     one: Searched,
     other: Searched,
 ) -> Result<bool, AllocError>
-    requires hands { All (IsHandOf table) hands.items }
     requires one { IsHandOf table one.hand }
     requires other { IsHandOf table other.hand }
 {
+    let mut hands = Vec::with_capacity(alloc, 2)?;
     hands.push(one.hand)?;
     hands.push(other.hand)?;
     let apart = are_apart(&one.kept)
@@ -321,23 +321,39 @@ fn brought_each_once(
     Ok(refuted && apart && count <= 13 && stored(table, hands, count as u64))
 }
 
+// Searches over the table with each of the hands, in threads.
+fn search_with_all<R: Threads + Sync>(
+    rt: &R,
+    alloc: Global,
+    table: &Table<'_, AnyObject>,
+    hands: Vec<Hand<AnyObject>>,
+    problem: &Part,
+) -> Result<Vec<Searched>, AllocError>
+    requires { All (IsHandOf table.now) hands.items }
+    ensures { IfOk result (λ all. All (λ searched. IsHandOf table.now searched.hand) all.items) }
+{
+    thread::map_vec(
+        rt,
+        hands,
+        &|hand: Hand<AnyObject>| -> Searched
+            requires { IsHandOf table.now hand }
+            ensures { IsHandOf table.entry.now result.hand }
+        { search_with(alloc, table, hand, problem) },
+    )
+}
+
 // Whether two threads search over one table so.
-fn two_threads_search(
-    rt: &impl Threads,
+fn two_threads_search<R: Threads + Sync>(
+    rt: &R,
     alloc: Global,
     problem: &Part,
 ) -> Result<bool, AllocError> {
-    let (table, mut hands) = Table::new(alloc, problem, 16, 2)?;
-    let (Some(b), Some(a)) = (hands.pop(), hands.pop()) else {
+    let (table, hands) = Table::new(alloc, problem, 16, 2)?;
+    let mut all = search_with_all(rt, alloc, &table, hands, problem)?;
+    let (Some(one), Some(other)) = (all.pop(), all.pop()) else {
         return Ok(false);
     };
-    let shared = &table;
-    let (one, other) = thread::join(
-        rt,
-        move || search_with(alloc, shared, a, problem),
-        move || search_with(alloc, shared, b, problem),
-    );
-    brought_each_once(table, hands, one, other)
+    brought_each_once(alloc, table, one, other)
 }
 
 #[test]
