@@ -4,3 +4,5 @@ pub mod Rule
 pub mod Steps
 pub mod Hand
 pub mod Gather
+pub mod Shared
+pub mod SharedLemmas

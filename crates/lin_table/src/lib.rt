@@ -3,6 +3,7 @@
 //! - `shard`: the pairs of one shard.
 //! - `steps`: a shard is taken out, looked at or added to, and given back.
 //! - `hand`: what a worker steps with; `table`: the table as its callers see it.
+//! - `shared_memo`: a table and a hand, as the memo of a search.
 //! - `rule`: what holds of the shards' words and of all hands' views, whatever the order of their steps.
 #![tactic(auto)]
 
@@ -11,9 +12,11 @@ mod gather;
 mod hand;
 mod rule;
 mod shard;
+mod shared_memo;
 mod steps;
 mod table;
 
 pub use hand::Hand;
 pub use shard::Shard;
+pub use shared_memo::SharedMemo;
 pub use table::{HandsMissing, Table};

@@ -209,6 +209,7 @@ impl<'p, O: SeqObject> Table<'p, O> {
         ensures new { result ≡ Noted.New → HasStored hand.old (home_of lifted self.now.shards)
             (record { lifted = lifted; state = state }) hand.new }
         ensures same { result ≢ Noted.New → hand.new ≡ hand.old }
+        ensures came { IsHandOf self.now hand.new }
         ensures own { result ≢ Noted.Stranger }
     {
         let shard = self.shard_of(lifted.sum());
@@ -248,6 +249,7 @@ impl<'p, O: SeqObject> Table<'p, O> {
         ensures new { result ≡ Noted.New → HasStored hand.old (home_of lifted self.now.shards)
             (record { lifted = lifted; state = state }) hand.new }
         ensures same { result ≢ Noted.New → hand.new ≡ hand.old }
+        ensures came { IsHandOf self.now hand.new }
         ensures own { result ≢ Noted.Stranger }
     {
         if hand.count() < MAX_STORED {
@@ -272,6 +274,7 @@ impl<'p, O: SeqObject> Table<'p, O> {
             (home_of refutation.entry.config.lifted self.now.shards) refutation.entry.config
             hand.new }
         ensures same { result ≢ Noted.New → hand.new ≡ hand.old }
+        ensures came { IsHandOf self.now hand.new }
         ensures stranger { (result ≡ Noted.Stranger)
             ↔ (SameProblem O.eq O.State.eq O.Op.eq O.Reply.eq self.now.problem
             refutation.entry.problem → ⊥) }

@@ -8,3 +8,4 @@ mod histories;
 mod objects;
 mod program;
 mod searches;
+mod tables;

@@ -1,11 +1,14 @@
-//! A memo that forgets, and a stop that counts down.
+//! A memo that forgets, one that keeps copies of what is new, and a stop that counts down.
 
 ghost use Rattle.std.specs.Prelude.{◌≡◌};
 ghost use Rattle.lin_search.specs.declared.memo.Noted.TheVariants.{Busy};
+ghost use Rattle.lin_table.specs.Shared.{HasGrown};
 
 use lin_history::Problem;
 use lin_object::{AnyObject, ObjState};
 use lin_search::{CallSet, Config, Longest, Memo, Noted, Stop};
+use lin_table::SharedMemo;
+use std::alloc::{AllocError, Global};
 
 /// A memo that keeps nothing: it knows no configuration, and is always busy.
 #[derive(Drop)]
@@ -41,6 +44,80 @@ impl Memo<AnyObject> for Forgetful {
     ghost unchanged = { λ m. tt };
 
     ghost chained = { λ a b c first second. tt };
+
+    ghost lasting = { λ a b k set s h. h };
+
+    ghost at_equal = { λ m set s t same h. h };
+
+    ghost keeps_problem = { λ a b k p h. h };
+}
+
+// Keeps a copy that was made, where it is of what is new.
+fn keep(
+    kept: &mut Vec<Config<AnyObject>>,
+    copy: Result<Config<AnyObject>, AllocError>,
+    noted: Noted,
+) {
+    if noted == Noted::New
+        && let Ok(copy) = copy
+    {
+        let _ = kept.push(copy);
+    }
+}
+
+/// A memo over a table that keeps a copy of each configuration that is new there.
+#[derive(Drop)]
+pub struct Keeping<'a, 'p> {
+    pub alloc: Global,
+    pub memo: SharedMemo<'a, 'p, AnyObject>,
+    pub kept: &'a mut Vec<Config<AnyObject>>,
+}
+
+impl<'a, 'p> Memo<AnyObject> for Keeping<'a, 'p> {
+    ghost use Rattle.std.specs.Prelude.{refl};
+    ghost use Rattle.std.proofs.Common.{◌∙◌};
+    ghost use Rattle.lin_table.specs.SharedLemmas.{grown_itself, grown_twice};
+
+    ghost changes = { λ old new. (new.memo.table.now ≡ old.memo.table.now)
+        × (new.memo.hand.ghost_name ≡ old.memo.hand.ghost_name)
+        × HasGrown old.memo.hand.now new.memo.hand.now };
+
+    ghost holds = { λ m set s. Unit {0} };
+
+    ghost is_of = { λ m p. Unit {0} };
+
+    ghost answers = { λ old p config longest noted new. Unit {0} };
+
+    fn look(
+        &mut self,
+        problem: &Problem<AnyObject>,
+        config: &Config<AnyObject>,
+    ) -> Option<Longest> {
+        self.memo.look(problem, config)
+    }
+
+    fn note_parts(
+        &mut self,
+        problem: &Problem<AnyObject>,
+        lifted: CallSet,
+        state: ObjState,
+        longest: Longest,
+    ) -> Noted {
+        let config = Config::from_parts(lifted, state);
+        let copy = config.copy(self.alloc, problem);
+        let (lifted, state) = config.into_parts();
+        let noted = self.memo.note_parts(problem, lifted, state, longest);
+        keep(self.kept, copy, noted);
+        noted
+    }
+
+    ghost unchanged = { λ m. (refl, refl, grown_itself m.memo.hand.now) };
+
+    ghost chained = { λ a b c first second. (
+      second.0 ∙ first.0,
+      second.1 ∙ first.1,
+      grown_twice a.memo.hand.now b.memo.hand.now c.memo.hand.now first.2 second.2,
+    ) };
 
     ghost lasting = { λ a b k set s h. h };
 

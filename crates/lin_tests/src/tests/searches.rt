@@ -11,11 +11,11 @@ use lin_search::{
 };
 use std::alloc::{AllocError, Global};
 
-type Part = Problem<AnyObject>;
+pub(super) type Part = Problem<AnyObject>;
 
 // An event of a problem.
 #[derive(Clone, Copy)]
-enum Event {
+pub(super) enum Event {
     // A process calls an operation.
     Call(u32, Op),
     // The call of this number returns a reply.
@@ -25,7 +25,7 @@ enum Event {
 use Event::{Call, Return};
 
 // Three writes that overlap one another, and after them a read of what nobody wrote.
-const READ_OF_NO_WRITTEN_VALUE: [Event; 8] = [
+pub(super) const READ_OF_NO_WRITTEN_VALUE: [Event; 8] = [
     Call(1, Op::Write(1)),
     Call(2, Op::Write(2)),
     Call(3, Op::Write(3)),
@@ -37,7 +37,7 @@ const READ_OF_NO_WRITTEN_VALUE: [Event; 8] = [
 ];
 
 // The same with a read of the last write's value.
-const READ_OF_THE_LAST_VALUE: [Event; 8] = [
+pub(super) const READ_OF_THE_LAST_VALUE: [Event; 8] = [
     Call(1, Op::Write(1)),
     Call(2, Op::Write(2)),
     Call(3, Op::Write(3)),
@@ -46,6 +46,18 @@ const READ_OF_THE_LAST_VALUE: [Event; 8] = [
     Return(2, Reply::Okay),
     Call(4, Op::Read),
     Return(3, Reply::Int(3)),
+];
+
+// The same with a read of yet another value that nobody wrote.
+pub(super) const READ_OF_ANOTHER_VALUE: [Event; 8] = [
+    Call(1, Op::Write(1)),
+    Call(2, Op::Write(2)),
+    Call(3, Op::Write(3)),
+    Return(0, Reply::Okay),
+    Return(1, Reply::Okay),
+    Return(2, Reply::Okay),
+    Call(4, Op::Read),
+    Return(3, Reply::Int(8)),
 ];
 
 // The same with writes of one value, which is not read.
@@ -73,7 +85,7 @@ const TWO_AT_ONCE: [Event; 8] = [
 ];
 
 // The problem with these events, numbered from 1. An event that is refused is left out.
-fn posed_by(alloc: Global, kind: Kind, events: &[Event]) -> Part {
+pub(super) fn posed_by(alloc: Global, kind: Kind, events: &[Event]) -> Part {
     let mut problem = Problem::new(alloc, AnyObject, start_state(alloc, kind, 0));
     let mut number = 0u32;
     for event in events {
@@ -86,7 +98,7 @@ fn posed_by(alloc: Global, kind: Kind, events: &[Event]) -> Part {
     problem
 }
 
-const THREE_MORE: Longest = Longest {
+pub(super) const THREE_MORE: Longest = Longest {
     more: 3,
     first: Some(0),
 };
@@ -210,7 +222,7 @@ fn one_call_leads_to_the_next_configuration(rt: HostRuntime) {
 }
 
 // That the root of the problem is refuted, where it is.
-fn refuted_root(
+pub(super) fn refuted_root(
     alloc: Global,
     problem: &Part,
 ) -> Result<Option<Refutation<'_, AnyObject>>, AllocError> {

@@ -1,0 +1,363 @@
+//! Shards and tables: what they keep and tell, and two threads that search over one table.
+
+ghost use Rattle.std.specs.Prelude.{All, IfOk};
+ghost use Rattle.lin_table.specs.Hand.{IsHandOf};
+
+use super::fakes::Keeping;
+use super::searches::{
+    Part, READ_OF_ANOTHER_VALUE, READ_OF_NO_WRITTEN_VALUE, READ_OF_THE_LAST_VALUE, THREE_MORE,
+    posed_by, refuted_root,
+};
+use lin_object::{AnyObject, Kind};
+use lin_search::{Config, Longest, Memo, NoStop, Noted, Outcome, search};
+use lin_table::{Hand, HandsMissing, Shard, SharedMemo, Table};
+use std::alloc::{AllocError, Global};
+use std::thread;
+use std::thread::Threads;
+
+// Three problems that differ in what their last call reads.
+#[derive(Drop)]
+struct Problems {
+    // Its root is refuted.
+    own: Part,
+    // So is this one's.
+    other: Part,
+    // This one has a linearization.
+    found: Part,
+}
+
+// The three problems.
+fn three_problems(alloc: Global) -> Problems {
+    Problems {
+        own: posed_by(alloc, Kind::Register, &READ_OF_NO_WRITTEN_VALUE),
+        other: posed_by(alloc, Kind::Register, &READ_OF_ANOTHER_VALUE),
+        found: posed_by(alloc, Kind::Register, &READ_OF_THE_LAST_VALUE),
+    }
+}
+
+// What a shard answers to the refuted root of the problem.
+fn added(
+    alloc: Global,
+    shard: &mut Shard<'_, AnyObject>,
+    problem: &Part,
+) -> Result<Option<Noted>, AllocError> {
+    match refuted_root(alloc, problem)? {
+        Some(refutation) => Ok(Some(shard.add(refutation))),
+        None => Ok(None),
+    }
+}
+
+// What a shard tells of the problem's root.
+fn kept(
+    alloc: Global,
+    shard: &Shard<'_, AnyObject>,
+    problem: &Part,
+) -> Result<Option<Longest>, AllocError> {
+    Ok(shard.look(problem, &Config::root(alloc, problem)?))
+}
+
+// Whether a shard refuses a stranger, keeps the root of its problem once, and tells it of no other problem.
+fn a_shard_keeps_once(alloc: Global, problems: &Problems) -> Result<bool, AllocError> {
+    let mut shard = Shard::new(alloc, &problems.own);
+    let strange = added(alloc, &mut shard, &problems.other)?;
+    let empty = shard.len();
+    let first = added(alloc, &mut shard, &problems.own)?;
+    let second = added(alloc, &mut shard, &problems.own)?;
+    let told = kept(alloc, &shard, &problems.own)?;
+    let untold = kept(alloc, &shard, &problems.found)?;
+    Ok(
+        strange == Some(Noted::Stranger)
+            && (first, second) == (Some(Noted::New), Some(Noted::Known))
+            && (told, untold) == (Some(THREE_MORE), None)
+            && (empty, shard.len()) == (0, 1),
+    )
+}
+
+#[test]
+fn a_shard_keeps_a_configuration_once(rt: HostRuntime) {
+    assert!(rt;
+        matches!(
+            a_shard_keeps_once(rt.alloc(), &three_problems(rt.alloc())),
+            Ok(true)
+        )
+    );
+}
+
+// What a table answers to the refuted root of the problem.
+fn noted(
+    alloc: Global,
+    table: &Table<'_, AnyObject>,
+    hand: &mut Hand<AnyObject>,
+    problem: &Part,
+) -> Result<Option<Noted>, AllocError>
+    requires { IsHandOf table.now hand.old }
+    ensures { IsHandOf table.now hand.new }
+{
+    match refuted_root(alloc, problem)? {
+        Some(refutation) => Ok(Some(table.note(hand, refutation))),
+        None => Ok(None),
+    }
+}
+
+// What a table tells of the problem's root.
+fn told(
+    alloc: Global,
+    table: &Table<'_, AnyObject>,
+    hand: &mut Hand<AnyObject>,
+    problem: &Part,
+) -> Result<Option<Longest>, AllocError>
+    requires { IsHandOf table.now hand.old }
+    ensures { IsHandOf table.now hand.new }
+{
+    Ok(table.look(hand, problem, &Config::root(alloc, problem)?))
+}
+
+// Whether the table refuses a stranger, keeps the root of its problem once, and tells it of no other problem.
+fn keeps_once(
+    alloc: Global,
+    table: &Table<'_, AnyObject>,
+    hand: &mut Hand<AnyObject>,
+    problems: &Problems,
+) -> Result<bool, AllocError>
+    requires { IsHandOf table.now hand.old }
+    ensures { IsHandOf table.now hand.new }
+{
+    let strange = noted(alloc, table, hand, &problems.other)?;
+    let first = noted(alloc, table, hand, &problems.own)?;
+    let second = noted(alloc, table, hand, &problems.own)?;
+    let own = told(alloc, table, hand, &problems.own)?;
+    let found = told(alloc, table, hand, &problems.found)?;
+    Ok(
+        strange == Some(Noted::Stranger)
+            && (first, second) == (Some(Noted::New), Some(Noted::Known))
+            && (own, found) == (Some(THREE_MORE), None)
+            && hand.count() == 1,
+    )
+}
+
+// Whether the table stored so many configurations with these hands.
+fn stored(table: Table<'_, AnyObject>, hands: Vec<Hand<AnyObject>>, count: u64) -> bool
+    requires { All (IsHandOf table) hands.items }
+{
+    matches!(table.total(hands), Ok(told) if told == count)
+}
+
+// Whether a table is given back without its hand, and tells so many configurations with it.
+fn totals(
+    alloc: Global,
+    table: Table<'_, AnyObject>,
+    hand: Hand<AnyObject>,
+    count: u64,
+) -> Result<bool, AllocError>
+    requires { IsHandOf table hand }
+{
+    let Err(HandsMissing { table, mut hands }) = table.total(Vec::new(alloc)) else {
+        return Ok(false);
+    };
+    hands.push(hand)?;
+    Ok(stored(table, hands, count))
+}
+
+// Whether a table with one hand does so.
+fn a_table_keeps_once(alloc: Global, problems: &Problems) -> Result<bool, AllocError> {
+    let (table, mut hands) = Table::new(alloc, &problems.own, 16, 1)?;
+    let Some(mut hand) = hands.pop() else {
+        return Ok(false);
+    };
+    let kept = keeps_once(alloc, &table, &mut hand, problems)?;
+    Ok(kept && totals(alloc, table, hand, 1)?)
+}
+
+#[test]
+fn a_table_keeps_a_configuration_once(rt: HostRuntime) {
+    assert!(rt;
+        matches!(
+            a_table_keeps_once(rt.alloc(), &three_problems(rt.alloc())),
+            Ok(true)
+        )
+    );
+}
+
+// Whether the search from the root of the problem over this table and hand refutes it within the limit.
+fn refutes(
+    alloc: Global,
+    table: &Table<'_, AnyObject>,
+    hand: &mut Hand<AnyObject>,
+    problem: &Part,
+    limit: Option<u64>,
+) -> Result<bool, AllocError>
+    requires { IsHandOf table.now hand.old }
+    ensures { IsHandOf table.now hand.new }
+{
+    let root = Config::root(alloc, problem)?;
+    let mut memo = SharedMemo::new(table, hand);
+    let outcome = search(alloc, problem, &root, &mut memo, limit, &mut NoStop)?;
+    Ok(outcome == Outcome::Refuted(THREE_MORE))
+}
+
+// Whether this hand, which stored nothing, is told what another hand stored, and stores none of it again.
+fn knows(
+    alloc: Global,
+    table: &Table<'_, AnyObject>,
+    hand: &mut Hand<AnyObject>,
+    problem: &Part,
+) -> Result<bool, AllocError>
+    requires { IsHandOf table.now hand.old }
+    ensures { IsHandOf table.now hand.new }
+{
+    // Each of the three calls that may come first leads to what is known.
+    let refuted = refutes(alloc, table, hand, problem, Some(3))?;
+    let root = Config::root(alloc, problem)?;
+    let own = SharedMemo::new(table, hand).look(problem, &root);
+    let again = noted(alloc, table, hand, problem)?;
+    Ok(refuted && (own, again) == (Some(THREE_MORE), Some(Noted::Known)) && hand.count() == 0)
+}
+
+// Whether one hand stores all 13 configurations of the problem, and the other then knows them.
+fn two_hands_share(alloc: Global, problem: &Part) -> Result<bool, AllocError> {
+    let (table, mut hands) = Table::new(alloc, problem, 16, 2)?;
+    let (Some(mut b), Some(mut a)) = (hands.pop(), hands.pop()) else {
+        return Ok(false);
+    };
+    let first = refutes(alloc, &table, &mut a, problem, None)?;
+    let known = knows(alloc, &table, &mut b, problem)?;
+    hands.push(a)?;
+    hands.push(b)?;
+    Ok(first && known && stored(table, hands, 13))
+}
+
+#[test]
+fn two_hands_share_what_one_stores(rt: HostRuntime) {
+    let problem = posed_by(rt.alloc(), Kind::Register, &READ_OF_NO_WRITTEN_VALUE);
+    assert!(rt; matches!(two_hands_share(rt.alloc(), &problem), Ok(true)));
+}
+
+// What a thread brings back: whether its search refuted the problem, what it was told to be new, and its hand.
+#[derive(Drop)]
+struct Searched {
+    refuted: bool,
+    kept: Vec<Config<AnyObject>>,
+    hand: Hand<AnyObject>,
+}
+
+// Searches over the table, and keeps a copy of each configuration that is new there.
+fn search_keeping(
+    alloc: Global,
+    table: &Table<'_, AnyObject>,
+    hand: &mut Hand<AnyObject>,
+    problem: &Part,
+    kept: &mut Vec<Config<AnyObject>>,
+) -> Result<bool, AllocError>
+    requires { IsHandOf table.now hand.old }
+    ensures { IsHandOf table.now hand.new }
+{
+    let root = Config::root(alloc, problem)?;
+    let mut memo = Keeping {
+        alloc,
+        memo: SharedMemo::new(table, hand),
+        kept,
+    };
+    let outcome = search(alloc, problem, &root, &mut memo, None, &mut NoStop)?;
+    Ok(outcome == Outcome::Refuted(THREE_MORE))
+}
+
+// What a thread brings back. Where memory is refused it did not refute the problem.
+fn search_with(
+    alloc: Global,
+    table: &Table<'_, AnyObject>,
+    mut hand: Hand<AnyObject>,
+    problem: &Part,
+) -> Searched
+    requires { IsHandOf table.now hand }
+    ensures { IsHandOf table.now result.hand }
+{
+    let mut kept = Vec::new(alloc);
+    let refuted = search_keeping(alloc, table, &mut hand, problem, &mut kept);
+    Searched {
+        refuted: matches!(refuted, Ok(true)),
+        kept,
+        hand,
+    }
+}
+
+// Whether no two of the configurations are the same.
+fn are_apart(configs: &[Config<AnyObject>]) -> bool {
+    for place in 0..configs.len() {
+        if configs[..place].contains(&configs[place]) {
+            return false;
+        }
+    }
+    true
+}
+
+// Whether none of these configurations is one of those.
+fn share_none(these: &[Config<AnyObject>], those: &[Config<AnyObject>]) -> bool {
+    for config in these {
+        if those.contains(config) {
+            return false;
+        }
+    }
+    true
+}
+
+// Whether both refuted the problem, and the table has what they kept, at most 13, each once.
+fn brought_each_once(
+    alloc: Global,
+    table: Table<'_, AnyObject>,
+    one: Searched,
+    other: Searched,
+) -> Result<bool, AllocError>
+    requires one { IsHandOf table one.hand }
+    requires other { IsHandOf table other.hand }
+{
+    let mut hands = Vec::with_capacity(alloc, 2)?;
+    hands.push(one.hand)?;
+    hands.push(other.hand)?;
+    let apart = are_apart(&one.kept)
+        && are_apart(&other.kept)
+        && share_none(&one.kept, &other.kept);
+    let count = one.kept.len().saturating_add(other.kept.len());
+    let refuted = one.refuted && other.refuted;
+    Ok(refuted && apart && count <= 13 && stored(table, hands, count as u64))
+}
+
+// Searches over the table with each of the hands, in threads.
+fn search_with_all<R: Threads + Sync>(
+    rt: &R,
+    alloc: Global,
+    table: &Table<'_, AnyObject>,
+    hands: Vec<Hand<AnyObject>>,
+    problem: &Part,
+) -> Result<Vec<Searched>, AllocError>
+    requires { All (IsHandOf table.now) hands.items }
+    ensures { IfOk result (λ all. All (λ searched. IsHandOf table.now searched.hand) all.items) }
+{
+    thread::map_vec(
+        rt,
+        hands,
+        &|hand: Hand<AnyObject>| -> Searched
+            requires { IsHandOf table.now hand }
+            ensures { IsHandOf table.entry.now result.hand }
+        { search_with(alloc, table, hand, problem) },
+    )
+}
+
+// Whether two threads search over one table so.
+fn two_threads_search<R: Threads + Sync>(
+    rt: &R,
+    alloc: Global,
+    problem: &Part,
+) -> Result<bool, AllocError> {
+    let (table, hands) = Table::new(alloc, problem, 16, 2)?;
+    let mut all = search_with_all(rt, alloc, &table, hands, problem)?;
+    let (Some(one), Some(other)) = (all.pop(), all.pop()) else {
+        return Ok(false);
+    };
+    brought_each_once(alloc, table, one, other)
+}
+
+#[test]
+fn two_threads_search_over_one_table(rt: HostRuntime) {
+    let problem = posed_by(rt.alloc(), Kind::Register, &READ_OF_NO_WRITTEN_VALUE);
+    assert!(rt; matches!(two_threads_search(&rt, rt.alloc(), &problem), Ok(true)));
+}
