@@ -16,12 +16,12 @@ use Rattle.lincheck.specs.declared.verdict.Verdict.{Verdict}
 use Rattle.lincheck.specs.declared.verdict.Verdict.TheVariants as verdicts
 use Rattle.lincheck.specs.Reading.{IsReadOf}
 use Rattle.lin_history.specs.Verifier.Flags.{AreKnown}
-use Rattle.lincheck.specs.Verdict.{IsVerdict, IsOf}
+use Rattle.lincheck.specs.Verdict.{IsVerdict, IsOf, report_of}
 use Rattle.std.specs.Io.KnownBytes.{Appends}
 use Rattle.lincheck.specs.declared.fault.RunFault.{RunFault}
 use Rattle.lincheck.specs.declared.fault.RunFault.TheVariants.{Read, Write, Memory}
 use Rattle.lincheck.proofs.Bytes.{kept}
-use Rattle.lincheck.specs.Prints.{Prints}
+use Rattle.lincheck.specs.Prints.{Prints, status_of}
 use Rattle.std.specs.Result.{result_map_both, is_err}
 use Rattle.lincheck.specs.Ran.{is_read, is_write, is_fault, RanFrom}
 
@@ -65,6 +65,12 @@ pub verdict_of : (h : RecordedHistory) (v : Verdict) → IsVerdict h v → IsOf 
 verdict_of h (verdicts.Yes l) v = replayed_known h (start_at h) l v.1.legal
 verdict_of h (verdicts.No object run) v = (v.0.0.declared, placed_known h object (start_at h object) v.0.1.order run.items v.0.1.placed)
 verdict_of h (verdicts.Undecided object) v = absurd v
+
+-- the report of a right verdict is what the text prints
+pub prints_verdict : (text : List ℕ) (h : RecordedHistory) (v : Verdict) (printed : List ℕ) → MeansHistory text h → IsVerdict h v → printed ≡ report_of h v → Prints text (status_of v) printed
+prints_verdict text h (verdicts.Yes l) printed m v p = (h, m, (v.0.0, l, v.0.1, v.0.2, v.1, p))
+prints_verdict text h (verdicts.No object run) printed m v p = (h, m, (object, run.items, v.0.0, v.0.1, p), v.1)
+prints_verdict text h (verdicts.Undecided object) printed m v p = absurd v
 
 -- ---- a run on what was read
 

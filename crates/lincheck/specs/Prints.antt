@@ -11,6 +11,8 @@ use Rattle.lin_text.specs.Text.{MeansHistory, MeansFault}
 use Rattle.lin_text.specs.Words.{fault_line}
 use Rattle.lincheck.specs.declared.status.Status.{Status}
 use Rattle.lincheck.specs.declared.status.Status.TheVariants.{Yes, No, Undecided, Refused}
+use Rattle.lincheck.specs.declared.verdict.Verdict.{Verdict}
+use Rattle.lincheck.specs.declared.verdict.Verdict.TheVariants as verdicts
 use Rattle.lincheck.specs.Verdict.{AreLeast, IsFirstWithout, IsLongestRunOf}
 use Rattle.lincheck.specs.Report.{yes_report, no_report}
 
@@ -33,3 +35,9 @@ Prints text Yes printed = (h : RecordedHistory) × MeansHistory text h × Prints
 Prints text No printed = (h : RecordedHistory) × MeansHistory text h × PrintsNo h printed × ((l : List (Placed Reply)) → IsLinearizationOfWhole (whole_of h) l → ⊥)
 Prints text Undecided printed = ⊥
 Prints text Refused printed = PrintsRefused text printed
+
+-- The status that tells a verdict.
+abbrev pub status_of : Verdict → Status
+status_of (verdicts.Yes l) = Yes
+status_of (verdicts.No object run) = No
+status_of (verdicts.Undecided object) = Undecided

@@ -4,7 +4,7 @@ ghost use Rattle.std.specs.Prelude.{◌≡◌, ◌≢◌, ◌||◌, ℕ, false, 
 ghost use Rattle.std.specs.Result.{result_map_both};
 ghost use Rattle.std.specs.Io.KnownBytes.{Appends};
 ghost use Rattle.lin_text.specs.Words.{fault_line};
-ghost use Rattle.lincheck.specs.Prints.{Prints};
+ghost use Rattle.lincheck.specs.Prints.{Prints, status_of};
 ghost use Rattle.lincheck.specs.Ran.{is_read, is_write, is_fault, RanFrom};
 ghost use Rattle.lincheck.specs.Reading.{IsReadOf};
 
@@ -62,6 +62,17 @@ fn refused(alloc: Global, fault: &TextFault) -> Result<(Status, Vec<u8>), AllocE
     Ok((Status::Refused, printed))
 }
 
+// The status that tells the verdict.
+fn status_of(verdict: &Verdict) -> Status
+    ensures { result ≡ status_of verdict.now }
+{
+    match verdict {
+        Verdict::Yes(_) => Status::Yes,
+        Verdict::No { .. } => Status::No,
+        Verdict::Undecided { .. } => Status::Undecided,
+    }
+}
+
 // What a text is answered: the status, and what is printed.
 fn answer(alloc: Global, text: &[u8]) -> Result<(Status, Vec<u8>), AllocError>
     ensures { IfOk result (λ answer. Prints text.now answer.0 answer.1.items) }
@@ -72,12 +83,7 @@ fn answer(alloc: Global, text: &[u8]) -> Result<(Status, Vec<u8>), AllocError>
     };
     let verdict = judge(alloc, &history)?;
     let printed = report(alloc, &history, &verdict)?;
-    let status = match verdict {
-        Verdict::Yes(_) => Status::Yes,
-        Verdict::No { .. } => Status::No,
-        Verdict::Undecided { .. } => Status::Undecided,
-    };
-    Ok((status, printed))
+    Ok((status_of(&verdict), printed))
 }
 
 // Writes the whole answer, and then flushes once. After an `Err` a prefix of it is written.

@@ -1,11 +1,14 @@
 -- The numbers of a problem's events: after one event more, and of the part of a history on one object.
-use Rattle.std.proofs.Common.{◌≡◌, ◌≢◌, ℕ, zero, suc, ◌+◌, ◌<◌, ◌≤◌, ◌==◌, Bool, true, false, cond, Option, Some, None, List, [], ◌∷◌, ◌++◌, length, map, filter, set, ◌⊎◌, inl, inr, refl, sym, ap, ◌∙◌, arith, if◌then◌else◌}
+use Rattle.std.proofs.Common.{◌≡◌, ◌≢◌, ℕ, zero, suc, ◌+◌, ◌<◌, ◌≤◌, ◌==◌, Bool, true, false, cond, Option, Some, None, List, [], ◌∷◌, ◌++◌, length, length-append, map, filter, set, ◌⊎◌, inl, inr, refl, sym, ap, ◌∙◌, arith, if◌then◌else◌}
 use Rattle.std.specs.List.{slice_get}
+use Rattle.std.proofs.lemmas.List.{length-set}
+use Rattle.std.proofs.lemmas.Option.{slice_get_cases}
+use Rattle.lin_history.specs.declared.limits.TheConstants.{MAX_CALLS_ON_OBJECT}
 use Rattle.lin_history.specs.declared.problems.problem.ProblemCall.{ProblemCall}
-use Rattle.lin_history.specs.Problems.ProblemParts.{number_of, greatest_number, AreTimed}
+use Rattle.lin_history.specs.Problems.ProblemParts.{number_of, greatest_number, AreTimed, returned_in}
 use Rattle.lin_history.specs.Recorder.Events.{Event, calls, returns_, Call, first_return, calls_from}
 use Rattle.lin_history.specs.Recorder.Parts.{problem_call}
-use Rattle.lin_history.proofs.ProblemLemmas.NumberLemmas.{called_within}
+use Rattle.lin_history.proofs.ProblemLemmas.NumberLemmas.{called_within, greatest_number-pushed, greatest_number-set}
 
 module _ {A : Type 0} where
   pushed_at : (xs : List A) (y : A) (i : ℕ) (x : A) → slice_get (xs ++ y ∷ []) i ≡ Some x → (slice_get xs i ≡ Some x) ⊎ ((i ≡ length xs) × (x ≡ y))
@@ -123,6 +126,29 @@ module _ {Op Reply : Type 0} where
       returned = λ a x r e f. now_returned a x r f (was a x e);
       apart = λ a b x y r e f g. now_apart a b x y r g (was a x e) (was b y f);
     }
+
+  -- what a problem keeps of its calls, after a return
+  pub stays_with_return : (cs ds : List (ProblemCall Op Reply)) (i number : ℕ) (reply : Reply) → ds ≡ returned_in cs i number reply (slice_get cs i) → i < length cs → greatest_number cs < number
+      → AreTimed cs → length cs ≤ MAX_CALLS_ON_OBJECT → (number ≡ greatest_number ds) × AreTimed ds × (length ds ≤ MAX_CALLS_ON_OBJECT)
+  stays_with_return cs ds i number reply e inside late timed few =
+      elim (slice_get_cases cs i).1 [
+        | inl q ↦ (
+            let c = q.0 in
+            let there = q.2 in
+            let made : ds ≡ set cs i (record c { returned = Some (number, reply) }) = rw there at e in
+            let same = length-set cs i (record c { returned = Some (number, reply) }) in
+            rw made (sym (greatest_number-set cs i c number reply there late), timed_returned cs i c number reply there late timed, omega (arith, few, same)))
+        | inr q ↦ absurd (let past = q.0 in omega (arith, past, inside))
+      ]
+
+  -- and after a call more
+  pub stays_with_call : (cs ds : List (ProblemCall Op Reply)) (c : ProblemCall Op Reply) → ds ≡ cs ++ c ∷ [] → c.returned ≡ None → greatest_number cs < c.called
+      → AreTimed cs → length cs < MAX_CALLS_ON_OBJECT → (c.called ≡ greatest_number ds) × AreTimed ds × (length ds ≤ MAX_CALLS_ON_OBJECT)
+  stays_with_call cs ds c e pending late timed room = (
+    greatest_number-pushed cs ds c e pending late,
+    timed_with cs ds c e pending late timed,
+    (let more = ap length e ∙ length-append cs (c ∷ []) in omega (arith, more, room)),
+  )
 
 -- ---- the part of a history on one object
 

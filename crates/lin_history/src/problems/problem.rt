@@ -3,7 +3,7 @@
 ghost use Rattle.std.specs.Prelude.{◌≡◌, ◌≢◌, ℕ, ◌<◌, ◌≤◌, ◌↔◌, [], None, Some, slice_get, length, nat_le, IsTrue, IsFalse, OnOk, OnErr, IfErr, IfNone};
 ghost use Rattle.lin_history.specs.Refusals.{first_that_holds};
 ghost use Rattle.lin_history.specs.Problems.SameProblem.{SameReturn, SameCall, SameCalls};
-ghost use Rattle.lin_history.specs.Problems.ProblemParts.{greatest_number};
+ghost use Rattle.lin_history.specs.Problems.ProblemParts.{greatest_number, is_pending, returned_in};
 
 use crate::limits::MAX_CALLS_ON_OBJECT;
 use lin_object::SeqObject;
@@ -35,6 +35,38 @@ pub enum ProblemFault {
     TooManyCalls,
     /// Memory for the call was refused.
     OutOfMemory,
+}
+
+// A call that has not returned.
+fn pending_call<P, R>(process: u32, op: P, called: u32) -> ProblemCall<P, R>
+    ensures { result ≡ record { process = process; op = op; called = called; returned = None } }
+{
+    ProblemCall {
+        process,
+        op,
+        called,
+        returned: None,
+    }
+}
+
+// Whether the call is there and has not returned.
+fn is_pending<P, R>(calls: &[ProblemCall<P, R>], call: usize) -> bool
+    ensures pending { result ≡ is_pending (slice_get calls.now call) }
+    ensures within { IsTrue result → call < length calls.now }
+{
+    match calls.get(call) {
+        Some(call) => call.returned.is_none(),
+        None => false,
+    }
+}
+
+// Completes the call: its return event has this number.
+fn complete<P, R: Drop>(calls: &mut Vec<ProblemCall<P, R>>, call: usize, reply: R, number: u32)
+    requires { call < length calls.old.items }
+    ensures { calls.new.items ≡ returned_in calls.old.items call number reply
+        (slice_get calls.old.items call) }
+{
+    calls[call].returned = Some((number, reply));
 }
 
 // Whether both are pending, or both returned at one number with equal replies.
@@ -117,7 +149,7 @@ fn last_number<P, R>(calls: &[ProblemCall<P, R>]) -> u32
 
 impl<O: SeqObject> Problem<O> {
     ghost use Rattle.lin_history.specs.Problems.SameProblem.{SameProblem};
-    ghost use Rattle.lin_history.specs.Problems.ProblemParts.{ProblemParts, AreTimed, is_pending, new_call_refusals, new_return_refusals, with_new_call, with_new_return};
+    ghost use Rattle.lin_history.specs.Problems.ProblemParts.{ProblemParts, AreTimed, new_call_refusals, new_return_refusals, with_new_call, with_new_return};
 
     /// The problem of these calls. Condition: they are in the order of their call events, return after they
     /// were called, no return event has the number of a call event, and there are no more than 4,096.
@@ -174,17 +206,6 @@ impl<O: SeqObject> Problem<O> {
         }
     }
 
-    // Whether the call is there and has not returned.
-    fn is_pending(&self, call: usize) -> bool
-        ensures pending { result ≡ is_pending (slice_get self.now.calls call) }
-        ensures within { IsTrue result → call < length self.now.calls }
-    {
-        match self.calls.get(call) {
-            Some(call) => call.returned.is_none(),
-            None => false,
-        }
-    }
-
     // Why a return of the call whose event has this number is refused.
     fn return_fault(&self, call: usize, number: u32) -> Option<ProblemFault>
         ensures fault { result ≡ first_that_holds (new_return_refusals self.now call number) }
@@ -193,7 +214,7 @@ impl<O: SeqObject> Problem<O> {
     {
         if self.is_late(number) {
             Some(ProblemFault::Late)
-        } else if !self.is_pending(call) {
+        } else if !is_pending(self.calls.as_slice(), call) {
             Some(ProblemFault::NoCall)
         } else {
             None
@@ -215,13 +236,7 @@ impl<O: SeqObject> Problem<O> {
         if let Some(fault) = self.call_fault(number) {
             return Err(fault);
         }
-        let call = ProblemCall {
-            process,
-            op,
-            called: number,
-            returned: None,
-        };
-        if self.calls.push(call).is_err() {
+        if self.calls.push(pending_call(process, op, number)).is_err() {
             return Err(ProblemFault::OutOfMemory);
         }
         self.last = number;
@@ -247,7 +262,7 @@ impl<O: SeqObject> Problem<O> {
         if let Some(fault) = self.return_fault(call, number) {
             return Err(fault);
         }
-        self.calls[call].returned = Some((number, reply));
+        complete(&mut self.calls, call, reply, number);
         self.last = number;
         Ok(())
     }

@@ -173,6 +173,31 @@ fn put(
     Ok(())
 }
 
+// The call that comes next: its number is how many calls its object has, and its event is the next.
+fn next_call(counts: &[usize], events: u32, process: u32, object: usize, op: Op) -> CallInfo
+    requires within { object < length counts.now }
+    requires few { events + 1 < 2 ^ 32 }
+    ensures number { slice_get counts.now object ≡ Some result.number }
+    ensures call { result ≡ record {
+      process = process;
+      object = object;
+      number = result.number;
+      op = op;
+      called = events + 1;
+      returned = None;
+    } }
+{
+    let number = counts[object];
+    CallInfo {
+        process,
+        object,
+        number,
+        op,
+        called: events + 1,
+        returned: None,
+    }
+}
+
 // Adds one call. After an error nothing has changed but what is kept as the last call of the process, which
 // is then no call that is there.
 fn add(
@@ -299,15 +324,7 @@ impl Builder {
         if is_full(self.calls.as_slice(), self.counts.as_slice(), object) {
             return Err(BuildFault::TooManyCalls);
         }
-        let number = self.counts[object];
-        let call = CallInfo {
-            process,
-            object,
-            number,
-            op,
-            called: self.events + 1,
-            returned: None,
-        };
+        let call = next_call(self.counts.as_slice(), self.events, process, object, op);
         if add(
             &mut self.calls,
             &mut self.last,

@@ -1,4 +1,4 @@
-use Rattle.std.proofs.Common.{◌≡◌, ◌-◌, ◌∙◌, length, take, drop, arith}
+use Rattle.std.proofs.Common.{◌≡◌, ◌-◌, ◌∙◌, length, take, drop, arith, rules}
 use Rattle.std.proofs.lemmas.Grind.{common_steps}
 use Rattle.std.proofs.Math.Bool.{or-false}
 use Rattle.lincheck.proofs.Bytes.{written_more, written_prefix, on_err}
@@ -17,3 +17,6 @@ pieces-preserved g c =
 
 pub returns-clause-prefix : goal.returns-clause-prefix
 returns-clause-prefix g c = on_err _ (written_prefix _ _ _ _ _ c.pieces.invariant.written c.flush.ensures.bytes)
+
+pub returns-clause-failed : goal.returns-clause-failed
+returns-clause-failed g c = search rules depth 3

@@ -1,4 +1,4 @@
-use Rattle.std.proofs.Common.{◌≡◌, map, refl, sym, ap, ◌∙◌}
+use Rattle.std.proofs.Common.{◌≡◌, map, refl, sym, ap, ◌∙◌, rules}
 use Rattle.lin_history.specs.Recorder.RecordedHistory.{RecordedHistory, is_on}
 use Rattle.lin_history.specs.Recorder.Views.{call_view}
 use Rattle.lin_history.proofs.RecorderLemmas.PartCallsLemmas.{index_within, part_next, part_done, few_in_part}
@@ -26,3 +26,6 @@ with_calls-requires-clause-few c =
 pub returns-clause-calls : goal.returns-clause-calls
 returns-clause-calls c =
     rw c.with_calls.ensures (part_done c.args.object c.args.history.now.calls c.args.indices.now c.loop-index.index-index c.loop-index.calls.items c.requires.indices c.loop-index-test.false c.loop-index.invariant)
+
+pub returns-clause-start : goal.returns-clause-start
+returns-clause-start c = search rules depth 3

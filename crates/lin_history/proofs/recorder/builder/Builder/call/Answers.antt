@@ -25,18 +25,18 @@ invariant_of-self c =
     let idle = idle-not_found c.self.inside.calls.items c.as_slice.result.now c.args.process c.pending_in.result c.as_slice.ensures.value c.pending_in.ensures.busy (sym c.is_some.ensures ∙ c.if-is_some.false) in
     let failed = sym c.is_err.ensures.value ∙ c.if-is_err.true in
     rw (is_err-on_err c.add.result _ c.add.ensures.same failed, is_err-on_err c.add.result _ c.add.ensures.same_counts failed, is_err-on_err c.add.result _ c.add.ensures.same_events failed)
-    (kept-last (map object_view c.self.inside.objects.entries) c.self.inside.calls.items c.self.inside.events (get nat_eq c.self.inside.last) c.self.inside.counts.items c.self.invariant c.args.process (get nat_eq c.add.new.last) idle c.add.ensures.others)
+    (kept-last (map object_view c.self.inside.objects.entries) c.self.inside.calls.items c.self.inside.events (get nat_eq c.self.inside.last) c.self.inside.counts.items c.self.invariant c.args.process (get nat_eq c.add.new.last) idle (rw c.next_call-call.ensures.call at c.add.ensures.others))
 
 pub invariant_of-self-2 : goal.invariant_of-self-2
 invariant_of-self-2 c =
     let idle = idle-not_found c.self.inside.calls.items c.as_slice.result.now c.args.process c.pending_in.result c.as_slice.ensures.value c.pending_in.ensures.busy (sym c.is_some.ensures ∙ c.if-is_some.false) in
     let done = sym c.is_err.ensures.value ∙ c.if-is_err.false in
-    let kept = kept-last (map object_view c.self.inside.objects.entries) c.self.inside.calls.items c.self.inside.events (get nat_eq c.self.inside.last) c.self.inside.counts.items c.self.invariant c.args.process (get nat_eq c.add.new.last) idle c.add.ensures.others in
-    let counted : slice_get c.self.inside.counts.items c.in_ok-object.object ≡ Some c.index-number.result.now = search (rules, slice_get_read) in
+    let kept = kept-last (map object_view c.self.inside.objects.entries) c.self.inside.calls.items c.self.inside.events (get nat_eq c.self.inside.last) c.self.inside.counts.items c.self.invariant c.args.process (get nat_eq c.add.new.last) idle (rw c.next_call-call.ensures.call at c.add.ensures.others) in
+    let counted : slice_get c.self.inside.counts.items c.in_ok-object.object ≡ Some c.next_call-call.result.number = rw c.as_slice-4.ensures.value at c.next_call-call.ensures.number in
     let room : length c.self.inside.calls.items < MAX_CALLS = rw c.as_slice-2.ensures.value at (c.is_full.ensures.room c.if-is_full.false) in
-    let room_on : c.index-number.result.now < MAX_CALLS_ON_OBJECT = rw (c.as_slice-3.ensures.value, counted) at (c.is_full.ensures.room_on c.if-is_full.false) in
-    rw (not_err c.add.result _ c.add.ensures.calls done, not_err c.add.result _ c.add.ensures.counts done, not_err c.add.result _ c.add.ensures.events done)
-    (kept-call (map object_view c.self.inside.objects.entries) c.self.inside.calls.items c.self.inside.events (get nat_eq c.add.new.last) c.self.inside.counts.items kept c.args.process c.in_ok-object.object c.index-number.result.now c.args.op idle counted room room_on (not_err c.add.result _ c.add.ensures.own done))
+    let room_on : c.next_call-call.result.number < MAX_CALLS_ON_OBJECT = rw (c.as_slice-3.ensures.value, counted) at (c.is_full.ensures.room_on c.if-is_full.false) in
+    rw (not_err c.add.result _ c.add.ensures.calls done, not_err c.add.result _ c.add.ensures.counts done, not_err c.add.result _ c.add.ensures.events done, c.next_call-call.ensures.call)
+    (kept-call (map object_view c.self.inside.objects.entries) c.self.inside.calls.items c.self.inside.events (get nat_eq c.add.new.last) c.self.inside.counts.items kept c.args.process c.in_ok-object.object c.next_call-call.result.number c.args.op idle counted room room_on (rw c.next_call-call.ensures.call at (not_err c.add.result _ c.add.ensures.own done)))
 
 pub returns-clause-ok : goal.returns-clause-ok
 returns-clause-ok c =
@@ -44,8 +44,8 @@ returns-clause-ok c =
     let old = recorded (map object_view c.self.inside.objects.entries) c.self.inside.calls.items c.self.inside.events in
     let new = recorded (map object_view c.self.inside.objects.entries) c.add.new.calls.items c.add.new.events in
     let called : new ≡ with_call old c.args.process c.in_ok-object.object c.args.op =
-    rw (not_err c.add.result _ c.add.ensures.calls done, not_err c.add.result _ c.add.ensures.events done)
-    (recorded-call (map object_view c.self.inside.objects.entries) c.self.inside.calls.items c.self.inside.events c.args.process c.in_ok-object.object c.index-number.result.now c.args.op) in
+    rw (not_err c.add.result _ c.add.ensures.calls done, not_err c.add.result _ c.add.ensures.events done, c.next_call-call.ensures.call)
+    (recorded-call (map object_view c.self.inside.objects.entries) c.self.inside.calls.items c.self.inside.events c.args.process c.in_ok-object.object c.next_call-call.result.number c.args.op) in
     subst (λ h. IsSomeAnd (index_named h c.args.name.now) (λ object. new ≡ with_call h c.args.process object c.args.op)) c.self.view_is
     (subst (λ r. IsSomeAnd r (λ object. new ≡ with_call old c.args.process object c.args.op)) (sym c.in_ok-object.ensures.named) called)
 
@@ -56,8 +56,8 @@ returns-clause-history c =
     let old = recorded (map object_view c.self.inside.objects.entries) c.self.inside.calls.items c.self.inside.events in
     let new = recorded (map object_view c.self.inside.objects.entries) c.add.new.calls.items c.add.new.events in
     let called : new ≡ with_call old c.args.process c.in_ok-object.object c.args.op =
-    rw (not_err c.add.result _ c.add.ensures.calls done, not_err c.add.result _ c.add.ensures.events done)
-    (recorded-call (map object_view c.self.inside.objects.entries) c.self.inside.calls.items c.self.inside.events c.args.process c.in_ok-object.object c.index-number.result.now c.args.op) in
+    rw (not_err c.add.result _ c.add.ensures.calls done, not_err c.add.result _ c.add.ensures.events done, c.next_call-call.ensures.call)
+    (recorded-call (map object_view c.self.inside.objects.entries) c.self.inside.calls.items c.self.inside.events c.args.process c.in_ok-object.object c.next_call-call.result.number c.args.op) in
     let within : c.in_ok-object.object < length (map object_view c.self.inside.objects.entries) = search rules in
     let added : Adds old (calls c.args.process c.in_ok-object.object c.args.op) new =
     subst (λ h. Adds old (calls c.args.process c.in_ok-object.object c.args.op) h) (sym called) (adds-call old c.args.process c.in_ok-object.object c.args.op idle within) in
@@ -76,5 +76,5 @@ returns-then-is_full-clause-err c not_memory =
 
 pub add-requires-clause-room : goal.add-requires-clause-room
 add-requires-clause-room c =
-    let counted : slice_get c.self.inside.counts.items c.in_ok-object.object ≡ Some c.index-number.result.now = search (rules, slice_get_read) in
+    let counted : slice_get c.self.inside.counts.items c.in_ok-object.object ≡ Some c.next_call-call.result.number = search (rules, slice_get_read) in
     rw (c.as_slice-3.ensures.value, counted) at (c.is_full.ensures.room_on c.if-is_full.false)
