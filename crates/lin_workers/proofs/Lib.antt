@@ -1,0 +1,4 @@
+pub mod RunLemmas
+pub mod PathLemmas
+pub mod LevelLemmas
+pub mod WidthLemmas
