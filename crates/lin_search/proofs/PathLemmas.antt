@@ -20,7 +20,7 @@ use Rattle.lin_search.specs.Memo.{IsClosed}
 use Rattle.lin_search.specs.Size.{HasMany, HasMoreThan}
 use Rattle.lin_search.specs.declared.path.Position.{Position}
 use Rattle.lin_search.specs.Path.{Frame, Level, levels, calls_of}
-use Rattle.lin_search.specs.Progress.{IsContinuationBelow, IsSearchedTo, IsLevel, IsPath, IsAt, HasLifts, AreLifts, IsLeft, IsTaken, IsProgress, HoldsBelow, HoldsOnPath, HoldsSearched, GoesOn, IsStep, HoldsStep, IsLifted, IsRefusal, bound, free, power, work, work_below, work_on_path}
+use Rattle.lin_search.specs.Progress.{IsContinuationBelow, IsSearchedTo, IsLevel, IsPath, IsAt, HasLifts, AreLifts, IsLeft, IsTaken, IsProgress, HoldsBelow, HoldsOnPath, HoldsSearched, GoesOn, IsStep, IsLifted, IsRefusal, bound, free, power, work, work_below, work_on_path}
 use Rattle.lin_search.specs.Answer.{IsAnswer, IsDecision, IsRefutation}
 use Rattle.lin_search.specs.declared.outcome.Outcome.{Outcome}
 use Rattle.lin_search.specs.declared.outcome.Outcome.TheVariants.{Found, Refuted, Undecided, Stopped}

@@ -11,7 +11,7 @@ use Rattle.lin_search.specs.declared.longest.Longest.{Longest}
 use Rattle.lin_search.specs.Configuration.{Configuration}
 use Rattle.lin_search.specs.CallSet.{with_call, with_calls}
 use Rattle.lin_search.specs.NextCall.{IsNext}
-use Rattle.lin_search.specs.Entries.{IsMinimal, IsLeastMinimal}
+use Rattle.lin_search.specs.Entries.{IsMinimal}
 use Rattle.lin_search.specs.Size.{HasMany}
 use Rattle.lin_search.specs.Memo.{IsClosed}
 use Rattle.lin_search.specs.Answer.{IsAnswer, IsRefutation}

@@ -1,5 +1,5 @@
 //! The path of a search: where it is, the frames behind it, and the entries left.
-ghost use Rattle.std.specs.Prelude.{◌≡◌, ℕ, ◌+◌, ◌<◌, ◌≤◌, ◌↔◌, ◌++◌, ◌∷◌, [], Bool, false, List, Option, Some, None, length, IfOk, IfSome, IfNone, IsTrue};
+ghost use Rattle.std.specs.Prelude.{◌≡◌, ℕ, ◌+◌, ◌<◌, ◌≤◌, ◌↔◌, ◌++◌, ◌∷◌, [], List, Option, Some, None, length, IfOk, IfSome, IfNone, IsTrue};
 ghost use Rattle.lin_history.specs.Problems.Problem.{problem_of};
 ghost use Rattle.lin_history.specs.Problems.Configurations.{IsReachable};
 ghost use Rattle.lin_search.specs.CallSet.{with_call, lifted_set};

@@ -1,5 +1,5 @@
 -- The words taken out were full, and the rest is there.
-use Rattle.std.proofs.Common.{◌≡◌, ℕ, ◌-◌, ◌^◌, ◌<◌, ◌≤◌, length, get_or, drop}
+use Rattle.std.proofs.Common.{◌≡◌, ℕ, ◌-◌, ◌^◌, ◌<◌, ◌≤◌, get_or, drop}
 use Rattle.lin_search.proofs.call_set.drop_full.Given as goal
 
 abbrev pub invariant-loop-count : goal.invariant-loop-count

@@ -1,5 +1,4 @@
-use Rattle.std.proofs.Common.{◌≡◌, ◌∙◌, ◌-◌, ◌^◌, ◌<◌, arith, ap, refl}
-use Rattle.lin_search.specs.Window.{word_at}
+use Rattle.std.proofs.Common.{◌∙◌, ◌-◌, arith}
 use Rattle.lin_search.proofs.WindowLemmas.{opened_one}
 use Rattle.lin_search.proofs.call_set.open_full.Goals as goal
 

@@ -1,4 +1,3 @@
-use Rattle.std.proofs.Common.{sym}
 use Rattle.lin_search.proofs.PathLemmas.{lifted_here, lifted_last, lifted_room, lifted_back, step_hit, step_push, holds_hit, holds_push}
 use Rattle.lin_search.proofs.depth_first.go_on.Goals as goal
 

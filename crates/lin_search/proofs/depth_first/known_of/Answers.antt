@@ -1,4 +1,4 @@
-use Rattle.std.proofs.Common.{◌∙◌, sym, true≢false}
+use Rattle.std.proofs.Common.{◌∙◌}
 use Rattle.lin_search.proofs.ProgressLemmas.{least_none}
 use Rattle.lin_search.proofs.depth_first.known_of.Goals as goal
 

@@ -1,4 +1,3 @@
-use Rattle.std.proofs.Common.{sym}
 use Rattle.lin_search.proofs.depth_first.note_root.Goals as goal
 
 pub returns-clause-closed : goal.returns-clause-closed
