@@ -113,8 +113,7 @@ fn all_levels<O: SeqObject>(
 
 /// Cuts the search of a problem into tasks: all configurations that runs of some number of calls lead to, the *level*, each
 /// once, with the least run that leads there, in lexicographic order of these runs. No level below has a configuration with
-/// every completed call. So the problem has no linearization exactly where no task has a completion, and else the least
-/// linearization is the path of the first task that has one, followed by its least completion.
+/// every completed call.
 ///
 /// Levels 0 to `LAST_LEVEL` are made one after another, ending earlier at the first that has at least `want` configurations,
 /// or a complete one, or after which no call can follow. The cut is at the widest of these, the lowest where several are as
