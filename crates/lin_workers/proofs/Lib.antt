@@ -2,3 +2,4 @@ pub mod RunLemmas
 pub mod PathLemmas
 pub mod LevelLemmas
 pub mod WidthLemmas
+pub mod TaskLemmas

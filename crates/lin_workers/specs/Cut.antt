@@ -1,9 +1,11 @@
 -- The levels of a problem's configurations, and the cut of a search into tasks (this project's own).
-use Rattle.std.specs.Prelude.{◌≡◌, ℕ, ◌+◌, ◌<◌, ◌≤◌, Bool, true, List, [], ◌∷◌, ◌⊎◌, length}
+use Rattle.std.specs.Prelude.{◌≡◌, ℕ, ◌+◌, ◌<◌, ◌≤◌, Bool, true, Some, List, [], ◌∷◌, ◌++◌, ◌⊎◌, length, slice_get}
 use Rattle.lin_history.specs.Problems.Problem.{Problem}
 use Rattle.lin_history.specs.Problems.Lists.{IsUpTo, IsLeast}
 use Rattle.lin_history.specs.Problems.LegalLists.{Legal}
-use Rattle.lin_history.specs.Problems.Linearizations.{IsRun}
+use Rattle.lin_history.specs.Problems.Continuations.{IsCompletion}
+use Rattle.lin_history.specs.Problems.Linearizations.{IsRun, IsLinearization}
+use Rattle.lin_search.specs.Answer.{HasNoCompletion}
 use Rattle.lin_search.specs.CallSet.{lifted_set}
 use Rattle.lin_search.specs.NextCall.{HasEveryCompleted}
 use Rattle.lin_search.specs.Configuration.{Configuration}
@@ -85,3 +87,13 @@ pub record IsWidestMade {State Op Reply : Type 0} (p : Problem State Op Reply) (
   pub made : IsMade p last want k
   pub widest : (j n m : ℕ) → IsMade p last want j → HasWidth p j n → HasWidth p k m → n ≤ m
   pub lowest : (j n m : ℕ) → j < k → HasWidth p j n → HasWidth p k m → n < m
+
+-- None of the tasks before this index has a completion.
+abbrev pub HasNoneBefore : {State Op Reply : Type 0} → Problem State Op Reply → List (Task State) → ℕ → Type 0
+HasNoneBefore {State} p ts i = (j : ℕ) (t : Task State) → j < i → slice_get ts j ≡ Some t → HasNoCompletion p t.config.lifted t.config.state
+
+-- The tasks decide the problem: where none has a completion it has no linearization, and of the first that has one the
+-- least completion, after the task's path, is the least linearization.
+pub record DecideBy {State Op Reply : Type 0} (p : Problem State Op Reply) (ts : List (Task State)) : Type 0 where
+  pub none : HasNoneBefore p ts (length ts) → (l : List ℕ) → IsLinearization p l → ⊥
+  pub least : (i : ℕ) (t : Task State) → slice_get ts i ≡ Some t → HasNoneBefore p ts i → (l : List ℕ) → IsLeast (IsCompletion p t.config.lifted t.config.state) l → IsLeast (IsLinearization p) (t.path ++ l)

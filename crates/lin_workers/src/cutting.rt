@@ -1,7 +1,7 @@
 //! A search is cut into tasks.
 ghost use Rattle.std.specs.Prelude.{◌≡◌, ℕ, ◌+◌, ◌<◌, ◌≤◌, length, IfOk, IsTrue, IsFalse};
 ghost use Rattle.lin_history.specs.Problems.Problem.{problem_of};
-ghost use Rattle.lin_workers.specs.Cut.{IsCut, IsLastLevel, IsWidestMade};
+ghost use Rattle.lin_workers.specs.Cut.{IsCut, IsLastLevel, IsWidestMade, DecideBy};
 ghost use Rattle.lin_workers.specs.Levels.{AreLevels};
 
 use crate::level::{first_level, has_complete, next_level};
@@ -113,7 +113,8 @@ fn all_levels<O: SeqObject>(
 
 /// Cuts the search of a problem into tasks: all configurations that runs of some number of calls lead to, the *level*, each
 /// once, with the least run that leads there, in lexicographic order of these runs. No level below has a configuration with
-/// every completed call.
+/// every completed call. So the problem has no linearization where no task has a completion, and else the least linearization
+/// is the path of the first task that has one, and then its least completion.
 ///
 /// Levels 0 to `LAST_LEVEL` are made one after another, ending earlier at the first that has at least `want` configurations,
 /// or a complete one, or after which no call can follow. The cut is at the widest of these, the lowest where several are as
@@ -123,9 +124,11 @@ pub fn cut<O: SeqObject>(
     problem: &Problem<O>,
     want: usize,
 ) -> Result<Vec<Task<O>>, AllocError>
-    ensures { IfOk result (λ tasks. (k : ℕ)
+    ensures cut { IfOk result (λ tasks. (k : ℕ)
         × IsCut (problem_of O.after O.State.eq O.Reply.eq problem.now) k tasks.items
         × IsWidestMade (problem_of O.after O.State.eq O.Reply.eq problem.now) LAST_LEVEL want k) }
+    ensures decides { IfOk result (λ tasks. DecideBy
+        (problem_of O.after O.State.eq O.Reply.eq problem.now) tasks.items) }
 {
     lawful::<O>();
     let levels = all_levels(alloc, problem, want)?;
