@@ -3,3 +3,4 @@ pub mod PathLemmas
 pub mod LevelLemmas
 pub mod WidthLemmas
 pub mod TaskLemmas
+pub mod ValueLemmas

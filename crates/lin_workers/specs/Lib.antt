@@ -1,3 +1,5 @@
 pub mod Cut
 pub mod NextLevel
 pub mod Levels
+pub mod Heard
+pub mod Values

@@ -7,7 +7,9 @@
 mod cutting;
 mod gate;
 mod level;
+mod stop;
 mod task;
+mod worker;
 
 pub use cutting::{LAST_LEVEL, cut};
 pub use gate::{FreeGate, Gate};
