@@ -10,3 +10,4 @@ mod objects;
 mod program;
 mod searches;
 mod tables;
+mod workers;

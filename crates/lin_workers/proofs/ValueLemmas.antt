@@ -1,5 +1,5 @@
 -- The values of a worker, task by task.
-use Rattle.std.proofs.Common.{◌≡◌, ℕ, ◌+◌, ◌<◌, Bool, true, false, Option, Some, None, List, [], ◌∷◌, ◌++◌, length, ◌⊎◌, inl, inr, refl, sym, ◌∙◌, ap, subst, append_assoc, append-nil, arith}
+use Rattle.std.proofs.Common.{◌≡◌, ℕ, Option, Some, None, List, [], ◌∷◌, ◌++◌, ◌⊎◌, inl, inr, refl, sym, ◌∙◌, ap, subst, append_assoc, append-nil, arith}
 use Rattle.std.specs.Prelude.{Contains, slice_get, is_none}
 use Rattle.std.specs.Option.{option_to_list}
 use Rattle.std.proofs.lemmas.List.Elements.{Contains-append_left, Contains-append_right}
@@ -111,7 +111,7 @@ module _ {State Op Reply : Type 0} (p : Problem State Op Reply) (ts : List (Task
               once = rw same brought.once;
               found = found;
             }
-          )
+            )
         | inr one ↦ (
             let same : now ≡ vs ++ (n, o) ∷ [] = kept.2 ∙ ap (λ (l : List (ℕ × Outcome)). vs ++ l) one in
             let value : IsValue p ts limit e (n, o) = record {
@@ -125,7 +125,7 @@ module _ {State Op Reply : Type 0} (p : Problem State Op Reply) (ts : List (Task
               once = rw same (once_end vs (n, o) brought.once (λ h. fresh (tasks_claimed p ts limit s vs n brought.values h)));
               found = found;
             }
-          )
+            )
       ]
 
 -- no task is left

@@ -35,7 +35,7 @@ fn share_three_tasks(board: &Board, a: &mut Seat, b: &mut Seat) -> bool
 }
 
 // Whether the board closes with these seats, and tells so many claims and this least task.
-fn tallies(board: Board, seats: Vec<Seat>, claimed: u64, least: Option<u64>) -> bool
+pub(super) fn tallies(board: Board, seats: Vec<Seat>, claimed: u64, least: Option<u64>) -> bool
     requires { All (IsSeatOf board) seats.items }
 {
     matches!(board.close(seats), Ok(told) if told == Tally { claimed, least })

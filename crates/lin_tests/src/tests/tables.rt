@@ -136,7 +136,7 @@ fn keeps_once(
 }
 
 // Whether the table stored so many configurations with these hands.
-fn stored(table: Table<'_, AnyObject>, hands: Vec<Hand<AnyObject>>, count: u64) -> bool
+pub(super) fn stored(table: Table<'_, AnyObject>, hands: Vec<Hand<AnyObject>>, count: u64) -> bool
     requires { All (IsHandOf table) hands.items }
 {
     matches!(table.total(hands), Ok(told) if told == count)

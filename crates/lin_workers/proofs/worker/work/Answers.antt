@@ -2,7 +2,7 @@ use Rattle.std.proofs.Common.{◌∙◌, arith}
 use Rattle.lin_history.specs.Problems.Problem.{problem_of}
 use Rattle.lin_workers.proofs.RunLemmas.{leads_reachable}
 use Rattle.lin_workers.proofs.LevelLemmas.{item_at, task_at}
-use Rattle.lin_workers.proofs.ValueLemmas.{brought_none, brought_same, brought_kept, brought_ended}
+use Rattle.lin_workers.proofs.ValueLemmas.{brought_same, brought_kept, brought_ended}
 use Rattle.lin_workers.proofs.worker.work.Goals as goal
 
 pub search_task-searched-requires-clause-reachable : goal.search_task-searched-requires-clause-reachable
