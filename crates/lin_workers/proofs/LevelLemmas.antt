@@ -83,9 +83,6 @@ not_both b x y = cc
 pub absent_by : (b : Bool) → b ≡ true → b ≡ false → ⊥
 absent_by b x y = cc
 
-pub not_complete : (b : Bool) → b ≡ true → b ≡ false → ⊥
-not_complete b x y = cc
-
 -- the item that stands at an index
 pub once_at : {X : Type 0} (xs : List X) (i j : ℕ) (x y : X) → slice_get xs i ≡ Some x → j ≡ i → slice_get xs j ≡ Some y → x ≡ y
 once_at xs i j x y e h f = some_once (slice_get xs i) x y e (subst (λ (n : ℕ). slice_get xs n ≡ Some y) h f)

@@ -1,5 +1,5 @@
 -- Lists of calls in lexicographic order, by their last call.
-use Rattle.std.proofs.Common.{◌≡◌, ◌≢◌, ℕ, ◌+◌, ◌<◌, ◌≤◌, List, [], ◌∷◌, ◌++◌, length, ◌⊎◌, inl, inr, refl, sym, ◌∙◌, ap, arith}
+use Rattle.std.proofs.Common.{◌≡◌, ◌≢◌, ℕ, ◌+◌, ◌<◌, ◌≤◌, List, [], ◌∷◌, ◌++◌, length, ◌⊎◌, inl, inr, refl, ◌∙◌, ap, arith}
 use Rattle.lin_history.specs.Problems.Lists.{IsUpTo}
 
 pub up_to_itself : (l : List ℕ) → IsUpTo l l
@@ -23,19 +23,6 @@ up_to_both (i ∷ a) (j ∷ b) x y = elim x [
   | inl q ↦ absurd (elim y [ inl r ↦ omega (arith, q, r) | inr r ↦ (let e = r.0 in omega (arith, q, e)) ])
   | inr q ↦ elim y [ inl r ↦ absurd (let e = q.0 in omega (arith, e, r)) | inr r ↦ (let e = q.0 in let t = up_to_both a b q.1 r.1 in rw (e, t) refl) ]
 ]
-
--- of two lists, one is not after the other
-pub up_to_or : (a b : List ℕ) → IsUpTo a b ⊎ IsUpTo b a
-up_to_or [] b = inl tt
-up_to_or (i ∷ a) [] = inr tt
-up_to_or (i ∷ a) (j ∷ b) = elim (cases i j) [
-  | inl q ↦ inl (inl q)
-  | inr (inl q) ↦ inr (inl q)
-  | inr (inr q) ↦ elim (up_to_or a b) [ inl r ↦ inl (inr (q, r)) | inr r ↦ inr (inr (sym q, r)) ]
-]
-  where
-    cases : (i j : ℕ) → (i < j) ⊎ (j < i) ⊎ (i ≡ j)
-    cases i j = grind arith
 
 -- lists of one length, of which the first is before the second, stay so whatever call follows each
 pub up_to_last : (a b : List ℕ) (x y : ℕ) → length a ≡ length b → IsUpTo a b → a ≢ b → IsUpTo (a ++ x ∷ []) (b ++ y ∷ [])
