@@ -1,6 +1,5 @@
 pub mod Device
 pub mod Reading
-pub mod Options
 pub mod Report
 pub mod Verdict
 pub mod Prints
