@@ -14,9 +14,9 @@ use std::marker::Model;
 /// The most configurations that one hand stores.
 pub(crate) const MAX_STORED: u64 = 140_737_488_355_328;
 
-/// What a worker looks and notes with; each worker has one of its own. Contracts see the table that it came with, and an
-/// entry for each configuration that it stored: the shard, the place in it and the configuration. At run time a hand
-/// keeps their number alone.
+/// What a worker looks and notes with; each worker has one of its own. Contracts see the table that it came with, and
+/// an entry for each configuration that it stored: the shard, the place in it and the configuration. At run time a
+/// hand keeps their number alone.
 #[derive(Drop)]
 pub struct Hand<O: SeqObject> {
     pub(crate) badge: Badge<View<O>>,

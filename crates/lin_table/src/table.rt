@@ -40,7 +40,12 @@ impl<'p, O: SeqObject> Model for Table<'p, O> {
 
     ghost Value = { TableFacts O O.State O.Op O.Reply };
 
-    ghost view = { λ t. record { id = t.inner.shared.table_id; problem = t.problem.now; shards = t.shards; hands = t.hands } };
+    ghost view = { λ t. record {
+      id = t.inner.shared.table_id;
+      problem = t.problem.now;
+      shards = t.shards;
+      hands = t.hands;
+    } };
 
     ghost invariant = { λ t. (t.inner.shared.table_id.words ≡ t.shards)
         × (t.inner.shared.key.shards ≡ t.shards) × (t.inner.shared.key.hands ≡ t.hands)
@@ -58,8 +63,8 @@ pub struct HandsMissing<'p, O: SeqObject> {
 }
 
 impl<'p, O: SeqObject> Table<'p, O> {
-    /// A table of the problem with so many empty shards, and its hands, none of which has stored anything. There are 1 to
-    /// 256 shards and 1 to 65 hands. `AllocError` where memory was refused.
+    /// A table of the problem with so many empty shards, and its hands, none of which has stored anything. There are
+    /// 1 to 256 shards and 1 to 65 hands. `AllocError` where memory was refused.
     pub fn new(
         alloc: Global,
         problem: &'p Problem<O>,
@@ -101,9 +106,9 @@ impl<'p, O: SeqObject> Table<'p, O> {
         self.problem
     }
 
-    /// Takes all hands back and tells how many configurations they stored: that is below 2^54, and at most the number of
-    /// the problem's reachable configurations. Each hand came with this table. `HandsMissing` where fewer hands are there
-    /// than were made: it gives table and hands back as they were. It takes no memory.
+    /// Takes all hands back and tells how many configurations they stored: that is below 2^54, and at most the number
+    /// of the problem's reachable configurations. Each hand came with this table. `HandsMissing` where fewer hands
+    /// are there than were made: it gives table and hands back as they were. It takes no memory.
     pub fn total(self, mut hands: Vec<Hand<O>>) -> Result<u64, HandsMissing<'p, O>>
         requires { All (IsHandOf self) hands.items }
         ensures missing { IsErr result ↔ (vec_len hands < self.entry.hands) }
@@ -262,10 +267,10 @@ impl<'p, O: SeqObject> Table<'p, O> {
         }
     }
 
-    /// Hands a refutation to the table, which keeps it in its home. `Stranger` exactly where the table's problem is not the
-    /// `same` as the refutation's; `Known` where it was there; `Busy` where its shard was not got within 64 tries;
-    /// `NoRoom` where memory was refused, or the hand has stored 2^47 configurations; else `New`, which alone changes
-    /// anything: the hand has an entry more.
+    /// Hands a refutation to the table, which keeps it in its home. `Stranger` exactly where the table's problem is
+    /// not the `same` as the refutation's; `Known` where it was there; `Busy` where its shard was not got within 64
+    /// tries; `NoRoom` where memory was refused, or the hand has stored 2^47 configurations; else `New`, which alone
+    /// changes anything: the hand has an entry more.
     ///
     /// Condition: the hand came with this table.
     pub fn note(&self, hand: &mut Hand<O>, refutation: Refutation<'_, O>) -> Noted
