@@ -1,6 +1,6 @@
 //! What a worker steps on a table with.
 
-ghost use Rattle.std.specs.Prelude.{◌≡◌, ◌<◌, ◌≤◌, [], None, All, length, vec_len, vec_capacity};
+ghost use Rattle.std.specs.Prelude.{◌≡◌, ◌↔◌, ◌<◌, ◌≤◌, [], None, IsTrue, All, length, vec_len, vec_capacity};
 ghost use Rattle.lin_table.specs.Gather.{IsViewOf};
 ghost use Rattle.lin_table.specs.Rule.{view};
 ghost use Rattle.lin_table.specs.Steps.{one_part};
@@ -40,6 +40,13 @@ impl<O: SeqObject> Hand<O> {
         ensures few { result ≤ MAX_STORED }
     {
         self.count
+    }
+
+    // Whether it may store one configuration more.
+    pub(crate) fn has_room(&self) -> bool
+        ensures { IsTrue result ↔ length self.now.entries < MAX_STORED }
+    {
+        self.count() < MAX_STORED
     }
 
     // A hand that has stored nothing yet.

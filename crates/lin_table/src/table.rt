@@ -1,12 +1,12 @@
 //! The table as its callers see it.
 
-ghost use Rattle.std.specs.Prelude.{◌≡◌, ◌≢◌, ◌↔◌, ℕ, ◌%◌, ◌^◌, ◌<◌, ◌≤◌, All, length, vec_len, IfOk, IfErr, IsErr, IfSome};
+ghost use Rattle.std.specs.Prelude.{◌≡◌, ◌≢◌, ◌↔◌, ℕ, ◌%◌, ◌^◌, ◌<◌, ◌≤◌, [], None, Some, All, length, vec_len, IfOk, IfErr, IsErr, IfSome};
 ghost use Rattle.lin_history.specs.Problems.Problem.{problem_of};
 ghost use Rattle.lin_history.specs.Problems.SameProblem.{SameProblem};
 ghost use Rattle.lin_search.specs.Count.{IsNumberReachable};
 ghost use Rattle.lin_search.specs.Refutation.{IsRefutedWith};
 ghost use Rattle.lin_table.specs.Gather.{AreStored, entries_in};
-ghost use Rattle.lin_table.specs.Rule.{Pairs};
+ghost use Rattle.lin_table.specs.Rule.{Pairs, view};
 ghost use Rattle.lin_table.specs.Hand.{IsHandOf, HasStored, new_hand};
 ghost use Rattle.lin_table.specs.Home.{home_of};
 
@@ -15,7 +15,7 @@ use crate::gather::gather;
 use crate::hand::{Hand, MAX_STORED, deal};
 use crate::rule::{Plan, ShardRule, View};
 use crate::shard::{Shard, empty_shards};
-use crate::steps::{look_in, note_in};
+use crate::steps::{Token, look_in, note_in};
 use atomic_table::{Badge, Table as AtomicTable};
 use lin_history::Problem;
 use lin_object::{SeqObject, lawful};
@@ -24,11 +24,14 @@ use std::alloc::{AllocError, Global};
 use std::marker::Model;
 use std::mem;
 
+// The words and the shards, under their rule.
+type Inner<'p, O> = AtomicTable<Shard<'p, O>, View<O>, Plan<'p, O>, ShardRule, Global>;
+
 /// Refuted configurations of one problem, which several threads share. They are kept in shards, each of which one hand
 /// at a time takes out. Contracts see which table it is, its problem, and how many shards it has.
 #[derive(Drop)]
 pub struct Table<'p, O: SeqObject> {
-    inner: AtomicTable<Shard<'p, O>, View<O>, Plan<'p, O>, ShardRule, Global>,
+    inner: Inner<'p, O>,
     problem: &'p Problem<O>,
     shards: u64,
     hands: u64,
@@ -62,6 +65,33 @@ pub struct HandsMissing<'p, O: SeqObject> {
     pub hands: Vec<Hand<O>>,
 }
 
+// So many empty shards of the problem, all at home, and the token that has the parts of all hands.
+fn open_shards<'p, O: SeqObject>(
+    alloc: Global,
+    problem: &'p Problem<O>,
+    shards: usize,
+    hands: usize,
+) -> Result<(Inner<'p, O>, Token<'p, O>), AllocError>
+    ensures words { IfOk result (λ made. made.0.shared.table_id.words ≡ shards) }
+    ensures plan { IfOk result (λ made. (made.0.shared.key.problem.now ≡ problem.now)
+        × (made.0.shared.key.shards ≡ shards) × (made.0.shared.key.hands ≡ hands)) }
+    ensures table { IfOk result (λ made. made.1.table_id ≡ made.0.shared.table_id) }
+    ensures view { IfOk result (λ made. made.1.me
+        ≡ (view (Some problem.now) hands [] None, [])) }
+{
+    let plan = Plan {
+        problem,
+        shards: shards as u64,
+        hands: hands as u64,
+    };
+    let words = vec![in alloc; 0u64; shards]?;
+    let homes = empty_shards(alloc, problem, shards)?;
+    match AtomicTable::new(alloc, words.as_slice(), homes, &plan) {
+        Ok(opened) => Ok(opened),
+        Err(_) => Err(AllocError),
+    }
+}
+
 impl<'p, O: SeqObject> Table<'p, O> {
     /// A table of the problem with so many empty shards, and its hands, none of which has stored anything. There are
     /// 1 to 256 shards and 1 to 65 hands. `AllocError` where memory was refused.
@@ -79,16 +109,7 @@ impl<'p, O: SeqObject> Table<'p, O> {
         ensures hands { IfOk result (λ made. All (λ hand. hand ≡ new_hand made.0) made.1.items) }
     {
         let dealt = Vec::with_capacity(alloc, hands)?;
-        let plan = Plan {
-            problem,
-            shards: shards as u64,
-            hands: hands as u64,
-        };
-        let words = vec![in alloc; 0u64; shards]?;
-        let homes = empty_shards(alloc, problem, shards)?;
-        let Ok((inner, first)) = AtomicTable::new(alloc, words.as_slice(), homes, &plan) else {
-            return Err(AllocError);
-        };
+        let (inner, first) = open_shards(alloc, problem, shards, hands)?;
         let dealt = deal(&inner.shared, first, dealt, hands);
         let table = Table {
             inner,
@@ -257,7 +278,7 @@ impl<'p, O: SeqObject> Table<'p, O> {
         ensures came { IsHandOf self.now hand.new }
         ensures own { result ≢ Noted.Stranger }
     {
-        if hand.count() < MAX_STORED {
+        if hand.has_room() {
             return self.store(hand, problem, lifted, state, longest);
         }
         let config = Config::from_parts(lifted, state);
