@@ -1,4 +1,4 @@
-use Rattle.std.proofs.Common.{◌≡◌, ◌+◌, ◌-◌, [], None, ap, ◌∙◌, arith}
+use Rattle.std.proofs.Common.{◌≡◌, ◌+◌, ◌-◌, [], None, ap, ◌∙◌, arith, rules}
 use Rattle.std.proofs.lemmas.List.Elements.{All-push, All-same}
 use Rattle.lin_table.specs.Rule.{view}
 use Rattle.lin_table.specs.Steps.{one_part_less}
@@ -27,3 +27,6 @@ loop-preserved g c =
       room = let r = i.room in let m = c.push_reserved.ensures.capacity in omega arith;
       each = All-same (HasNothing c.args.first.table_id c.args.first.me.0.problem) _ _ c.push_reserved.ensures.items (All-push (HasNothing c.args.first.table_id c.args.first.me.0.problem) _ _ i.each mine);
     }
+
+pub loop-init : goal.loop-init
+loop-init g c = search rules depth 3

@@ -1,0 +1,5 @@
+use Rattle.std.proofs.Common.{rules}
+use Rattle.lin_table.proofs.shared_memo.SharedMemoMemo.look_here.Goals as goal
+
+pub returns-clause-refuted : goal.returns-clause-refuted
+returns-clause-refuted g c = search rules depth 3
