@@ -46,7 +46,7 @@ impl<O: SeqObject> Hand<O> {
     pub(crate) fn has_room(&self) -> bool
         ensures { IsTrue result ↔ length self.now.entries < MAX_STORED }
     {
-        self.count() < MAX_STORED
+        MAX_STORED > self.count()
     }
 
     // A hand that has stored nothing yet.

@@ -1,4 +1,4 @@
-use Rattle.std.proofs.Common.{◌≡◌, ◌+◌, ◌-◌, [], None, length, refl, ap, ◌∙◌, arith, rules}
+use Rattle.std.proofs.Common.{◌≡◌, ◌+◌, ◌-◌, [], None, refl, ap, ◌∙◌, arith, rules}
 use Rattle.std.proofs.lemmas.List.Elements.{All-push, All-same}
 use Rattle.lin_table.specs.Rule.{view}
 use Rattle.lin_table.specs.Steps.{one_part_less}
@@ -12,7 +12,7 @@ loop-init g c =
     let n : c.args.count ≡ c.args.count + 1 - 1 = omega arith in record {
       same = refl;
       me = q.first.1 ∙ ap (λ k. (view c.args.first.me.0.problem k [] None, [])) n;
-      len = ap (λ l. length l + 1) q.room.0;
+      len = search rules;
       room = q.room.1;
       each = search rules;
     }
