@@ -1,13 +1,13 @@
 //! The table as its callers see it.
 
-ghost use Rattle.std.specs.Prelude.{◌≡◌, ◌≢◌, ◌↔◌, ℕ, ◌%◌, ◌^◌, ◌<◌, ◌≤◌, [], None, Some, All, length, vec_len, IfOk, IfErr, IsErr, IfSome};
+ghost use Rattle.std.specs.Prelude.{◌≡◌, ◌≢◌, ◌↔◌, ℕ, ◌%◌, ◌^◌, ◌<◌, ◌≤◌, [], None, Some, All, length, vec_len, IfOk, IfErr, IsErr, IfSome, IsTrue};
 ghost use Rattle.lin_history.specs.Problems.Problem.{problem_of};
 ghost use Rattle.lin_history.specs.Problems.SameProblem.{SameProblem};
 ghost use Rattle.lin_search.specs.Count.{IsNumberReachable};
 ghost use Rattle.lin_search.specs.Refutation.{IsRefutedWith};
 ghost use Rattle.lin_table.specs.Gather.{AreStored, entries_in};
 ghost use Rattle.lin_table.specs.Rule.{Pairs, view};
-ghost use Rattle.lin_table.specs.Hand.{IsHandOf, HasStored, new_hand};
+ghost use Rattle.lin_table.specs.Hand.{IsHandOf, CameWith, HasStored, new_hand};
 ghost use Rattle.lin_table.specs.Home.{home_of};
 
 use crate::end::{free_shards, stored_by};
@@ -92,6 +92,23 @@ fn open_shards<'p, O: SeqObject>(
     }
 }
 
+// Closes a table with all its hands: their views become one, and the shards go, each of which was lawful.
+fn close_shards<'p, O: SeqObject>(inner: Inner<'p, O>, mut hands: Vec<Hand<O>>)
+    requires words { 0 < inner.shared.table_id.words }
+    requires hands { All (CameWith inner.shared.table_id) hands.items }
+    requires all { (0 < inner.shared.key.hands) × (inner.shared.key.hands ≤ vec_len hands) }
+    ensures few { vec_len hands ≤ inner.entry.shared.key.hands }
+    ensures stored { (lists : ℕ → Pairs O.State) × AreStored
+        (problem_of O.after O.State.eq O.Reply.eq inner.entry.shared.key.problem.now)
+        inner.entry.shared.key.shards lists (entries_in hands.items) }
+{
+    let Some(last) = hands.pop() else {
+        unreachable!()
+    };
+    let all = gather(&inner.shared, last.into_token(), hands);
+    free_shards(inner.close_with(all));
+}
+
 impl<'p, O: SeqObject> Table<'p, O> {
     /// A table of the problem with so many empty shards, and its hands, none of which has stored anything. There are
     /// 1 to 256 shards and 1 to 65 hands. `AllocError` where memory was refused.
@@ -127,10 +144,17 @@ impl<'p, O: SeqObject> Table<'p, O> {
         self.problem
     }
 
+    // Whether hands are missing where so many came back.
+    fn misses_hands(&self, came: usize) -> bool
+        ensures { IsTrue result ↔ came < self.now.hands }
+    {
+        (came as u64) < self.hands
+    }
+
     /// Takes all hands back and tells how many configurations they stored: that is below 2^54, and at most the number
     /// of the problem's reachable configurations. Each hand came with this table. `HandsMissing` where fewer hands
     /// are there than were made: it gives table and hands back as they were. It takes no memory.
-    pub fn total(self, mut hands: Vec<Hand<O>>) -> Result<u64, HandsMissing<'p, O>>
+    pub fn total(self, hands: Vec<Hand<O>>) -> Result<u64, HandsMissing<'p, O>>
         requires { All (IsHandOf self) hands.items }
         ensures missing { IsErr result ↔ (vec_len hands < self.entry.hands) }
         ensures unchanged { IfErr result (λ e. (e.table ≡ self.entry) × (e.hands ≡ hands)) }
@@ -143,21 +167,17 @@ impl<'p, O: SeqObject> Table<'p, O> {
             (problem_of O.after O.State.eq O.Reply.eq self.entry.problem) m → n ≤ m) }
     {
         lawful::<O>();
-        if (hands.len() as u64) < self.hands {
+        if self.misses_hands(hands.len()) {
             return Err(HandsMissing { table: self, hands });
         }
         let stored = stored_by(hands.as_slice());
-        let Some(last) = hands.pop() else {
-            unreachable!()
-        };
         let Table {
             inner,
             problem: _,
             shards: _,
             hands: _,
         } = self;
-        let all = gather(&inner.shared, last.into_token(), hands);
-        free_shards(inner.close_with(all));
+        close_shards(inner, hands);
         Ok(stored)
     }
 

@@ -1,4 +1,4 @@
-use Rattle.std.proofs.Common.{◌≡◌, ◌+◌, ◌++◌, ◌∷◌, length, sym, ap, ◌∙◌, arith, length-append, drop}
+use Rattle.std.proofs.Common.{◌≡◌, ◌+◌, ◌∷◌, length, sym, ap, ◌∙◌, arith, length-append, drop}
 use Rattle.std.proofs.lemmas.List.{at_drop_more}
 use Rattle.lin_table.specs.Gather.{entries_in}
 use Rattle.lin_table.proofs.end.stored_by.Goals as goal
