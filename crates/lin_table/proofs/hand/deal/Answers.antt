@@ -1,4 +1,4 @@
-use Rattle.std.proofs.Common.{◌≡◌, ◌+◌, ◌-◌, [], None, refl, ap, ◌∙◌, arith, rules}
+use Rattle.std.proofs.Common.{◌≡◌, ◌+◌, ◌-◌, [], None, length, refl, ap, ◌∙◌, arith}
 use Rattle.std.proofs.lemmas.List.Elements.{All-push, All-same}
 use Rattle.lin_table.specs.Rule.{view}
 use Rattle.lin_table.specs.Steps.{one_part_less}
@@ -9,12 +9,13 @@ use Rattle.lin_table.proofs.hand.deal.Goals as goal
 pub loop-init : goal.loop-init
 loop-init g c =
     let q = c.requires in
+    let none = ap length q.room.0 in
     let n : c.args.count ≡ c.args.count + 1 - 1 = omega arith in record {
       same = refl;
       me = q.first.1 ∙ ap (λ k. (view c.args.first.me.0.problem k [] None, [])) n;
-      len = search rules;
+      len = omega (arith, none);
       room = q.room.1;
-      each = search rules;
+      each = λ k d below. absurd (omega (arith, none, below));
     }
 
 pub split_seat-token-requires : goal.split_seat-token-requires

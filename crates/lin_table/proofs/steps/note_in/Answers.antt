@@ -13,4 +13,4 @@ note_out-requires-clause-here g c =
     (here.0, ap (λ v. v.problem) t.3 ∙ here.1, here.2)
 
 pub returns-then-not-take_out-clause-new : goal.returns-then-not-take_out-clause-new
-returns-then-not-take_out-clause-new g c = search rules depth 3
+returns-then-not-take_out-clause-new g c = λ is. absurd (cc (is))
