@@ -6,3 +6,4 @@ pub mod Prints
 pub mod Ran
 pub mod Status
 pub mod Request
+pub mod CommandLine

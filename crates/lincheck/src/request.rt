@@ -1,11 +1,12 @@
 //! What the words after the program's name ask for.
-ghost use Rattle.std.specs.Prelude.{◌≡◌};
-ghost use Rattle.clap.specs.Words.{kind_of};
+ghost use Rattle.std.specs.Prelude.{◌≤◌, IfOk};
+ghost use Rattle.clap.specs.Words.{found_of, kind_of};
+ghost use Rattle.lincheck.specs.CommandLine.{AreAsked, AreInRange, IsCommandLine, IsNumberOption};
 ghost use Rattle.lincheck.specs.Request.{AnswersKind};
 
 use clap::error::ErrorKind;
 use clap::{Arg, ArgAction, ArgMatches, Command, Error, value_parser};
-use lin_workers::{MAX_LIMIT, MAX_SHARDS, MAX_WORKERS, OptionFault, Options};
+use lin_workers::{MAX_LIMIT, MAX_SHARDS, MAX_WORKERS, Options};
 use std::alloc::{AllocError, Global};
 
 // What the program is for.
@@ -28,8 +29,9 @@ const LIMIT: &str =
 A history whose search would take for ever then ends with the answer `undecided`";
 
 const STATS: &str =
-    "Print a last line `stored N` after the answer: how many dead ends the search kept,
-which tells how hard the history was. `stored unknown` where a thread did not start";
+    "Print a last line `stored N` after the answer: how many refuted configurations (calls
+done, with the state after them) were kept, which tells how hard the search was.
+`stored unknown` where a thread did not start";
 
 // What is read, what is printed, and how the program ends.
 const MANUAL: &str = "\
@@ -65,12 +67,12 @@ Exit status:
   3  undecided
   4  reading or writing failed, or there was not enough memory; standard error tells which
 
-Example: a read returns 5 before the write of 5 is called.
+Example: the write of 5 has returned, and a read that is called after it returns 0.
   printf '%s\\n' '{\"event\":\"object\",\"object\":\"x\",\"kind\":\"register\"}' \\
-    '{\"event\":\"call\",\"process\":2,\"object\":\"x\",\"op\":\"read\"}' \\
-    '{\"event\":\"return\",\"process\":2,\"object\":\"x\",\"result\":5}' \\
     '{\"event\":\"call\",\"process\":1,\"object\":\"x\",\"op\":\"write\",\"args\":[5]}' \\
-    '{\"event\":\"return\",\"process\":1,\"object\":\"x\",\"result\":\"ok\"}' | lincheck
+    '{\"event\":\"return\",\"process\":1,\"object\":\"x\",\"result\":\"ok\"}' \\
+    '{\"event\":\"call\",\"process\":2,\"object\":\"x\",\"op\":\"read\"}' \\
+    '{\"event\":\"return\",\"process\":2,\"object\":\"x\",\"result\":0}' | lincheck
 prints
   not linearizable: x
   longest run: 1 of 2 calls
@@ -78,10 +80,11 @@ prints
 and ends with status 1.
 ";
 
-// How many workers and shards there are where none are asked for.
-const USUAL_WORKERS: u64 = 4;
+/// How many workers search where no number is asked for.
+pub const DEFAULT_WORKERS: u64 = 4;
 
-const USUAL_SHARDS: u64 = 16;
+/// How many shards there are where no number is asked for.
+pub const DEFAULT_SHARDS: u64 = 16;
 
 /// What a user asks for.
 #[derive(Debug, Drop)]
@@ -94,17 +97,22 @@ pub enum Request {
     Refused(String),
 }
 
-// The option of this name, which takes a number from 1 to the greatest.
-fn number_option<'a>(alloc: Global, name: &'a str, greatest: i64, help: &'a str) -> Arg<'a> {
+// The option of this name, which takes a number from 1 to the greatest, which is at most `MAX_LIMIT`.
+fn number_option<'a>(alloc: Global, name: &'a str, greatest: u64, help: &'a str) -> Arg<'a>
+    requires { greatest ≤ MAX_LIMIT }
+    ensures { IsNumberOption name.entry.now greatest result }
+{
     Arg::new(alloc, name)
         .long(name)
         .value_name("N")
-        .value_parser(value_parser!(u64).range(1..=greatest))
+        .value_parser(value_parser!(u64).range(1..=greatest as i64))
         .help(help)
 }
 
 // The command line of the program.
-fn command_line<'a>(alloc: Global) -> Result<Command<'a>, AllocError> {
+fn command_line<'a>(alloc: Global) -> Result<Command<'a>, AllocError>
+    ensures { IfOk result IsCommandLine }
+{
     let stats = Arg::new(alloc, "stats")
         .long("stats")
         .action(ArgAction::SetTrue)
@@ -114,22 +122,24 @@ fn command_line<'a>(alloc: Global) -> Result<Command<'a>, AllocError> {
         .override_usage("lincheck [OPTIONS] < HISTORY")
         .about(ABOUT)
         .after_help(MANUAL)
-        .arg(number_option(alloc, "workers", MAX_WORKERS as i64, WORKERS))?
-        .arg(number_option(alloc, "shards", MAX_SHARDS as i64, SHARDS))?
-        .arg(number_option(alloc, "limit", MAX_LIMIT as i64, LIMIT))?
+        .arg(number_option(alloc, "workers", MAX_WORKERS, WORKERS))?
+        .arg(number_option(alloc, "shards", MAX_SHARDS, SHARDS))?
+        .arg(number_option(alloc, "limit", MAX_LIMIT, LIMIT))?
         .arg(stats)
 }
 
 // The options that were asked for.
-fn options_asked(matches: &ArgMatches<'_>) -> Result<Options, OptionFault> {
-    let workers = matches.get_one("workers").unwrap_or(USUAL_WORKERS);
-    let shards = matches.get_one("shards").unwrap_or(USUAL_SHARDS);
-    Options::new(
-        workers,
-        shards,
-        matches.get_one("limit"),
-        matches.get_flag("stats"),
-    )
+fn options_asked(matches: &ArgMatches<'_>) -> Options
+    requires { AreInRange (found_of matches.now) }
+    ensures { AreAsked (found_of matches.now) result }
+{
+    let workers = matches.get_one("workers").unwrap_or(DEFAULT_WORKERS);
+    let shards = matches.get_one("shards").unwrap_or(DEFAULT_SHARDS);
+    let limit = matches.get_one("limit");
+    let Ok(options) = Options::new(workers, shards, limit, matches.get_flag("stats")) else {
+        unreachable!()
+    };
+    options
 }
 
 // What is answered where the words are none of the command line's.
@@ -150,10 +160,7 @@ fn answer_to(alloc: Global, error: &Error) -> Result<Request, AllocError>
 /// was refused.
 pub fn options_of(alloc: Global, words: &[String]) -> Result<Request, AllocError> {
     match command_line(alloc)?.try_get_matches_from(words) {
-        Ok(matches) => match options_asked(&matches) {
-            Ok(options) => Ok(Request::Run(options)),
-            Err(fault) => Ok(Request::Refused(format!(in alloc; "{fault:?}")?)),
-        },
+        Ok(matches) => Ok(Request::Run(options_asked(&matches))),
         Err(error) => answer_to(alloc, &error),
     }
 }
