@@ -5,3 +5,5 @@ pub mod Verdict
 pub mod Prints
 pub mod Ran
 pub mod Status
+pub mod Request
+pub mod CommandLine

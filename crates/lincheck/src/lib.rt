@@ -6,6 +6,7 @@ mod fault;
 mod judgement;
 mod lines;
 mod pipeline;
+mod request;
 mod status;
 mod verdict;
 
@@ -14,5 +15,6 @@ pub use fault::RunFault;
 pub use lin_workers::{MAX_LIMIT, MAX_SHARDS, MAX_WORKERS, OptionFault, Options};
 pub use lines::report;
 pub use pipeline::run;
+pub use request::{DEFAULT_SHARDS, DEFAULT_WORKERS, Request, options_of};
 pub use status::{Status, status_code};
 pub use verdict::Verdict;
