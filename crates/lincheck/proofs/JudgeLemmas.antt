@@ -3,7 +3,7 @@ use Rattle.std.proofs.Common.{◌≡◌, ℕ, zero, suc, ◌<◌, List, [], ◌�
 use Rattle.std.specs.Prelude.{pos, Vec}
 use Rattle.std.specs.declared.alloc.Global.{Global}
 use Rattle.std.specs.List.{slice_get}
-use Rattle.std.specs.Option.{option_map, option_map_or}
+use Rattle.std.specs.Option.{option_map, option_map_or, IsSomeAnd}
 use Rattle.lin_object.specs.declared.op.Op.{Op}
 use Rattle.lin_object.specs.declared.reply.Reply.{Reply}
 use Rattle.lin_object.specs.declared.state.ObjState.{ObjState}
@@ -15,15 +15,17 @@ use Rattle.lin_history.specs.declared.locality.placed.Placed.{Placed}
 use Rattle.lin_history.specs.declared.problems.problem.ProblemCall.{ProblemCall}
 use Rattle.lin_history.specs.Problems.Lists.{IsLeast}
 use Rattle.lin_history.specs.Problems.Problem.{Problem}
-use Rattle.lin_history.specs.Problems.Linearizations.{IsLinearization}
+use Rattle.lin_history.specs.Problems.Linearizations.{IsRun, IsLinearization}
 use Rattle.lin_history.specs.Recorder.RecordedHistory.{DeclaredObject, RecordedHistory}
 use Rattle.lin_history.specs.Recorder.Parts.{start_of, part_calls}
 use Rattle.lin_history.specs.Locality.Whole.{IsLinearizationOfWhole}
-use Rattle.lin_history.specs.Locality.JoinedOrder.{IsJoined}
+use Rattle.lin_history.specs.Locality.JoinedOrder.{IsJoined, Places}
 use Rattle.lin_history.specs.Locality.RecordedWhole.{start_at, whole_of, part_of}
 use Rattle.lin_history.specs.Locality.LocalityLemmas.{none_of_whole}
-use Rattle.lincheck.specs.declared.verdict.Verdict.TheVariants.{Yes, No}
-use Rattle.lincheck.specs.Verdict.{AreLeastOf, IsLongestRunOf, IsVerdict}
+use Rattle.lin_search.specs.LongestRun.{IsFirstLongest}
+use Rattle.lin_search.specs.Size.{HasMoreThan}
+use Rattle.lincheck.specs.declared.verdict.Verdict.TheVariants.{Yes, No, Undecided}
+use Rattle.lincheck.specs.Verdict.{AreLeastOf, IsVerdict}
 
 -- the problem of an object, as the search is problem_of it
 abbrev pub searched : List (ProblemCall Op Reply) → ObjState → Problem ObjState Op Reply
@@ -73,19 +75,26 @@ least_more h orders order n so_far least = record {
 pub linearizations : (h : RecordedHistory) (orders : List (List ℕ)) (n : ℕ) → AreLeastOf h n orders → (object : ℕ) (order : List ℕ) → slice_get orders object ≡ Some order → IsLinearization (part_of h object) order
 linearizations h orders n so_far object order e = (so_far.each object order e).0
 
-pub verdict_yes : (h : RecordedHistory) (orders : List (List ℕ)) (n : ℕ) (l : List (Placed Reply)) → n ≡ length h.objects → AreLeastOf h n orders → IsJoined (whole_of h) orders l → IsLinearizationOfWhole (whole_of h) l → IsVerdict h (Yes l)
-verdict_yes h orders n l all so_far joined whole = ((orders, subst (λ (k : ℕ). AreLeastOf h k orders) all so_far, joined), whole)
+pub verdict_yes : (h : RecordedHistory) (orders : List (List ℕ)) (n : ℕ) (l : List (Placed Reply)) → n ≡ length h.objects → AreLeastOf h n orders → IsJoined (whole_of h) orders l → IsLinearizationOfWhole (whole_of h) l → (limit : Option ℕ) → IsVerdict h limit (Yes l)
+verdict_yes h orders n l all so_far joined whole limit = ((orders, subst (λ (k : ℕ). AreLeastOf h k orders) all so_far, joined), whole)
 
 order_there : (orders : List (List ℕ)) (i : ℕ) → i < length orders → (order : List ℕ) × (slice_get orders i ≡ Some order)
 order_there [] i within = absurd (omega (arith, within))
 order_there (x ∷ xs) zero within = (x, refl)
 order_there (x ∷ xs) (suc i) within = order_there xs i (omega (arith, within))
 
-pub verdict_no : (h : RecordedHistory) (orders : List (List ℕ)) (object : ℕ) (run : Vec (Placed Reply) Global) → object < length h.objects → AreLeastOf h object orders → ((l : List ℕ) → IsLinearization (part_of h object) l → ⊥) × IsLongestRunOf h object run.items → IsVerdict h (No object run)
-verdict_no h orders object run declared so_far none =
-    ((record { declared = declared; none = none.0; earlier = earlier }, none.1), none_of_whole state_eq.it (whole_of h) object none.0)
-  where
-    earlier : (i : ℕ) → i < object → (l : List ℕ) × IsLinearization (part_of h i) l
-    earlier i below =
-        let there = order_there orders i (let count = so_far.count in omega (arith, below, count)) in
-        (there.0, (so_far.each i there.0 there.1).0)
+-- each object before has a linearization
+earlier_have : (h : RecordedHistory) (orders : List (List ℕ)) (object : ℕ) → AreLeastOf h object orders → (i : ℕ) → i < object → (l : List ℕ) × IsLinearization (part_of h i) l
+earlier_have h orders object so_far i below =
+    let there = order_there orders i (let count = so_far.count in omega (arith, below, count)) in
+    (there.0, (so_far.each i there.0 there.1).0)
+
+pub verdict_no : (h : RecordedHistory) (orders : List (List ℕ)) (object : ℕ) (order : List ℕ) (run : Vec (Placed Reply) Global) → object < length h.objects → AreLeastOf h object orders → ((l : List ℕ) → IsLinearization (part_of h object) l → ⊥) × IsFirstLongest (IsRun (part_of h object)) order → Places (whole_of h) object (start_at h object) order run.items → (limit : Option ℕ) → IsVerdict h limit (No object run)
+verdict_no h orders object order run declared so_far none placed limit =
+    (
+      (record { declared = declared; none = none.0; earlier = earlier_have h orders object so_far }, record { order = order; longest = none.1; placed = placed }),
+      none_of_whole state_eq.it (whole_of h) object none.0,
+    )
+
+pub verdict_undecided : (h : RecordedHistory) (orders : List (List ℕ)) (object : ℕ) → object < length h.objects → AreLeastOf h object orders → (limit : Option ℕ) → IsSomeAnd limit (λ most. HasMoreThan (IsRun (part_of h object)) most) → IsVerdict h limit (Undecided object)
+verdict_undecided h orders object declared so_far limit over = record { declared = declared; earlier = earlier_have h orders object so_far; over = over }

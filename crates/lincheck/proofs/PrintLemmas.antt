@@ -1,5 +1,5 @@
 -- What is printed of what was read is printed of the text.
-use Rattle.std.proofs.Common.{◌≡◌, ℕ, ◌+◌, ◌<◌, List, [], ◌∷◌, length, length-append, take, Option, Some, None, IfSome, Result, Ok, Err, OnOk, OnErr, false, inl, inr, refl, sym, ap, subst, ◌∙◌, arith}
+use Rattle.std.proofs.Common.{◌≡◌, ℕ, ◌+◌, ◌<◌, List, [], ◌∷◌, length, length-append, take, Option, Some, None, IfSome, Result, Ok, Err, OnOk, OnErr, Bool, false, inl, inr, refl, sym, ap, subst, ◌∙◌, arith}
 use Rattle.std.proofs.lemmas.Option.{slice_get_within}
 use Rattle.lin_object.specs.declared.reply.Reply.{Reply}
 use Rattle.lin_object.specs.declared.state.ObjState.{ObjState}
@@ -10,6 +10,7 @@ use Rattle.lin_history.specs.Locality.JoinedOrder.{Places}
 use Rattle.lin_history.specs.Locality.RecordedWhole.{whole_of, start_at}
 use Rattle.lin_text.specs.declared.cause.Cause.{Cause}
 use Rattle.lin_text.specs.Text.{MeansHistory, MeansFault}
+use Rattle.lin_workers.specs.Options.{Options}
 use Rattle.lincheck.specs.declared.status.Status.{Status}
 use Rattle.lincheck.specs.declared.status.Status.TheVariants.{Yes, No, Undecided, Refused}
 use Rattle.lincheck.specs.declared.verdict.Verdict.{Verdict}
@@ -21,7 +22,7 @@ use Rattle.std.specs.Io.KnownBytes.{Appends}
 use Rattle.lincheck.specs.declared.fault.RunFault.{RunFault}
 use Rattle.lincheck.specs.declared.fault.RunFault.TheVariants.{Read, Write, Memory}
 use Rattle.lincheck.proofs.Bytes.{kept}
-use Rattle.lincheck.specs.Prints.{Prints, status_of}
+use Rattle.lincheck.specs.Prints.{IsReport, WithStats, Follows, Prints, status_of}
 use Rattle.std.specs.Result.{result_map_both, is_err}
 use Rattle.lincheck.specs.Ran.{is_read, is_write, is_fault, RanFrom}
 
@@ -37,11 +38,14 @@ means_fault text read line cause (inr long) (inl m) =
     inl (omega (arith, l, n), m.1, m.2)
 means_fault text read line cause (inr long) (inr m) = absurd (let s = m.2.short in let l = long.0 in omega (arith, s, l))
 
-pub prints_read : (text read : List ℕ) (status : Status) (printed : List ℕ) → IsReadOf text read → Prints read status printed → Prints text status printed
-prints_read text read Yes printed r p = (p.0, means_history text read p.0 r p.1, p.2)
-prints_read text read No printed r p = (p.0, means_history text read p.0 r p.1, p.2, p.3)
-prints_read text read Undecided printed r p = absurd p
-prints_read text read Refused printed r p = (p.0, means_fault text read p.0.line p.0.cause r p.1, p.2)
+report_read : (limit : Option ℕ) (text read : List ℕ) (status : Status) (printed : List ℕ) → IsReadOf text read → IsReport limit read status printed → IsReport limit text status printed
+report_read limit text read Yes printed r p = (p.0, means_history text read p.0 r p.1, p.2)
+report_read limit text read No printed r p = (p.0, means_history text read p.0 r p.1, p.2, p.3)
+report_read limit text read Undecided printed r p = (p.0, means_history text read p.0 r p.1, p.2)
+report_read limit text read Refused printed r p = (p.0, means_fault text read p.0.line p.0.cause r p.1, p.2)
+
+pub prints_read : (options : Options) (text read : List ℕ) (status : Status) (printed : List ℕ) → IsReadOf text read → Prints options read status printed → Prints options text status printed
+prints_read options text read status printed r p = (p.0, report_read options.limit text read status p.0 r p.1, p.2)
 
 -- the calls of a list are known where its first and the rest are
 known_more : (h : RecordedHistory) (x : Placed Reply) (xs : List (Placed Reply)) → x.call < length h.calls → AreKnown (whole_of h) xs → AreKnown (whole_of h) (x ∷ xs)
@@ -61,26 +65,36 @@ placed_known h object s [] (x ∷ xs) p = absurd p
 placed_known h object s (c ∷ cs) [] p = absurd p
 
 -- a right verdict names calls and objects of the history
-pub verdict_of : (h : RecordedHistory) (v : Verdict) → IsVerdict h v → IsOf h v
-verdict_of h (verdicts.Yes l) v = replayed_known h (start_at h) l v.1.legal
-verdict_of h (verdicts.No object run) v = (v.0.0.declared, placed_known h object (start_at h object) v.0.1.order run.items v.0.1.placed)
-verdict_of h (verdicts.Undecided object) v = absurd v
+pub verdict_of : (h : RecordedHistory) (limit : Option ℕ) (v : Verdict) → IsVerdict h limit v → IsOf h v
+verdict_of h limit (verdicts.Yes l) v = replayed_known h (start_at h) l v.1.legal
+verdict_of h limit (verdicts.No object run) v = (v.0.0.declared, placed_known h object (start_at h object) v.0.1.order run.items v.0.1.placed)
+verdict_of h limit (verdicts.Undecided object) v = v.declared
 
--- the report of a right verdict is what the text prints
-pub prints_verdict : (text : List ℕ) (h : RecordedHistory) (v : Verdict) (printed : List ℕ) → MeansHistory text h → IsVerdict h v → printed ≡ report_of h v → Prints text (status_of v) printed
-prints_verdict text h (verdicts.Yes l) printed m v p = (h, m, (v.0.0, l, v.0.1, v.0.2, v.1, p))
-prints_verdict text h (verdicts.No object run) printed m v p = (h, m, (object, run.items, v.0.0, v.0.1, p), v.1)
-prints_verdict text h (verdicts.Undecided object) printed m v p = absurd v
+-- the report of a right verdict is the report of the text
+report_of_verdict : (text : List ℕ) (h : RecordedHistory) (limit : Option ℕ) (v : Verdict) (printed : List ℕ) → MeansHistory text h → IsVerdict h limit v → printed ≡ report_of h v → IsReport limit text (status_of v) printed
+report_of_verdict text h limit (verdicts.Yes l) printed m v p = (h, m, (v.0.0, l, v.0.1, v.0.2, v.1, p))
+report_of_verdict text h limit (verdicts.No object run) printed m v p = (h, m, (object, run.items, v.0.0, v.0.1, p), v.1)
+report_of_verdict text h limit (verdicts.Undecided object) printed m v p = (h, m, (object, v, p))
+
+stats_follow : (stats : Bool) (v : Verdict) (report printed : List ℕ) → WithStats stats report printed → Follows stats (status_of v) report printed
+stats_follow stats (verdicts.Yes l) report printed s = s
+stats_follow stats (verdicts.No object run) report printed s = s
+stats_follow stats (verdicts.Undecided object) report printed s = s
+
+-- and it is what the text prints, with the statistics after it
+pub prints_verdict : (text : List ℕ) (h : RecordedHistory) (options : Options) (v : Verdict) (report printed : List ℕ) → MeansHistory text h → IsVerdict h options.limit v → report ≡ report_of h v → WithStats options.stats report printed → Prints options text (status_of v) printed
+prints_verdict text h options v report printed m right is stats =
+    (report, report_of_verdict text h options.limit v report m right is, stats_follow options.stats v report printed stats)
 
 -- ---- a run on what was read
 
-ran_ok : (source old new : Option (List ℕ)) (read : List ℕ) (status : Status) (printed : List ℕ) → IfSome source (λ text. IsReadOf text read) → Prints read status printed → Appends old new printed → RanFrom source old new (Ok status)
-ran_ok None old new read status printed r p a = (read, tt, (printed, p, a))
-ran_ok (Some text) old new read status printed r p a = (text, refl, (printed, prints_read text read status printed r p, a))
+ran_ok : (options : Options) (source old new : Option (List ℕ)) (read : List ℕ) (status : Status) (printed : List ℕ) → IfSome source (λ text. IsReadOf text read) → Prints options read status printed → Appends old new printed → RanFrom options source old new (Ok status)
+ran_ok options None old new read status printed r p a = (read, tt, (printed, p, a))
+ran_ok options (Some text) old new read status printed r p a = (text, refl, (printed, prints_read options text read status printed r p, a))
 
-ran_write : (source old new : Option (List ℕ)) (read : List ℕ) (status : Status) (printed : List ℕ) → IfSome source (λ text. IsReadOf text read) → Prints read status printed → ((n : ℕ) × Appends old new (take n printed)) → RanFrom source old new (Err Write)
-ran_write None old new read status printed r p a = (read, tt, (status, printed, a.0, p, a.1))
-ran_write (Some text) old new read status printed r p a = (text, refl, (status, printed, a.0, prints_read text read status printed r p, a.1))
+ran_write : (options : Options) (source old new : Option (List ℕ)) (read : List ℕ) (status : Status) (printed : List ℕ) → IfSome source (λ text. IsReadOf text read) → Prints options read status printed → ((n : ℕ) × Appends old new (take n printed)) → RanFrom options source old new (Err Write)
+ran_write options None old new read status printed r p a = (read, tt, (status, printed, a.0, p, a.1))
+ran_write options (Some text) old new read status printed r p a = (text, refl, (status, printed, a.0, prints_read options text read status printed r p, a.1))
 
 -- what the source had left, or no byte where that is not known
 text_left : (source : Option (List ℕ)) → (text : List ℕ) × IfSome source (λ left. text ≡ left)
@@ -88,15 +102,15 @@ text_left None = ([], tt)
 text_left (Some text) = (text, refl)
 
 -- a run that ended before the first write
-pub ran_nothing : (source old : Option (List ℕ)) (fault : RunFault) → (fault ≡ Write → ⊥) → RanFrom source old old (Err fault)
-ran_nothing source old Write other = absurd (other refl)
-ran_nothing source old Read other = let left = text_left source in (left.0, left.1, kept old)
-ran_nothing source old Memory other = let left = text_left source in (left.0, left.1, kept old)
+pub ran_nothing : (options : Options) (source old : Option (List ℕ)) (fault : RunFault) → (fault ≡ Write → ⊥) → RanFrom options source old old (Err fault)
+ran_nothing options source old Write other = absurd (other refl)
+ran_nothing options source old Read other = let left = text_left source in (left.0, left.1, kept old)
+ran_nothing options source old Memory other = let left = text_left source in (left.0, left.1, kept old)
 
 -- a run whose answer was written so
-pub ran_ended : {A E : Type 0} (source old new : Option (List ℕ)) (read : List ℕ) (status : Status) (printed : List ℕ) (written : Result A E) → IfSome source (λ text. IsReadOf text read) → Prints read status printed → OnOk written (Appends old new printed) → OnErr written ((n : ℕ) × Appends old new (take n printed)) → RanFrom source old new (result_map_both (λ (x : A). status) (λ (e : E). Write) written)
-ran_ended source old new read status printed (Ok x) r p ok err = ran_ok source old new read status printed r p ok
-ran_ended source old new read status printed (Err e) r p ok err = ran_write source old new read status printed r p err
+pub ran_ended : {A E : Type 0} (options : Options) (source old new : Option (List ℕ)) (read : List ℕ) (status : Status) (printed : List ℕ) (written : Result A E) → IfSome source (λ text. IsReadOf text read) → Prints options read status printed → OnOk written (Appends old new printed) → OnErr written ((n : ℕ) × Appends old new (take n printed)) → RanFrom options source old new (result_map_both (λ (x : A). status) (λ (e : E). Write) written)
+ran_ended options source old new read status printed (Ok x) r p ok err = ran_ok options source old new read status printed r p ok
+ran_ended options source old new read status printed (Err e) r p ok err = ran_write options source old new read status printed r p err
 
 -- no answer that was written so is a failed read; it is a failed write where the write failed
 pub no_read : {A E : Type 0} (status : Status) (written : Result A E) → is_fault is_read (result_map_both (λ (x : A). status) (λ (e : E). Write) written) ≡ false

@@ -1,6 +1,7 @@
 -- What a run writes.
 use Rattle.std.specs.Prelude.{◌≡◌, ℕ, Bool, true, false, Option, IfSome, List, take, Result, Ok, Err}
 use Rattle.std.specs.Io.KnownBytes.{Appends, Keeps}
+use Rattle.lin_workers.specs.Options.{Options}
 use Rattle.lincheck.specs.declared.status.Status.{Status}
 use Rattle.lincheck.specs.declared.fault.RunFault.{RunFault}
 use Rattle.lincheck.specs.declared.fault.RunFault.TheVariants.{Read, Write, Memory}
@@ -22,15 +23,15 @@ abbrev pub is_fault : {A : Type 0} → (RunFault → Bool) → Result A RunFault
 is_fault p (Ok x) = false
 is_fault p (Err fault) = p fault
 
--- What a run on the text leaves written, which began with the bytes of old and ended with those of new: with a status
+-- What a run on the text with these options leaves written, which began with the bytes of old and ended with those of new: with a status
 -- what the text prints; after a failed write a prefix of it; after another fault nothing.
-abbrev pub Ran : List ℕ → Option (List ℕ) → Option (List ℕ) → Result Status RunFault → Type 0
-Ran text old new (Ok status) = (printed : List ℕ) × Prints text status printed × Appends old new printed
-Ran text old new (Err Write) = (status : Status) × (printed : List ℕ) × (n : ℕ) × Prints text status printed × Appends old new (take n printed)
-Ran text old new (Err Read) = Keeps old new
-Ran text old new (Err Memory) = Keeps old new
+abbrev pub Ran : Options → List ℕ → Option (List ℕ) → Option (List ℕ) → Result Status RunFault → Type 0
+Ran options text old new (Ok status) = (printed : List ℕ) × Prints options text status printed × Appends old new printed
+Ran options text old new (Err Write) = (status : Status) × (printed : List ℕ) × (n : ℕ) × Prints options text status printed × Appends old new (take n printed)
+Ran options text old new (Err Read) = Keeps old new
+Ran options text old new (Err Memory) = Keeps old new
 
 -- The same of a run that read from a source: there is a text that it read, which is what the source had left where that
 -- is known.
-abbrev pub RanFrom : Option (List ℕ) → Option (List ℕ) → Option (List ℕ) → Result Status RunFault → Type 0
-RanFrom source old new result = (text : List ℕ) × IfSome source (λ left. text ≡ left) × Ran text old new result
+abbrev pub RanFrom : Options → Option (List ℕ) → Option (List ℕ) → Option (List ℕ) → Result Status RunFault → Type 0
+RanFrom options source old new result = (text : List ℕ) × IfSome source (λ left. text ≡ left) × Ran options text old new result

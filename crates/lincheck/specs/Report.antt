@@ -65,3 +65,8 @@ length_line h object run = codes "longest run: " ++ decimal (length run) ++ code
 -- The report of a history whose object of this index has no linearization, and this longest run.
 abbrev pub no_report : RecordedHistory → ℕ → List (Placed Reply) → List ℕ
 no_report h object run = name_line h object ++ length_line h object run ++ call_lines h 1 run
+
+-- The line that tells how many configurations were stored.
+abbrev pub stored_line : Option ℕ → List ℕ
+stored_line (Some stored) = codes "stored " ++ decimal stored ++ codes "\n"
+stored_line None = codes "stored unknown\n"

@@ -1,5 +1,5 @@
 -- What a verdict says of a history, and what is reported of it.
-use Rattle.std.specs.Prelude.{◌≡◌, ℕ, ◌<◌, Some, List, length, slice_get}
+use Rattle.std.specs.Prelude.{◌≡◌, ℕ, ◌<◌, Option, Some, IsSomeAnd, List, length, slice_get}
 use Rattle.lin_object.specs.declared.reply.Reply.{Reply}
 use Rattle.lin_history.specs.declared.locality.placed.Placed.{Placed}
 use Rattle.lin_history.specs.Problems.Lists.{IsLeast}
@@ -10,10 +10,9 @@ use Rattle.lin_history.specs.Locality.JoinedOrder.{Places, IsJoined}
 use Rattle.lin_history.specs.Locality.RecordedWhole.{start_at, whole_of, part_of}
 use Rattle.lin_history.specs.Verifier.Flags.{AreKnown}
 use Rattle.lin_search.specs.LongestRun.{IsFirstLongest}
+use Rattle.lin_search.specs.Size.{HasMoreThan}
 use Rattle.lincheck.specs.declared.verdict.Verdict.{Verdict}
 use Rattle.lincheck.specs.declared.verdict.Verdict.TheVariants.{Yes, No, Undecided}
-use Rattle.lincheck.specs.declared.verdict.ObjectVerdict.{ObjectVerdict}
-use Rattle.lincheck.specs.declared.verdict.ObjectVerdict.TheVariants as objects
 use Rattle.lincheck.specs.Report.{yes_report, no_report, undecided_report}
 
 -- One order for each of the first n objects, in the order of declaration, each the least linearization of its object.
@@ -38,18 +37,20 @@ pub record IsLongestRunOf (h : RecordedHistory) (object : ℕ) (run : List (Plac
   pub longest : IsFirstLongest (IsRun (part_of h object)) order
   pub placed : Places (whole_of h) object (start_at h object) order run
 
--- The verdict on one object is right: yes, with the least linearization; or no, where there is none, with the longest run.
-abbrev pub IsObjectVerdict : RecordedHistory → ℕ → ObjectVerdict → Type 0
-IsObjectVerdict h object (objects.Yes order) = IsLeast (IsLinearization (part_of h object)) order
-IsObjectVerdict h object (objects.No run) = ((l : List ℕ) → IsLinearization (part_of h object) l → ⊥) × IsLongestRunOf h object run.items
+-- The object is not decided: each before it has a linearization, a limit was given, and the object has more runs that are
+-- not empty than that.
+pub record IsUndecidedAt (h : RecordedHistory) (limit : Option ℕ) (object : ℕ) : Type 0 where
+  pub declared : object < length h.objects
+  pub earlier : (i : ℕ) → i < object → (l : List ℕ) × IsLinearization (part_of h i) l
+  pub over : IsSomeAnd limit (λ most. HasMoreThan (IsRun (part_of h object)) most)
 
 -- The verdict is right: yes, with the least linearizations of the objects joined, which is a linearization of the whole;
--- or no, with the first object that has none and its longest run, and then the whole has none. A check without a limit is
--- never undecided.
-abbrev pub IsVerdict : RecordedHistory → Verdict → Type 0
-IsVerdict h (Yes l) = ((orders : List (List ℕ)) × AreLeast h orders × IsJoined (whole_of h) orders l) × IsLinearizationOfWhole (whole_of h) l
-IsVerdict h (No object run) = (IsFirstWithout h object × IsLongestRunOf h object run.items) × ((l : List (Placed Reply)) → IsLinearizationOfWhole (whole_of h) l → ⊥)
-IsVerdict h (Undecided object) = ⊥
+-- or no, with the first object that has none and its longest run, and then the whole has none; or, within a limit,
+-- undecided at an object before which each has a linearization.
+abbrev pub IsVerdict : RecordedHistory → Option ℕ → Verdict → Type 0
+IsVerdict h limit (Yes l) = ((orders : List (List ℕ)) × AreLeast h orders × IsJoined (whole_of h) orders l) × IsLinearizationOfWhole (whole_of h) l
+IsVerdict h limit (No object run) = (IsFirstWithout h object × IsLongestRunOf h object run.items) × ((l : List (Placed Reply)) → IsLinearizationOfWhole (whole_of h) l → ⊥)
+IsVerdict h limit (Undecided object) = IsUndecidedAt h limit object
 
 -- What the verdict names are calls and objects of the history.
 abbrev pub IsOf : RecordedHistory → Verdict → Type 0

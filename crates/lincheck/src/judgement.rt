@@ -1,70 +1,93 @@
-//! The verdict on a history: its objects are searched one after another.
+//! The check of a history: its objects are searched one after another.
 
 ghost use Rattle.std.specs.Prelude.{◌≡◌, ◌<◌, Some, length, option_map, slice_get, IfOk};
+ghost use Rattle.lin_history.specs.Locality.RecordedWhole.{part_of};
 ghost use Rattle.lin_history.specs.Recorder.Parts.{start_of, part_calls};
-ghost use Rattle.lincheck.specs.Verdict.{IsObjectVerdict, IsVerdict};
+ghost use Rattle.lin_workers.specs.Verdict.{IsObjectVerdict};
+ghost use Rattle.lincheck.specs.Verdict.{IsVerdict};
 
-use crate::verdict::{ObjectVerdict, Verdict};
+use crate::verdict::{Checked, Verdict};
 use lin_history::{History, Problem, join, place};
 use lin_object::AnyObject;
-use lin_search::{Outcome, OwnMemo, longest_run, search_over};
-use std::alloc::{AllocError, Global};
+use lin_workers::{CheckFault, Gate, ObjectVerdict, Options, check_object};
+use std::alloc::AllocError;
+use std::thread::Threads;
 
-// The verdict on the object of this index, where the memo names the part of the history on it. After a refutation the
-// longest run is read off the same memo.
-fn judge_over(
-    alloc: Global,
-    history: &History,
-    object: usize,
-    memo: &mut OwnMemo<'_, AnyObject>,
-) -> Result<ObjectVerdict, AllocError>
-    requires object { object < length history.now.objects }
-    requires start { option_map start_of (slice_get history.now.objects object)
-        ≡ Some memo.old.problem.start }
-    requires calls { memo.old.problem.calls ≡ part_calls history.now object }
-    ensures { IfOk result (IsObjectVerdict history.now object) }
-{
-    let problem = memo.problem();
-    let (outcome, _) = search_over(alloc, memo)?;
-    match outcome {
-        Outcome::Found(order) => Ok(ObjectVerdict::Yes(order)),
-        Outcome::Refuted(_) => {
-            let order = longest_run(alloc, problem, memo)?;
-            let run = place(alloc, history, object, &order)?;
-            Ok(ObjectVerdict::No(run))
-        }
-        Outcome::Undecided | Outcome::Stopped(_) => unreachable!(),
-    }
-}
-
-// The verdict on the object of this index, where the part of the history on it is known.
-fn judge_object(
-    alloc: Global,
+// The verdict on the object of this index, where the part of the history on it is known; and how many configurations were
+// stored.
+fn judge_object<R: AllocGlobal + Threads + Sync, G: Gate>(
+    rt: &R,
     history: &History,
     object: usize,
     problem: &Problem<AnyObject>,
-) -> Result<ObjectVerdict, AllocError>
-    requires object { object < length history.now.objects }
+    options: &Options,
+    gate: &G,
+) -> Result<(ObjectVerdict, u64), AllocError>
     requires start { option_map start_of (slice_get history.now.objects object)
         ≡ Some problem.now.start }
     requires calls { problem.now.calls ≡ part_calls history.now object }
-    ensures { IfOk result (IsObjectVerdict history.now object) }
+    ensures { IfOk result (λ judged. IsObjectVerdict (part_of history.now object)
+        options.now.limit judged.0) }
 {
-    judge_over(alloc, history, object, &mut OwnMemo::new(alloc, problem))
+    match check_object(rt, problem, options, gate) {
+        Ok(judged) => Ok(judged),
+        Err(CheckFault::Memory) => Err(AllocError),
+    }
 }
 
-/// The verdict on a history. The objects are searched in the order of declaration; the first without a linearization ends
-/// the check. `AllocError` where memory was refused.
-pub(crate) fn judge(alloc: Global, history: &History) -> Result<Verdict, AllocError>
-    ensures { IfOk result (IsVerdict history.now) }
+// How many configurations were stored with these, where that can be told.
+fn with_more(stored: Option<u64>, more: u64) -> Option<u64> {
+    stored?.checked_add(more)
+}
+
+// The verdict on a history, and how many configurations were stored.
+fn judge<R: AllocGlobal + Threads + Sync, G: Gate>(
+    rt: &R,
+    history: &History,
+    options: &Options,
+    gate: &G,
+) -> Result<Checked, AllocError>
+    ensures { IfOk result (λ checked. IsVerdict history.now options.now.limit checked.verdict) }
 {
-    let problems = history.problems(alloc)?;
-    let mut orders = Vec::new(alloc);
+    let problems = history.problems(rt.alloc())?;
+    let mut orders = Vec::new(rt.alloc());
+    let mut stored = Some(0);
     for object in 0..problems.len() {
-        match judge_object(alloc, history, object, &problems[object])? {
+        let (verdict, more) =
+            judge_object(rt, history, object, &problems[object], options, gate)?;
+        stored = with_more(stored, more);
+        match verdict {
             ObjectVerdict::Yes(order) => orders.push(order)?,
-            ObjectVerdict::No(run) => return Ok(Verdict::No { object, run }),
+            ObjectVerdict::No(order) => {
+                let run = place(rt.alloc(), history, object, &order)?;
+                let verdict = Verdict::No { object, run };
+                return Ok(Checked { verdict, stored });
+            }
+            ObjectVerdict::Undecided => {
+                let verdict = Verdict::Undecided { object };
+                return Ok(Checked { verdict, stored });
+            }
         }
     }
-    Ok(Verdict::Yes(join(alloc, history, orders.as_slice())?))
+    let verdict = Verdict::Yes(join(rt.alloc(), history, orders.as_slice())?);
+    Ok(Checked { verdict, stored })
+}
+
+/// Checks a history. Its objects are searched in the order of declaration, each as `check_object` does with these options;
+/// the first that has no linearization, or that is not decided within the limit, ends the check.
+///
+/// The verdict is the same for every number of workers and shards and on every schedule. `CheckFault::Memory` where the
+/// calling thread was refused memory. It may wait, for its workers.
+pub fn check<R: AllocGlobal + Threads + Sync, G: Gate>(
+    rt: &R,
+    history: &History,
+    options: &Options,
+    gate: &G,
+) -> Result<Checked, CheckFault>
+    ensures { IfOk result (λ checked. IsVerdict history.now options.now.limit checked.verdict) }
+{
+    match judge(rt, history, options, gate) {
+        Ok(checked) => Ok(checked),
+        Err(AllocError) => Err(CheckFault::Memory),
+    }
 }

@@ -12,9 +12,12 @@ mod verdict;
 
 pub use device::{DeviceFault, Sink, Source, StdSink, StdSource};
 pub use fault::RunFault;
-pub use lin_workers::{MAX_LIMIT, MAX_SHARDS, MAX_WORKERS, OptionFault, Options};
+pub use judgement::check;
+pub use lin_workers::{
+    CheckFault, FreeGate, Gate, MAX_LIMIT, MAX_SHARDS, MAX_WORKERS, OptionFault, Options,
+};
 pub use lines::report;
 pub use pipeline::run;
 pub use request::{DEFAULT_SHARDS, DEFAULT_WORKERS, Request, options_of};
 pub use status::{Status, status_code};
-pub use verdict::Verdict;
+pub use verdict::{Checked, Verdict};

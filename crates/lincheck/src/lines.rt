@@ -5,9 +5,10 @@ ghost use Rattle.lin_object.specs.declared.op.Op.{Op};
 ghost use Rattle.lin_object.specs.declared.reply.Reply.{Reply};
 ghost use Rattle.lin_history.specs.Recorder.Events.{Call};
 ghost use Rattle.lin_history.specs.Recorder.RecordedHistory.{calls_on};
-ghost use Rattle.lincheck.specs.Report.{mark_of, call_line, call_lines, dropped_line, dropped_lines, is_placed, name_line, length_line, yes_report, no_report, undecided_report};
+ghost use Rattle.lincheck.specs.Report.{mark_of, call_line, call_lines, dropped_line, dropped_lines, is_placed, name_line, length_line, yes_report, no_report, undecided_report, stored_line};
 ghost use Rattle.lin_history.specs.Locality.RecordedWhole.{whole_of};
 ghost use Rattle.lin_history.specs.Verifier.Flags.{AreKnown};
+ghost use Rattle.lincheck.specs.Prints.{WithStats};
 ghost use Rattle.lincheck.specs.Verdict.{IsOf, report_of};
 
 use crate::verdict::Verdict;
@@ -183,6 +184,33 @@ fn write_undecided(out: &mut String, history: &History, object: usize) -> Result
 {
     let name = history.object(object).name;
     write!(out, "undecided: {name}\n")
+}
+
+// The line that tells how many configurations were stored.
+fn write_stored(out: &mut String, stored: Option<u64>) -> Result<(), AllocError>
+    ensures { OnOk result (string_bytes out.new ≡ string_bytes out.old ++ stored_line stored) }
+{
+    match stored {
+        Some(stored) => write!(out, "stored {stored}\n"),
+        None => write!(out, "stored unknown\n"),
+    }
+}
+
+// The report, with the line of statistics after it where that is asked for.
+pub(crate) fn with_stats(
+    alloc: Global,
+    mut report: Vec<u8>,
+    stats: bool,
+    stored: Option<u64>,
+) -> Result<Vec<u8>, AllocError>
+    ensures { IfOk result (λ printed. WithStats stats report.items printed.items) }
+{
+    if stats {
+        let mut line = String::new(alloc);
+        write_stored(&mut line, stored)?;
+        report.extend_from_slice(line.as_bytes())?;
+    }
+    Ok(report)
 }
 
 /// The report of a verdict on a history. `AllocError` where memory was refused.

@@ -1,8 +1,9 @@
 //! The way from the bytes of a text to the bytes of its answer.
 
-ghost use Rattle.std.specs.Prelude.{◌≡◌, ◌≢◌, ◌||◌, ℕ, false, None, take, is_err, OnOk, OnErr, IfOk, IfErr, IfSome};
+ghost use Rattle.std.specs.Prelude.{◌≡◌, ◌≢◌, ◌||◌, ℕ, List, false, take, is_err, OnOk, OnErr, IfOk, IfErr, IfSome};
 ghost use Rattle.std.specs.Result.{result_map_both};
 ghost use Rattle.std.specs.Io.KnownBytes.{Appends};
+ghost use Rattle.lin_text.specs.Text.{MeansHistory};
 ghost use Rattle.lin_text.specs.Words.{fault_line};
 ghost use Rattle.lincheck.specs.Prints.{Prints, status_of};
 ghost use Rattle.lincheck.specs.Ran.{is_read, is_write, is_fault, RanFrom};
@@ -10,13 +11,15 @@ ghost use Rattle.lincheck.specs.Reading.{IsReadOf};
 
 use crate::device::{DeviceFault, Sink, Source};
 use crate::fault::RunFault;
-use crate::judgement::judge;
-use crate::lines::report;
+use crate::judgement::check;
+use crate::lines::{report, with_stats};
 use crate::status::Status;
 use crate::verdict::Verdict;
+use lin_history::History;
 use lin_text::{Cause, MAX_INPUT_BYTES, TextFault, read_history, write_cause};
-use lin_workers::Options;
+use lin_workers::{FreeGate, Options};
 use std::alloc::{AllocError, Global};
+use std::thread::Threads;
 
 // The most bytes of a text, and one more: where so many stand, the text is too long and is read no further.
 const ENOUGH: usize = MAX_INPUT_BYTES + 1;
@@ -73,17 +76,35 @@ fn status_of(verdict: &Verdict) -> Status
     }
 }
 
-// What a text is answered: the status, and what is printed.
-fn answer(alloc: Global, text: &[u8]) -> Result<(Status, Vec<u8>), AllocError>
-    ensures { IfOk result (λ answer. Prints text.now answer.0 answer.1.items) }
+// What a history is answered: the status, and what is printed.
+fn verdict_printed<R: AllocGlobal + Threads + Sync>(
+    rt: &R,
+    history: &History,
+    options: &Options,
+) -> Result<(Status, Vec<u8>), AllocError>
+    ensures { IfOk result (λ answer. (text : List ℕ) → MeansHistory text history.now
+        → Prints options.now text answer.0 answer.1.items) }
 {
-    let history = match read_history(alloc, text) {
-        Ok(history) => history,
-        Err(fault) => return refused(alloc, &fault),
+    let Ok(checked) = check(rt, history, options, &FreeGate) else {
+        return Err(AllocError);
     };
-    let verdict = judge(alloc, &history)?;
-    let printed = report(alloc, &history, &verdict)?;
-    Ok((status_of(&verdict), printed))
+    let reported = report(rt.alloc(), history, &checked.verdict)?;
+    let printed = with_stats(rt.alloc(), reported, options.stats(), checked.stored)?;
+    Ok((status_of(&checked.verdict), printed))
+}
+
+// What a text is answered: the status, and what is printed.
+fn answer<R: AllocGlobal + Threads + Sync>(
+    rt: &R,
+    text: &[u8],
+    options: &Options,
+) -> Result<(Status, Vec<u8>), AllocError>
+    ensures { IfOk result (λ answer. Prints options.now text.now answer.0 answer.1.items) }
+{
+    match read_history(rt.alloc(), text) {
+        Ok(history) => verdict_printed(rt, &history, options),
+        Err(fault) => refused(rt.alloc(), &fault),
+    }
 }
 
 // Writes the whole answer, and then flushes once. After an `Err` a prefix of it is written.
@@ -117,9 +138,11 @@ fn ended(status: Status, written: Result<(), DeviceFault>) -> Result<Status, Run
 /// once. Faults: `Read` where the source failed, `Memory` where memory was refused; nothing was written then. `Write`
 /// where the sink failed; a prefix of the answer was written.
 ///
-/// Conditions: neither device has failed, and the options ask for no statistics and set no limit. Afterwards the source
-/// has failed exactly at `Read`, and the sink exactly at `Write`.
-pub fn run<R: AllocGlobal, S: Source, W: Sink>(
+/// Within a limit the answer may be `Undecided`. It may wait, for its workers.
+///
+/// Condition: neither device has failed. Afterwards the source has failed exactly at `Read`, and the sink exactly at
+/// `Write`.
+pub fn run<R: AllocGlobal + Threads + Sync, S: Source, W: Sink>(
     rt: &R,
     source: &mut S,
     sink: &mut W,
@@ -127,10 +150,8 @@ pub fn run<R: AllocGlobal, S: Source, W: Sink>(
 ) -> Result<Status, RunFault>
     requires source { S.failed source.old ≡ false }
     requires sink { W.failed sink.old ≡ false }
-    requires stats { options.now.stats ≡ false }
-    requires limit { options.now.limit ≡ None }
-    ensures ran { RanFrom (S.remaining source.old) (W.contents sink.old) (W.contents sink.new)
-        result }
+    ensures ran { RanFrom options.now (S.remaining source.old) (W.contents sink.old)
+        (W.contents sink.new) result }
     ensures source { S.failed source.new ≡ is_fault is_read result }
     ensures sink { W.failed sink.new ≡ is_fault is_write result }
 {
@@ -138,7 +159,7 @@ pub fn run<R: AllocGlobal, S: Source, W: Sink>(
         Ok(text) => text,
         Err(fault) => return Err(fault),
     };
-    let Ok((status, answer)) = answer(rt.alloc(), text.as_slice()) else {
+    let Ok((status, answer)) = answer(rt, text.as_slice(), options) else {
         return Err(RunFault::Memory);
     };
     ended(status, write_answer(sink, answer.as_slice()))

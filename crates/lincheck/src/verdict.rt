@@ -1,6 +1,6 @@
 //! What a check finds.
 
-use lin_history::{Order, Placed, WholeOrder};
+use lin_history::{Placed, WholeOrder};
 
 /// What a check found of a history.
 #[derive(Debug, Drop)]
@@ -14,18 +14,18 @@ pub enum Verdict {
         /// Its longest run, the first of those of the greatest length.
         run: Vec<Placed>,
     },
-    /// The search of the object of this index met its limit before an answer.
+    /// The search of the object of this index met its limit before an answer; each object before it has a linearization.
     Undecided {
         /// The index of the object.
         object: usize,
     },
 }
 
-/// What a search found of one object.
-#[derive(Drop)]
-pub(crate) enum ObjectVerdict {
-    /// The least linearization of its calls, by their numbers among them.
-    Yes(Order),
-    /// It has none; its longest run.
-    No(Vec<Placed>),
+/// What a check found, and how many configurations it stored.
+#[derive(Debug, Drop)]
+pub struct Checked {
+    /// What it found.
+    pub verdict: Verdict,
+    /// How many configurations were stored in the searches of all objects; `None` where that is not known.
+    pub stored: Option<u64>,
 }

@@ -4,4 +4,4 @@ use Rattle.lincheck.proofs.judgement.judge.Given as goal
 
 -- the orders so far are the least, and the parts are as they were
 abbrev pub invariant-loop-object : goal.invariant-loop-object
-invariant-loop-object l = AreLeastOf l.history l.object l.orders.items × (l.problems.items ≡ l.initial.problems.items)
+invariant-loop-object g l = AreLeastOf l.history l.object l.orders.items × (l.problems.items ≡ l.initial.problems.items)
