@@ -257,7 +257,8 @@ impl CallSet {
     pub(crate) fn insert(&mut self, call: usize) -> Result<(), AllocError>
         requires within { call < length self.old }
         requires outside { has self.old call ≡ false }
-        ensures { IfOk result (λ done. self.new ≡ with_call self.old call) }
+        ensures lifted { IfOk result (λ done. self.new ≡ with_call self.old call) }
+        ensures err { OnErr result (self.new ≡ self.old) }
     {
         let index = call / 64 - self.full;
         lengthen(&mut self.words, index)?;
@@ -273,6 +274,7 @@ impl CallSet {
         requires { has self.old call ≡ true }
         ensures before { IfOk result (λ done. with_call self.new call ≡ self.old) }
         ensures outside { IfOk result (λ done. has self.new call ≡ false) }
+        ensures err { OnErr result (self.new ≡ self.old) }
     {
         open_full(&mut self.full, &mut self.words, call / 64)?;
         clear_bit(&mut self.words, call / 64 - self.full, call);

@@ -6,10 +6,10 @@ use Rattle.lin_search.proofs.config.Config.child.Goals as goal
 pub returns-clause-some : goal.returns-clause-some
 returns-clause-some g c =
     let copied : c.self.inside.lifted ≡ c.args.self.now.lifted = ap (λ (k : Configuration g.row.O-State.Denot). k.lifted) c.self.view_is in
-    (rw (c.in_ok-lifted.ensures ∙ copied) at c.in_ok-insert.ensures, rw c.in-Some.is at c.in_ok-state.ensures.next)
+    (rw (c.in_ok-lifted.ensures ∙ copied) at c.in_ok-insert.ensures.lifted, rw c.in-Some.is at c.in_ok-state.ensures.next)
 
 pub returns-clause-reachable : goal.returns-clause-reachable
 returns-clause-reachable g c =
     let copied : c.self.inside.lifted ≡ c.args.self.now.lifted = ap (λ (k : Configuration g.row.O-State.Denot). k.lifted) c.self.view_is in
-    let more : c.insert.new.self ≡ with_call c.args.self.now.lifted c.args.call = rw (c.in_ok-lifted.ensures ∙ copied) at c.in_ok-insert.ensures in
+    let more : c.insert.new.self ≡ with_call c.args.self.now.lifted c.args.call = rw (c.in_ok-lifted.ensures ∙ copied) at c.in_ok-insert.ensures.lifted in
     rw more (rw c.in-Some.is at c.in_ok-state.ensures.reachable)
