@@ -239,6 +239,17 @@ impl CallSet {
         })
     }
 
+    // A copy of the set with the call, which is not in it, put in.
+    pub(crate) fn copy_with(&self, alloc: Global, call: usize) -> Result<CallSet, AllocError>
+        requires within { call < length self.now }
+        requires outside { has self.now call ≡ false }
+        ensures { IfOk result (λ set. set ≡ with_call self.now call) }
+    {
+        let mut set = self.copy(alloc)?;
+        set.insert(call)?;
+        Ok(set)
+    }
+
     /// Whether the call is in the set.
     pub fn has(&self, call: usize) -> bool
         ensures { result ≡ has self.now call }

@@ -1,5 +1,4 @@
-use Rattle.std.proofs.Common.{rules}
 use Rattle.lin_search.proofs.stop.NoStopStop.ask.Goals as goal
 
 pub returns-clause-told : goal.returns-clause-told
-returns-clause-told c = search rules depth 3
+returns-clause-told c = tt

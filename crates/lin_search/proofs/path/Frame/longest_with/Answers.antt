@@ -1,5 +1,5 @@
 use Rattle.std.proofs.Common.{rules}
-use Rattle.lin_search.proofs.path.Path.leave.Goals as goal
+use Rattle.lin_search.proofs.path.Frame.longest_with.Goals as goal
 
 pub returns-clause-longer : goal.returns-clause-longer
 returns-clause-longer g c = search rules depth 3
