@@ -1,5 +1,4 @@
-use Rattle.std.proofs.Common.{rules}
 use Rattle.lin_search.proofs.call_set.CallSet.copy_with.Goals as goal
 
 pub returns : goal.returns
-returns c = search rules depth 3
+returns c = rw c.in_ok-set.ensures at c.in_ok-insert.ensures.lifted
