@@ -4,7 +4,7 @@ use Rattle.std.proofs.Common.{sym, ap, ◌∙◌, append-nil, append_assoc, rule
 use Rattle.lin_search.specs.declared.memo.Noted.{Noted}
 use Rattle.lin_search.specs.declared.memo.Noted.TheVariants.{New, Known, Busy, NoRoom, Stranger}
 use Rattle.lin_search.specs.Configuration.{Configuration}
-use Rattle.lin_table.specs.Hand.{HandFacts, TableFacts, HasStored, IsHandOf}
+use Rattle.lin_table.specs.Hand.{HandFacts, HasStored}
 use Rattle.lin_table.specs.Home.{home_of}
 use Rattle.lin_table.specs.Shared.{HasGrown, IsToldTo}
 
@@ -16,10 +16,6 @@ module _ {O S A R : Type 0} where
   grown_twice a b c k m =
       let q = k.more in let r = m.more in
       record { table = m.table ∙ k.table; problem = m.problem ∙ k.problem; more = (q.0 ++ r.0, rw (r.1, q.1) (append_assoc a.entries q.0 r.0)) }
-
-  -- it is the hand of its table still
-  pub came_still : (t : TableFacts O S A R) (a b : HandFacts O S A R) → HasGrown a b → IsHandOf t a → IsHandOf t b
-  came_still t a b k came = (k.table ∙ came.0, k.problem ∙ came.1)
 
   grown_if_same : (a b : HandFacts O S A R) → b ≡ a → HasGrown a b
   grown_if_same a b same = rw same (grown_itself a)

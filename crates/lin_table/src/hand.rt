@@ -1,6 +1,6 @@
 //! What a worker steps on a table with.
 
-ghost use Rattle.std.specs.Prelude.{◌≡◌, ◌<◌, ◌≤◌, [], None, All, length, vec_len, vec_capacity};
+ghost use Rattle.std.specs.Prelude.{◌≡◌, ◌↔◌, ◌<◌, ◌≤◌, [], None, IsTrue, All, length, vec_len, vec_capacity};
 ghost use Rattle.lin_table.specs.Gather.{IsViewOf};
 ghost use Rattle.lin_table.specs.Rule.{view};
 ghost use Rattle.lin_table.specs.Steps.{one_part};
@@ -14,9 +14,9 @@ use std::marker::Model;
 /// The most configurations that one hand stores.
 pub(crate) const MAX_STORED: u64 = 140_737_488_355_328;
 
-/// What a worker looks and notes with; each worker has one of its own. Contracts see the table that it came with, and an
-/// entry for each configuration that it stored: the shard, the place in it and the configuration. At run time a hand
-/// keeps their number alone.
+/// What a worker looks and notes with; each worker has one of its own. Contracts see the table that it came with, and
+/// an entry for each configuration that it stored: the shard, the place in it and the configuration. At run time a
+/// hand keeps their number alone.
 #[derive(Drop)]
 pub struct Hand<O: SeqObject> {
     pub(crate) badge: Badge<View<O>>,
@@ -40,6 +40,13 @@ impl<O: SeqObject> Hand<O> {
         ensures few { result ≤ MAX_STORED }
     {
         self.count
+    }
+
+    // Whether it may store one configuration more.
+    pub(crate) fn has_room(&self) -> bool
+        ensures { IsTrue result ↔ length self.now.entries < MAX_STORED }
+    {
+        MAX_STORED > self.count()
     }
 
     // A hand that has stored nothing yet.

@@ -46,8 +46,8 @@ impl<'p, O: SeqObject> Shard<'p, O> {
         self.memo.count()
     }
 
-    /// What the longest continuations of the configuration tell: `Some` exactly where the configuration is there and the
-    /// problem that the shard names is the `same` as this one. It takes no memory.
+    /// What the longest continuations of the configuration tell: `Some` exactly where the configuration is there and
+    /// the problem that the shard names is the `same` as this one. It takes no memory.
     pub fn look(&self, problem: &Problem<O>, config: &Config<O>) -> Option<Longest>
         ensures refuted { IfSome result (λ longest. IsRefutedWith
             (problem_of O.after O.State.eq O.Reply.eq problem.now) config.now.lifted
@@ -59,9 +59,9 @@ impl<'p, O: SeqObject> Shard<'p, O> {
         OwnMemo::look(&self.memo, problem, config)
     }
 
-    /// Adds a refutation. `Stranger` exactly where the shard names a problem that is not the `same`; `Known` exactly where
-    /// the configuration is there; else `New`, or `NoRoom` where memory was refused; never `Busy`. Only `New` changes
-    /// anything, and adds the pair at the end.
+    /// Adds a refutation. `Stranger` exactly where the shard names a problem that is not the `same`; `Known` exactly
+    /// where the configuration is there; else `New`, or `NoRoom` where memory was refused; never `Busy`. Only `New`
+    /// changes anything, and adds the pair at the end.
     pub fn add(&mut self, refutation: Refutation<'_, O>) -> Noted
         ensures problem { self.new.problem ≡ self.old.problem }
         ensures exact { IsNoted O.State.eq (SameProblem O.eq O.State.eq O.Op.eq O.Reply.eq

@@ -1,13 +1,13 @@
 //! The table as its callers see it.
 
-ghost use Rattle.std.specs.Prelude.{◌≡◌, ◌≢◌, ◌↔◌, ℕ, ◌%◌, ◌^◌, ◌<◌, ◌≤◌, All, length, vec_len, IfOk, IfErr, IsErr, IfSome};
+ghost use Rattle.std.specs.Prelude.{◌≡◌, ◌≢◌, ◌↔◌, ℕ, ◌%◌, ◌^◌, ◌<◌, ◌≤◌, [], None, Some, All, length, vec_len, IfOk, IfErr, IsErr, IfSome, IsTrue};
 ghost use Rattle.lin_history.specs.Problems.Problem.{problem_of};
 ghost use Rattle.lin_history.specs.Problems.SameProblem.{SameProblem};
 ghost use Rattle.lin_search.specs.Count.{IsNumberReachable};
 ghost use Rattle.lin_search.specs.Refutation.{IsRefutedWith};
 ghost use Rattle.lin_table.specs.Gather.{AreStored, entries_in};
-ghost use Rattle.lin_table.specs.Rule.{Pairs};
-ghost use Rattle.lin_table.specs.Hand.{IsHandOf, HasStored, new_hand};
+ghost use Rattle.lin_table.specs.Rule.{Pairs, view};
+ghost use Rattle.lin_table.specs.Hand.{IsHandOf, CameWith, HasStored, new_hand};
 ghost use Rattle.lin_table.specs.Home.{home_of};
 
 use crate::end::{free_shards, stored_by};
@@ -15,7 +15,7 @@ use crate::gather::gather;
 use crate::hand::{Hand, MAX_STORED, deal};
 use crate::rule::{Plan, ShardRule, View};
 use crate::shard::{Shard, empty_shards};
-use crate::steps::{look_in, note_in};
+use crate::steps::{Token, look_in, note_in};
 use atomic_table::{Badge, Table as AtomicTable};
 use lin_history::Problem;
 use lin_object::{SeqObject, lawful};
@@ -24,11 +24,14 @@ use std::alloc::{AllocError, Global};
 use std::marker::Model;
 use std::mem;
 
+// The words and the shards, under their rule.
+type Inner<'p, O> = AtomicTable<Shard<'p, O>, View<O>, Plan<'p, O>, ShardRule, Global>;
+
 /// Refuted configurations of one problem, which several threads share. They are kept in shards, each of which one hand
 /// at a time takes out. Contracts see which table it is, its problem, and how many shards it has.
 #[derive(Drop)]
 pub struct Table<'p, O: SeqObject> {
-    inner: AtomicTable<Shard<'p, O>, View<O>, Plan<'p, O>, ShardRule, Global>,
+    inner: Inner<'p, O>,
     problem: &'p Problem<O>,
     shards: u64,
     hands: u64,
@@ -40,7 +43,12 @@ impl<'p, O: SeqObject> Model for Table<'p, O> {
 
     ghost Value = { TableFacts O O.State O.Op O.Reply };
 
-    ghost view = { λ t. record { id = t.inner.shared.table_id; problem = t.problem.now; shards = t.shards; hands = t.hands } };
+    ghost view = { λ t. record {
+      id = t.inner.shared.table_id;
+      problem = t.problem.now;
+      shards = t.shards;
+      hands = t.hands;
+    } };
 
     ghost invariant = { λ t. (t.inner.shared.table_id.words ≡ t.shards)
         × (t.inner.shared.key.shards ≡ t.shards) × (t.inner.shared.key.hands ≡ t.hands)
@@ -57,9 +65,53 @@ pub struct HandsMissing<'p, O: SeqObject> {
     pub hands: Vec<Hand<O>>,
 }
 
+// So many empty shards of the problem, all at home, and the token that has the parts of all hands.
+fn open_shards<'p, O: SeqObject>(
+    alloc: Global,
+    problem: &'p Problem<O>,
+    shards: usize,
+    hands: usize,
+) -> Result<(Inner<'p, O>, Token<'p, O>), AllocError>
+    ensures words { IfOk result (λ made. made.0.shared.table_id.words ≡ shards) }
+    ensures plan { IfOk result (λ made. (made.0.shared.key.problem.now ≡ problem.now)
+        × (made.0.shared.key.shards ≡ shards) × (made.0.shared.key.hands ≡ hands)) }
+    ensures table { IfOk result (λ made. made.1.table_id ≡ made.0.shared.table_id) }
+    ensures view { IfOk result (λ made. made.1.me
+        ≡ (view (Some problem.now) hands [] None, [])) }
+{
+    let plan = Plan {
+        problem,
+        shards: shards as u64,
+        hands: hands as u64,
+    };
+    let words = vec![in alloc; 0u64; shards]?;
+    let homes = empty_shards(alloc, problem, shards)?;
+    match AtomicTable::new(alloc, words.as_slice(), homes, &plan) {
+        Ok(opened) => Ok(opened),
+        Err(_) => Err(AllocError),
+    }
+}
+
+// Closes a table with all its hands: their views become one, and the shards go, each of which was lawful.
+fn close_shards<'p, O: SeqObject>(inner: Inner<'p, O>, mut hands: Vec<Hand<O>>)
+    requires words { 0 < inner.shared.table_id.words }
+    requires hands { All (CameWith inner.shared.table_id) hands.items }
+    requires all { (0 < inner.shared.key.hands) × (inner.shared.key.hands ≤ vec_len hands) }
+    ensures few { vec_len hands ≤ inner.entry.shared.key.hands }
+    ensures stored { (lists : ℕ → Pairs O.State) × AreStored
+        (problem_of O.after O.State.eq O.Reply.eq inner.entry.shared.key.problem.now)
+        inner.entry.shared.key.shards lists (entries_in hands.items) }
+{
+    let Some(last) = hands.pop() else {
+        unreachable!()
+    };
+    let all = gather(&inner.shared, last.into_token(), hands);
+    free_shards(inner.close_with(all));
+}
+
 impl<'p, O: SeqObject> Table<'p, O> {
-    /// A table of the problem with so many empty shards, and its hands, none of which has stored anything. There are 1 to
-    /// 256 shards and 1 to 65 hands. `AllocError` where memory was refused.
+    /// A table of the problem with so many empty shards, and its hands, none of which has stored anything. There are
+    /// 1 to 256 shards and 1 to 65 hands. `AllocError` where memory was refused.
     pub fn new(
         alloc: Global,
         problem: &'p Problem<O>,
@@ -74,16 +126,7 @@ impl<'p, O: SeqObject> Table<'p, O> {
         ensures hands { IfOk result (λ made. All (λ hand. hand ≡ new_hand made.0) made.1.items) }
     {
         let dealt = Vec::with_capacity(alloc, hands)?;
-        let plan = Plan {
-            problem,
-            shards: shards as u64,
-            hands: hands as u64,
-        };
-        let words = vec![in alloc; 0u64; shards]?;
-        let homes = empty_shards(alloc, problem, shards)?;
-        let Ok((inner, first)) = AtomicTable::new(alloc, words.as_slice(), homes, &plan) else {
-            return Err(AllocError);
-        };
+        let (inner, first) = open_shards(alloc, problem, shards, hands)?;
         let dealt = deal(&inner.shared, first, dealt, hands);
         let table = Table {
             inner,
@@ -101,10 +144,17 @@ impl<'p, O: SeqObject> Table<'p, O> {
         self.problem
     }
 
-    /// Takes all hands back and tells how many configurations they stored: that is below 2^54, and at most the number of
-    /// the problem's reachable configurations. Each hand came with this table. `HandsMissing` where fewer hands are there
-    /// than were made: it gives table and hands back as they were. It takes no memory.
-    pub fn total(self, mut hands: Vec<Hand<O>>) -> Result<u64, HandsMissing<'p, O>>
+    // Whether hands are missing where so many came back.
+    fn misses_hands(&self, came: usize) -> bool
+        ensures { IsTrue result ↔ came < self.now.hands }
+    {
+        (came as u64) < self.hands
+    }
+
+    /// Takes all hands back and tells how many configurations they stored: that is below 2^54, and at most the number
+    /// of the problem's reachable configurations. Each hand came with this table. `HandsMissing` where fewer hands
+    /// are there than were made: it gives table and hands back as they were. It takes no memory.
+    pub fn total(self, hands: Vec<Hand<O>>) -> Result<u64, HandsMissing<'p, O>>
         requires { All (IsHandOf self) hands.items }
         ensures missing { IsErr result ↔ (vec_len hands < self.entry.hands) }
         ensures unchanged { IfErr result (λ e. (e.table ≡ self.entry) × (e.hands ≡ hands)) }
@@ -117,21 +167,17 @@ impl<'p, O: SeqObject> Table<'p, O> {
             (problem_of O.after O.State.eq O.Reply.eq self.entry.problem) m → n ≤ m) }
     {
         lawful::<O>();
-        if (hands.len() as u64) < self.hands {
+        if self.misses_hands(hands.len()) {
             return Err(HandsMissing { table: self, hands });
         }
         let stored = stored_by(hands.as_slice());
-        let Some(last) = hands.pop() else {
-            unreachable!()
-        };
         let Table {
             inner,
             problem: _,
             shards: _,
             hands: _,
         } = self;
-        let all = gather(&inner.shared, last.into_token(), hands);
-        free_shards(inner.close_with(all));
+        close_shards(inner, hands);
         Ok(stored)
     }
 
@@ -252,7 +298,7 @@ impl<'p, O: SeqObject> Table<'p, O> {
         ensures came { IsHandOf self.now hand.new }
         ensures own { result ≢ Noted.Stranger }
     {
-        if hand.count() < MAX_STORED {
+        if hand.has_room() {
             return self.store(hand, problem, lifted, state, longest);
         }
         let config = Config::from_parts(lifted, state);
@@ -262,10 +308,10 @@ impl<'p, O: SeqObject> Table<'p, O> {
         }
     }
 
-    /// Hands a refutation to the table, which keeps it in its home. `Stranger` exactly where the table's problem is not the
-    /// `same` as the refutation's; `Known` where it was there; `Busy` where its shard was not got within 64 tries;
-    /// `NoRoom` where memory was refused, or the hand has stored 2^47 configurations; else `New`, which alone changes
-    /// anything: the hand has an entry more.
+    /// Hands a refutation to the table, which keeps it in its home. `Stranger` exactly where the table's problem is
+    /// not the `same` as the refutation's; `Known` where it was there; `Busy` where its shard was not got within 64
+    /// tries; `NoRoom` where memory was refused, or the hand has stored 2^47 configurations; else `New`, which alone
+    /// changes anything: the hand has an entry more.
     ///
     /// Condition: the hand came with this table.
     pub fn note(&self, hand: &mut Hand<O>, refutation: Refutation<'_, O>) -> Noted

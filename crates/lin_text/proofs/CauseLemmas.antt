@@ -85,12 +85,6 @@ told_by_event told h g line d event is r e sound told_now =
       told_now,
     )
 
--- what is told with a blank line
-pub told_by_blank : (told : TextEvents) (h : RecordedHistory) (line : List ℕ) → length line ≤ MAX_LINE_BYTES → is_blank line ≡ true → IsHistoryTold told h → (more : TextEvents) × IsToldBy told line more × IsHistoryTold more h
-told_by_blank told h line short blank is =
-    let test : nat_lt MAX_LINE_BYTES (length line) ≡ false = grind (arith, nat_tests, short) in
-    (told, record { sound = rw (test, blank) refl; after = rw blank refl }, is)
-
 -- ---- the answer of a text, by that of the builder
 
 pub on_ok : {A : Type 0} (r : Result A BuildFault) (P Q R : Type 0) → OnOk r P → OnOk r Q → (P → Q → R) → OnOk (result_map_both (λ (x : A). x) cause_of r) R

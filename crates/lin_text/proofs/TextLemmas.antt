@@ -1,10 +1,9 @@
 -- Over the lines of a text, one after another.
-use Rattle.std.proofs.Common.{◌≡◌, ℕ, ◌+◌, ◌<◌, ◌≤◌, List, [], ◌∷◌, ◌++◌, length, refl, ap, subst, ◌∙◌, append_assoc, length-append, arith}
+use Rattle.std.proofs.Common.{◌≡◌, ℕ, ◌+◌, ◌<◌, ◌≤◌, List, [], ◌∷◌, ◌++◌, length, refl, ap, ◌∙◌, append_assoc, length-append, arith}
 use Rattle.lin_history.specs.Recorder.RecordedHistory.{RecordedHistory, no_event}
-use Rattle.lin_text.specs.declared.cause.Cause.{Cause}
 use Rattle.lin_text.specs.declared.text.TheConstants.{MAX_INPUT_BYTES}
 use Rattle.lin_text.specs.Events.{TextEvents, nothing_told, history_of, IsHistoryTold}
-use Rattle.lin_text.specs.Text.{lines, IsToldBy, AreToldBy, HasCause, MeansHistory, IsReached, HasFaultyLine}
+use Rattle.lin_text.specs.Text.{lines, IsToldBy, AreToldBy, MeansHistory, IsReached}
 use Rattle.lin_text.proofs.LineLemmas.{lines_nil, append_nil}
 
 -- a history is told by what its events and objects tell of it
@@ -79,8 +78,3 @@ reached text rest number h line more m cut = record {
   count = omega (arith, m.count);
   lines_tell = m.lines_tell;
 }
-
--- the first cause of the line that is reached
-pub faulty : (text rest : List ℕ) (number : ℕ) (h : RecordedHistory) (line more : List ℕ) (cause : Cause) → IsMidway text rest number h → lines rest ≡ line ∷ lines more → HasCause h line cause → HasFaultyLine text (number + 1) cause
-faulty text rest number h line more cause m cut has =
-    (line, m.told, reached text rest number h line more m cut, subst (λ (g : RecordedHistory). HasCause g line cause) (history_told m.told h m.history) has)

@@ -1,5 +1,5 @@
 -- Lemmas on the numbers below a bound, each counted once, and on lists that divide them.
-use Rattle.std.proofs.Common.{◌≡◌, ◌≢◌, ℕ, zero, suc, ◌+◌, ◌<◌, ◌≤◌, min, List, [], ◌∷◌, length, get_or, refl, sym, ap, ◌∙◌, arith, eqb, ⊎_elim}
+use Rattle.std.proofs.Common.{◌≡◌, ◌≢◌, ℕ, zero, suc, ◌+◌, ◌<◌, ◌≤◌, min, List, [], ◌∷◌, length, get_or, refl, ap, ◌∙◌, arith, eqb, ⊎_elim}
 use Rattle.std.proofs.lemmas.Bool.Decides.{nat_tests}
 use Rattle.std.proofs.lemmas.Bool.{cases_lt}
 use Rattle.lin_board.specs.Lists.Totals.{one_if, total, times}
@@ -40,33 +40,9 @@ module _ {X : Type 0} (f : X → ℕ) (d : X) where
       at_head z i rest zero h ne = omega arith
       at_head z i rest (suc j) h ne = rest j (omega arith) (λ e. ne (ap suc e))
 
-  -- where f is 0 of each element, it adds up to 0
-  total-from_none : (l : List X) → ((j : ℕ) → j < length l → f (get_or l j d) ≡ 0) → total f l ≡ 0
-  total-from_none [] none = refl
-  total-from_none (x ∷ xs) none =
-      let head = none 0 (omega arith) in
-      let r = total-from_none xs (λ j h. none (suc j) (omega arith)) in omega arith
-
-  -- where f is 1 of one element and 0 of the others, it adds up to 1
-  total-from_one : (l : List X) (i : ℕ) → i < length l → f (get_or l i d) ≡ 1 → ((j : ℕ) → j < length l → j ≢ i → f (get_or l j d) ≡ 0) → total f l ≡ 1
-  total-from_one [] i h one others = absurd (omega arith)
-  total-from_one (x ∷ xs) zero h one others =
-      let r = total-from_none xs (λ j k. others (suc j) (omega arith) (λ e. absurd (omega arith))) in omega arith
-  total-from_one (x ∷ xs) (suc i) h one others =
-      let head = others 0 (omega arith) (λ e. absurd (omega arith)) in
-      let r = total-from_one xs i (omega arith) one (λ j k ne. others (suc j) (omega arith) (λ e. ne (omega arith))) in omega arith
-
 -- lists in which, together, each number below n stands once and no other number stands divide the numbers below n
 pub Divides-from_total : (n : ℕ) (lists : List (List ℕ)) → ((x : ℕ) → total (times x) lists ≡ once_below x n) → Divides n lists
 Divides-from_total n lists sums = record {
   below = λ x h. one_from_total (times x) [] lists (sums x ∙ once_below-lt x n h);
   others = λ x h. All-from_total (times x) lists (sums x ∙ once_below-ge x n h);
 }
-
--- the converse
-pub total-from_Divides : (n : ℕ) (lists : List (List ℕ)) → Divides n lists → (x : ℕ) → total (times x) lists ≡ once_below x n
-total-from_Divides n lists h x =
-    ⊎_elim
-    (λ (lt : x < n). let b = h.below x lt in total-from_one (times x) [] lists b.0 b.1 b.2 b.3 ∙ sym (once_below-lt x n lt))
-    (λ (ge : n ≤ x). total-from_none (times x) [] lists (λ j k. h.others x ge j [] k) ∙ sym (once_below-ge x n ge))
-    (cases_lt x n)

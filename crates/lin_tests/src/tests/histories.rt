@@ -133,22 +133,21 @@ fn order_of(alloc: Global, calls: &[(usize, Reply)]) -> Result<WholeOrder, Alloc
     Ok(WholeOrder::new(placed))
 }
 
-// Whether the calls, each with its reply, are a linearization of the history.
+// Whether the calls, each with its reply, are a linearization of the history of registers with these events.
 fn is_verified(
     alloc: Global,
-    history: &History,
+    events: &[Event],
     calls: &[(usize, Reply)],
 ) -> Result<bool, AllocError> {
-    verify(alloc, history, &order_of(alloc, calls)?)
+    let order = order_of(alloc, calls)?;
+    verify(alloc, &recorded(alloc, Kind::Register, events), &order)
 }
 
 #[test]
 fn orders_are_verified(rt: HostRuntime) {
     for (events, calls, wanted) in ORDERS {
-        let history = recorded(rt.alloc(), Kind::Register, events);
-        assert!(rt;
-            matches!(is_verified(rt.alloc(), &history, calls), Ok(answer) if answer == wanted)
-        );
+        let verified = is_verified(rt.alloc(), events, calls);
+        assert!(rt; matches!(verified, Ok(answer) if answer == wanted));
     }
 }
 

@@ -133,19 +133,30 @@ fn answers<M: Memo<AnyObject>, S: Stop>(
     Ok(search(alloc, problem, &root, memo, limit, stop)? == *wanted)
 }
 
-// How many configurations the search stores within this limit, where it answers so.
+// How many configurations the search over a memo of its own stores, where it answers so.
+fn stored_by<S: Stop>(
+    alloc: Global,
+    problem: &Part,
+    limit: Option<u64>,
+    stop: &mut S,
+    wanted: &Outcome,
+) -> Result<Option<u64>, AllocError> {
+    let mut memo = OwnMemo::new(alloc, problem);
+    if answers(alloc, problem, &mut memo, limit, stop, wanted)? {
+        Ok(Some(memo.count()))
+    } else {
+        Ok(None)
+    }
+}
+
+// The same within this limit.
 fn stored_within(
     alloc: Global,
     problem: &Part,
     limit: u64,
     wanted: &Outcome,
 ) -> Result<Option<u64>, AllocError> {
-    let mut memo = OwnMemo::new(alloc, problem);
-    if answers(alloc, problem, &mut memo, Some(limit), &mut NoStop, wanted)? {
-        Ok(Some(memo.count()))
-    } else {
-        Ok(None)
-    }
+    stored_by(alloc, problem, Some(limit), &mut NoStop, wanted)
 }
 
 // Whether the search is refuted within this limit with so many configurations stored, and not within one lift less.
@@ -174,21 +185,27 @@ fn a_hit_is_a_lift(rt: HostRuntime) {
 
 // Whether a search that is stopped after three lifts tells so, with two configurations stored.
 fn is_stopped(alloc: Global, problem: &Part) -> Result<bool, AllocError> {
-    let mut memo = OwnMemo::new(alloc, problem);
     let mut stop = Countdown { lifts: 3 };
-    let wanted = Outcome::Stopped(0);
-    let is_told = answers(alloc, problem, &mut memo, None, &mut stop, &wanted)?;
-    Ok(is_told && memo.count() == 2)
+    let stored = stored_by(alloc, problem, None, &mut stop, &Outcome::Stopped(0))?;
+    Ok(stored == Some(2))
 }
 
-// Whether what a search stored up to its limit serves the next one.
-fn is_taken_up(alloc: Global, problem: &Part) -> Result<bool, AllocError> {
-    let mut memo = OwnMemo::new(alloc, problem);
+// Whether what a search stores in this memo up to its limit serves the next one.
+fn serves_the_next(
+    alloc: Global,
+    problem: &Part,
+    memo: &mut OwnMemo<'_, AnyObject>,
+) -> Result<bool, AllocError> {
     let undecided = Outcome::Undecided;
-    let first = answers(alloc, problem, &mut memo, Some(3), &mut NoStop, &undecided)?;
+    let first = answers(alloc, problem, memo, Some(3), &mut NoStop, &undecided)?;
     let refuted = Outcome::Refuted(THREE_MORE);
-    let second = answers(alloc, problem, &mut memo, None, &mut NoStop, &refuted)?;
+    let second = answers(alloc, problem, memo, None, &mut NoStop, &refuted)?;
     Ok(first && second && memo.count() == 13)
+}
+
+// Whether that is so in a new memo.
+fn is_taken_up(alloc: Global, problem: &Part) -> Result<bool, AllocError> {
+    serves_the_next(alloc, problem, &mut OwnMemo::new(alloc, problem))
 }
 
 #[test]
@@ -273,17 +290,16 @@ fn keeps_once(
     )
 }
 
+// Whether a new memo does so.
+fn a_memo_keeps_once(alloc: Global) -> Result<bool, AllocError> {
+    let problem = posed_by(alloc, Kind::Register, &READ_OF_NO_WRITTEN_VALUE);
+    let other = posed_by(alloc, Kind::Register, &READ_OF_THE_LAST_VALUE);
+    keeps_once(alloc, &mut OwnMemo::new(alloc, &problem), &problem, &other)
+}
+
 #[test]
 fn a_memo_keeps_a_configuration_once(rt: HostRuntime) {
-    let problem = posed_by(rt.alloc(), Kind::Register, &READ_OF_NO_WRITTEN_VALUE);
-    let other = posed_by(rt.alloc(), Kind::Register, &READ_OF_THE_LAST_VALUE);
-    let mut memo = OwnMemo::new(rt.alloc(), &problem);
-    assert!(rt;
-        matches!(
-            keeps_once(rt.alloc(), &mut memo, &problem, &other),
-            Ok(true)
-        )
-    );
+    assert!(rt; matches!(a_memo_keeps_once(rt.alloc()), Ok(true)));
 }
 
 // The two least minimal calls.
@@ -434,9 +450,8 @@ fn plainly_searched(alloc: Global, problem: &Part) -> Result<Outcome, AllocError
 
 // Whether the searches over a memo of its own and over one that forgets answer so.
 fn others_answer(alloc: Global, problem: &Part, wanted: &Outcome) -> Result<bool, AllocError> {
-    let mut memo = OwnMemo::new(alloc, problem);
-    let kept = answers(alloc, problem, &mut memo, None, &mut NoStop, wanted)?;
-    Ok(kept && answers(alloc, problem, &mut Forgetful, None, &mut NoStop, wanted)?)
+    let stored = stored_by(alloc, problem, None, &mut NoStop, wanted)?;
+    Ok(stored.is_some() && answers(alloc, problem, &mut Forgetful, None, &mut NoStop, wanted)?)
 }
 
 // Whether the verifier takes the order that was found, if one was.

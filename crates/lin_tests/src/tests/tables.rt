@@ -56,21 +56,29 @@ fn kept(
     Ok(shard.look(problem, &Config::root(alloc, problem)?))
 }
 
-// Whether a shard refuses a stranger, keeps the root of its problem once, and tells it of no other problem.
-fn a_shard_keeps_once(alloc: Global, problems: &Problems) -> Result<bool, AllocError> {
-    let mut shard = Shard::new(alloc, &problems.own);
-    let strange = added(alloc, &mut shard, &problems.other)?;
+// Whether the shard refuses a stranger, keeps the root of its problem once, and tells it of no other problem.
+fn shard_keeps_once(
+    alloc: Global,
+    shard: &mut Shard<'_, AnyObject>,
+    problems: &Problems,
+) -> Result<bool, AllocError> {
+    let strange = added(alloc, shard, &problems.other)?;
     let empty = shard.len();
-    let first = added(alloc, &mut shard, &problems.own)?;
-    let second = added(alloc, &mut shard, &problems.own)?;
-    let told = kept(alloc, &shard, &problems.own)?;
-    let untold = kept(alloc, &shard, &problems.found)?;
+    let first = added(alloc, shard, &problems.own)?;
+    let second = added(alloc, shard, &problems.own)?;
+    let told = kept(alloc, shard, &problems.own)?;
+    let untold = kept(alloc, shard, &problems.found)?;
     Ok(
         strange == Some(Noted::Stranger)
             && (first, second) == (Some(Noted::New), Some(Noted::Known))
             && (told, untold) == (Some(THREE_MORE), None)
             && (empty, shard.len()) == (0, 1),
     )
+}
+
+// Whether a new shard does so.
+fn a_shard_keeps_once(alloc: Global, problems: &Problems) -> Result<bool, AllocError> {
+    shard_keeps_once(alloc, &mut Shard::new(alloc, &problems.own), problems)
 }
 
 #[test]
@@ -142,6 +150,23 @@ pub(super) fn stored(table: Table<'_, AnyObject>, hands: Vec<Hand<AnyObject>>, c
     matches!(table.total(hands), Ok(told) if told == count)
 }
 
+// Whether the table stored so many configurations with these two hands.
+fn stored_by_both(
+    alloc: Global,
+    table: Table<'_, AnyObject>,
+    one: Hand<AnyObject>,
+    other: Hand<AnyObject>,
+    count: u64,
+) -> Result<bool, AllocError>
+    requires one { IsHandOf table one }
+    requires other { IsHandOf table other }
+{
+    let mut hands = Vec::with_capacity(alloc, 2)?;
+    hands.push_reserved(one);
+    hands.push_reserved(other);
+    Ok(stored(table, hands, count))
+}
+
 // Whether a table is given back without its hand, and tells so many configurations with it.
 fn totals(
     alloc: Global,
@@ -195,6 +220,20 @@ fn refutes(
     Ok(outcome == Outcome::Refuted(THREE_MORE))
 }
 
+// What a memo over the table tells of the problem's root.
+fn told_by_memo(
+    alloc: Global,
+    table: &Table<'_, AnyObject>,
+    hand: &mut Hand<AnyObject>,
+    problem: &Part,
+) -> Result<Option<Longest>, AllocError>
+    requires { IsHandOf table.now hand.old }
+    ensures { IsHandOf table.now hand.new }
+{
+    let root = Config::root(alloc, problem)?;
+    Ok(SharedMemo::new(table, hand).look(problem, &root))
+}
+
 // Whether this hand, which stored nothing, is told what another hand stored, and stores none of it again.
 fn knows(
     alloc: Global,
@@ -207,23 +246,37 @@ fn knows(
 {
     // Each of the three calls that may come first leads to what is known.
     let refuted = refutes(alloc, table, hand, problem, Some(3))?;
-    let root = Config::root(alloc, problem)?;
-    let own = SharedMemo::new(table, hand).look(problem, &root);
+    let own = told_by_memo(alloc, table, hand, problem)?;
     let again = noted(alloc, table, hand, problem)?;
     Ok(refuted && (own, again) == (Some(THREE_MORE), Some(Noted::Known)) && hand.count() == 0)
 }
 
-// Whether one hand stores all 13 configurations of the problem, and the other then knows them.
+// Whether one hand refutes the problem, and the other then knows what it stored.
+fn share(
+    alloc: Global,
+    table: &Table<'_, AnyObject>,
+    one: &mut Hand<AnyObject>,
+    other: &mut Hand<AnyObject>,
+    problem: &Part,
+) -> Result<bool, AllocError>
+    requires one { IsHandOf table.now one.old }
+    requires other { IsHandOf table.now other.old }
+    ensures one { IsHandOf table.now one.new }
+    ensures other { IsHandOf table.now other.new }
+{
+    let first = refutes(alloc, table, one, problem, None)?;
+    let known = knows(alloc, table, other, problem)?;
+    Ok(first && known)
+}
+
+// Whether two hands do so with all 13 configurations of the problem.
 fn two_hands_share(alloc: Global, problem: &Part) -> Result<bool, AllocError> {
     let (table, mut hands) = Table::new(alloc, problem, 16, 2)?;
     let (Some(mut b), Some(mut a)) = (hands.pop(), hands.pop()) else {
         return Ok(false);
     };
-    let first = refutes(alloc, &table, &mut a, problem, None)?;
-    let known = knows(alloc, &table, &mut b, problem)?;
-    hands.push(a)?;
-    hands.push(b)?;
-    Ok(first && known && stored(table, hands, 13))
+    let shared = share(alloc, &table, &mut a, &mut b, problem)?;
+    Ok(stored_by_both(alloc, table, a, b, 13)? && shared)
 }
 
 #[test]
@@ -300,6 +353,11 @@ fn share_none(these: &[Config<AnyObject>], those: &[Config<AnyObject>]) -> bool 
     true
 }
 
+// Whether no two of all these configurations are the same.
+fn are_all_apart(these: &[Config<AnyObject>], those: &[Config<AnyObject>]) -> bool {
+    are_apart(these) && are_apart(those) && share_none(these, those)
+}
+
 // Whether both refuted the problem, and the table has what they kept, at most 13, each once.
 fn brought_each_once(
     alloc: Global,
@@ -310,15 +368,11 @@ fn brought_each_once(
     requires one { IsHandOf table one.hand }
     requires other { IsHandOf table other.hand }
 {
-    let mut hands = Vec::with_capacity(alloc, 2)?;
-    hands.push(one.hand)?;
-    hands.push(other.hand)?;
-    let apart = are_apart(&one.kept)
-        && are_apart(&other.kept)
-        && share_none(&one.kept, &other.kept);
-    let count = one.kept.len().saturating_add(other.kept.len());
     let refuted = one.refuted && other.refuted;
-    Ok(refuted && apart && count <= 13 && stored(table, hands, count as u64))
+    let apart = are_all_apart(&one.kept, &other.kept);
+    let count = one.kept.len().saturating_add(other.kept.len());
+    let told = stored_by_both(alloc, table, one.hand, other.hand, count as u64)?;
+    Ok(told && refuted && apart && count <= 13)
 }
 
 // Searches over the table with each of the hands, in threads.

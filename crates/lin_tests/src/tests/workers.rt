@@ -1,9 +1,12 @@
 //! Workers: what a worker brings of the tasks of a cut.
 
+ghost use Rattle.std.specs.Prelude.{◌≡◌, IfOk, IfSome};
+ghost use Rattle.lin_board.specs.Board.{IsSeatOf};
+
 use super::boards::tallies;
 use super::searches::{Part, READ_OF_NO_WRITTEN_VALUE, posed_by};
 use super::tables::stored;
-use lin_board::Board;
+use lin_board::{Board, Seat};
 use lin_object::Kind;
 use lin_search::{Longest, Outcome};
 use lin_table::Table;
@@ -18,40 +21,64 @@ fn refuted_with(first: usize) -> Outcome {
     })
 }
 
-// Whether a worker alone refutes each of three tasks, and stores what is below them.
-fn refutes_each_task(alloc: Global, problem: &Part) -> Result<bool, AllocError> {
+// The seat of a worker that has a table to itself and goes through the tasks of the cut that are not claimed, where it
+// brings these values of them and stores so many configurations.
+fn brings(
+    alloc: Global,
+    problem: &Part,
+    board: &Board,
+    seat: Seat,
+    brought: &[(u64, Outcome)],
+    count: u64,
+) -> Result<Option<Seat>, AllocError>
+    requires tasks { board.now.tasks ≡ 3 }
+    requires seat { IsSeatOf board.now seat }
+    ensures { IfOk result (λ seat. IfSome seat (λ seat. IsSeatOf board.now seat)) }
+{
     let tasks = cut(alloc, problem, 2)?;
     let (table, mut hands) = Table::new(alloc, problem, 1, 1)?;
-    let (board, mut seats) = Board::new(alloc, 3, 1)?;
-    let (Some(hand), Some(seat)) = (hands.pop(), seats.pop()) else {
-        return Ok(false);
+    let Some(hand) = hands.pop() else {
+        return Ok(None);
     };
     if tasks.len() != 3 {
-        return Ok(false);
+        return Ok(None);
     }
-    let Done { values, hand, seat } = work(
+    let done = work(
         alloc,
         problem,
         tasks.as_slice(),
         &table,
         hand,
-        &board,
+        board,
         seat,
         &FreeGate,
         None,
     );
+    let Done { values, hand, seat } = done;
     hands.push(hand)?;
-    seats.push(seat)?;
+    if values.as_slice() == brought && stored(table, hands, count) {
+        Ok(Some(seat))
+    } else {
+        Ok(None)
+    }
+}
+
+// Whether a worker alone refutes each of three tasks, and stores what is below them.
+fn refutes_each_task(alloc: Global, problem: &Part) -> Result<bool, AllocError> {
+    let (board, mut seats) = Board::new(alloc, 3, 1)?;
+    let Some(seat) = seats.pop() else {
+        return Ok(false);
+    };
     let brought = [
         (0, refuted_with(1)),
         (1, refuted_with(0)),
         (2, refuted_with(0)),
     ];
-    Ok(
-        values.as_slice() == brought.as_slice()
-            && stored(table, hands, 12)
-            && tallies(board, seats, 3, None),
-    )
+    let Some(seat) = brings(alloc, problem, &board, seat, &brought, 12)? else {
+        return Ok(false);
+    };
+    seats.push(seat)?;
+    Ok(tallies(board, seats, 3, None))
 }
 
 #[test]
@@ -62,39 +89,21 @@ fn a_worker_refutes_each_task(rt: HostRuntime) {
 
 // Whether a worker stops at each task after the first, for which another seat told that something was found.
 fn stops_after_the_first(alloc: Global, problem: &Part) -> Result<bool, AllocError> {
-    let tasks = cut(alloc, problem, 2)?;
-    let (table, mut hands) = Table::new(alloc, problem, 1, 1)?;
     let (board, mut seats) = Board::new(alloc, 3, 2)?;
-    let (Some(hand), Some(seat), Some(mut other)) = (hands.pop(), seats.pop(), seats.pop()) else {
+    let (Some(seat), Some(mut other)) = (seats.pop(), seats.pop()) else {
         return Ok(false);
     };
     let Some(first) = board.claim(&mut other) else {
         return Ok(false);
     };
     board.found(&mut other, first);
-    if tasks.len() != 3 {
-        return Ok(false);
-    }
-    let Done { values, hand, seat } = work(
-        alloc,
-        problem,
-        tasks.as_slice(),
-        &table,
-        hand,
-        &board,
-        seat,
-        &FreeGate,
-        None,
-    );
-    hands.push(hand)?;
-    seats.push(seat)?;
     seats.push(other)?;
     let brought = [(1, Outcome::Stopped(0)), (2, Outcome::Stopped(0))];
-    Ok(
-        values.as_slice() == brought.as_slice()
-            && stored(table, hands, 0)
-            && tallies(board, seats, 3, Some(0)),
-    )
+    let Some(seat) = brings(alloc, problem, &board, seat, &brought, 0)? else {
+        return Ok(false);
+    };
+    seats.push(seat)?;
+    Ok(tallies(board, seats, 3, Some(0)))
 }
 
 #[test]

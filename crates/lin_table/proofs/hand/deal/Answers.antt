@@ -1,10 +1,22 @@
-use Rattle.std.proofs.Common.{◌≡◌, ◌+◌, ◌-◌, [], None, ap, ◌∙◌, arith}
+use Rattle.std.proofs.Common.{◌≡◌, ◌+◌, ◌-◌, [], None, length, refl, ap, ◌∙◌, arith}
 use Rattle.std.proofs.lemmas.List.Elements.{All-push, All-same}
 use Rattle.lin_table.specs.Rule.{view}
 use Rattle.lin_table.specs.Steps.{one_part_less}
 use Rattle.lin_table.proofs.PartLemmas.{split_allowed}
 use Rattle.lin_table.proofs.HandLemmas.{nothing_stored, HasNothing}
 use Rattle.lin_table.proofs.hand.deal.Goals as goal
+
+pub loop-init : goal.loop-init
+loop-init g c =
+    let q = c.requires in
+    let none = ap length q.room.0 in
+    let n : c.args.count ≡ c.args.count + 1 - 1 = omega arith in record {
+      same = refl;
+      me = q.first.1 ∙ ap (λ k. (view c.args.first.me.0.problem k [] None, [])) n;
+      len = omega (arith, none);
+      room = q.room.1;
+      each = λ k d below. absurd (omega (arith, none, below));
+    }
 
 pub split_seat-token-requires : goal.split_seat-token-requires
 split_seat-token-requires g c =

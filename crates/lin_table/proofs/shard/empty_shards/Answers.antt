@@ -1,4 +1,4 @@
-use Rattle.std.proofs.Common.{◌≡◌, [], replicate, ap, ◌∙◌, arith, rules}
+use Rattle.std.proofs.Common.{◌≡◌, [], length, replicate, ap, ◌∙◌, arith, rules}
 use Rattle.lin_table.proofs.PartLemmas.{replicate-push}
 use Rattle.lin_table.proofs.shard.empty_shards.Goals as goal
 
@@ -12,7 +12,7 @@ push_reserved-requires g c =
 
 pub loop-init : goal.loop-init
 loop-init g c =
-    let e = c.in_ok-shards.ensures in record { items = e.items; len = search rules; room = search rules }
+    let e = c.in_ok-shards.ensures in let none = ap length e.items in record { items = e.items; len = omega (arith, none); room = search rules }
 
 pub loop-preserved : goal.loop-preserved
 loop-preserved g c =

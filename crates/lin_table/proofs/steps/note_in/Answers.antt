@@ -11,3 +11,6 @@ note_out-requires-clause-here g c =
     let t = c.take_out.ensures.yes (search rules) in
     let here = c.requires.here in
     (here.0, ap (λ v. v.problem) t.3 ∙ here.1, here.2)
+
+pub returns-then-not-take_out-clause-new : goal.returns-then-not-take_out-clause-new
+returns-then-not-take_out-clause-new g c = λ is. absurd (cc (is))

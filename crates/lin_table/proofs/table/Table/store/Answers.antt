@@ -26,3 +26,6 @@ pub note_in-noted-requires-clause-here : goal.note_in-noted-requires-clause-here
 note_in-noted-requires-clause-here g c =
     let mine = sym c.into_seat-token.ensures.2 ∙ ap (λ b. b.views) c.replace.ensures.value in
     (c.args.self.now.problem, ap (λ views. (facts_of c.hand.inside.badge.table_id views).problem) mine ∙ ap (λ h. h.problem) c.hand.view_is ∙ c.requires.hand.1, c.requires.here)
+
+pub note_in-noted-requires-clause-home : goal.note_in-noted-requires-clause-home
+note_in-noted-requires-clause-home g c = search rules depth 3

@@ -1,5 +1,5 @@
-use Rattle.std.proofs.Common.{◌*◌, ◌≤◌, length, sym, ap, ◌∙◌, arith, Some}
-use Rattle.std.proofs.lemmas.List.Elements.{All-pop, All-weaker}
+use Rattle.std.proofs.Common.{◌*◌, ◌≤◌, length, sym, ap, ◌∙◌, arith}
+use Rattle.std.proofs.lemmas.List.Elements.{All-weaker}
 use Rattle.lin_history.specs.Problems.Problem.{problem_of}
 use Rattle.lin_search.specs.AlikeLemmas.{alike_reachable}
 use Rattle.lin_search.specs.SameLemmas.{alike_itself}
@@ -7,26 +7,17 @@ use Rattle.lin_search.specs.CountLemmas.{number_at_most}
 use Rattle.lin_table.specs.Hand.{IsHandOf, CameWith}
 use Rattle.lin_table.specs.Gather.{entries_in}
 use Rattle.lin_table.proofs.CountLemmas.{has_all}
-use Rattle.lin_table.proofs.EndLemmas.{Settled, settles, stored_as}
+use Rattle.lin_table.proofs.EndLemmas.{stored_as}
 use Rattle.lin_table.proofs.table.Table.total.Goals as goal
 
-pub gather-all-requires-clause-hands : goal.gather-all-requires-clause-hands
-gather-all-requires-clause-hands g c =
-    let mine = All-pop (IsHandOf c.args.self) _ _ (Some c.in-Some.last) c.in-Some.ensures.items c.requires in
-    All-weaker (IsHandOf c.args.self) (CameWith c.self.inside.inner.shared.table_id) (λ hand came. came.0 ∙ sym (ap (λ t. t.id) c.self.view_is)) _ mine.0
+pub close_shards-requires-clause-hands : goal.close_shards-requires-clause-hands
+close_shards-requires-clause-hands g c =
+    All-weaker (IsHandOf c.args.self) (CameWith c.self.inside.inner.shared.table_id) (λ hand came. came.0 ∙ sym (ap (λ t. t.id) c.self.view_is)) _ c.requires
 
-settled : (g : _) (c : goal.After-free_shards g) → Settled (problem_of g.O.SeqObject.after g.O.State.PartialEq.eq g.O.Reply.PartialEq.eq) c.self.inside.inner.shared.key c.args.hands.items
-settled g c =
-    let made = c.self.invariant.2 in
-    let enough = c.if-len-self.false in
-    let len = c.len.ensures in
-    settles (problem_of g.O.SeqObject.after g.O.State.PartialEq.eq g.O.Reply.PartialEq.eq) c.self.inside.inner.shared.key _ _ c.gather-all.result.id c.gather-all.result.me.0 c.close_with.ensures.values.2 c.free_shards.ensures
-    c.args.hands.items c.pop.new.self.items c.in-Some.last c.into_token.result.me.0 (omega arith) c.in-Some.ensures.items c.into_token.ensures.view c.gather-all.ensures.gathered
-
-few : (g : _) (c : goal.After-free_shards g) → length (entries_in c.args.hands.items) ≤ 65 * 140737488355328
+few : (g : _) (c : goal.After-close_shards g) → length (entries_in c.args.hands.items) ≤ 65 * 140737488355328
 few g c =
     let most = rw c.as_slice.ensures.value at c.stored_by-stored.ensures.few in
-    let hands = (settled g c).few in
+    let hands = c.close_shards.ensures.few in
     let made = c.self.invariant.2 in
     let small = c.self.invariant.5 in
     omega arith
@@ -39,8 +30,8 @@ returns-clause-count g c =
 
 pub returns-clause-stored : goal.returns-clause-stored
 returns-clause-stored g c =
-    let told = settled g c in
-    (told.lists, stored_as (problem_of g.O.SeqObject.after g.O.State.PartialEq.eq g.O.Reply.PartialEq.eq) _ _ _ _ told.lists _ (c.self.invariant.3 ∙ ap (λ t. t.problem) c.self.view_is) (c.self.invariant.1 ∙ ap (λ t. t.shards) c.self.view_is) told.stored)
+    let told = c.close_shards.ensures.stored in
+    (told.0, stored_as (problem_of g.O.SeqObject.after g.O.State.PartialEq.eq g.O.Reply.PartialEq.eq) _ _ _ _ told.0 _ (c.self.invariant.3 ∙ ap (λ t. t.problem) c.self.view_is) (c.self.invariant.1 ∙ ap (λ t. t.shards) c.self.view_is) told.1)
 
 pub returns-clause-bound : goal.returns-clause-bound
 returns-clause-bound g c =

@@ -1,6 +1,6 @@
 use Rattle.std.proofs.Common.{rules}
 use Rattle.lin_table.proofs.PartLemmas.{opens}
-use Rattle.lin_table.proofs.table.Table.new.Goals as goal
+use Rattle.lin_table.proofs.table.open_shards.Goals as goal
 
 pub new-requires : goal.new-requires
 new-requires g c =
