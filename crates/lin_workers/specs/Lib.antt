@@ -3,3 +3,4 @@ pub mod NextLevel
 pub mod Levels
 pub mod Heard
 pub mod Values
+pub mod Options

@@ -3,16 +3,19 @@
 //! - `cutting`: the search is cut into tasks; `level`: the levels of configurations that a cut is made of.
 //! - `worker`: a worker claims tasks and searches them; `stop`: its search stops where a smaller task was found.
 //! - `gate`: what a worker passes after each claim.
+//! - `options`: by how many workers a check is run, with how many shards, and within which limit.
 #![tactic(auto)]
 
 mod cutting;
 mod gate;
 mod level;
+mod options;
 mod stop;
 mod task;
 mod worker;
 
 pub use cutting::{LAST_LEVEL, cut};
 pub use gate::{FreeGate, Gate};
+pub use options::{MAX_LIMIT, MAX_SHARDS, MAX_WORKERS, OptionFault, Options};
 pub use task::Task;
 pub use worker::{Done, work};

@@ -2,3 +2,4 @@ pub mod Bytes
 pub mod ReportLemmas
 pub mod JudgeLemmas
 pub mod PrintLemmas
+pub mod CommandLineLemmas

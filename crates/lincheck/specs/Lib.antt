@@ -1,8 +1,9 @@
 pub mod Device
 pub mod Reading
-pub mod Options
 pub mod Report
 pub mod Verdict
 pub mod Prints
 pub mod Ran
 pub mod Status
+pub mod Request
+pub mod CommandLine

@@ -5,15 +5,16 @@ mod device;
 mod fault;
 mod judgement;
 mod lines;
-mod options;
 mod pipeline;
+mod request;
 mod status;
 mod verdict;
 
 pub use device::{DeviceFault, Sink, Source, StdSink, StdSource};
 pub use fault::RunFault;
+pub use lin_workers::{MAX_LIMIT, MAX_SHARDS, MAX_WORKERS, OptionFault, Options};
 pub use lines::report;
-pub use options::{OptionFault, Options};
 pub use pipeline::run;
+pub use request::{DEFAULT_SHARDS, DEFAULT_WORKERS, Request, options_of};
 pub use status::{Status, status_code};
 pub use verdict::Verdict;

@@ -1,6 +1,6 @@
 //! The way from the bytes of a text to the bytes of its answer.
 
-ghost use Rattle.std.specs.Prelude.{◌≡◌, ◌≢◌, ◌||◌, ℕ, false, take, is_err, OnOk, OnErr, IfOk, IfErr, IfSome};
+ghost use Rattle.std.specs.Prelude.{◌≡◌, ◌≢◌, ◌||◌, ℕ, false, None, take, is_err, OnOk, OnErr, IfOk, IfErr, IfSome};
 ghost use Rattle.std.specs.Result.{result_map_both};
 ghost use Rattle.std.specs.Io.KnownBytes.{Appends};
 ghost use Rattle.lin_text.specs.Words.{fault_line};
@@ -12,10 +12,10 @@ use crate::device::{DeviceFault, Sink, Source};
 use crate::fault::RunFault;
 use crate::judgement::judge;
 use crate::lines::report;
-use crate::options::Options;
 use crate::status::Status;
 use crate::verdict::Verdict;
 use lin_text::{Cause, MAX_INPUT_BYTES, TextFault, read_history, write_cause};
+use lin_workers::Options;
 use std::alloc::{AllocError, Global};
 
 // The most bytes of a text, and one more: where so many stand, the text is too long and is read no further.
@@ -117,8 +117,8 @@ fn ended(status: Status, written: Result<(), DeviceFault>) -> Result<Status, Run
 /// once. Faults: `Read` where the source failed, `Memory` where memory was refused; nothing was written then. `Write`
 /// where the sink failed; a prefix of the answer was written.
 ///
-/// Conditions: neither device has failed, and the options ask for no statistics. Afterwards the source has failed exactly
-/// at `Read`, and the sink exactly at `Write`.
+/// Conditions: neither device has failed, and the options ask for no statistics and set no limit. Afterwards the source
+/// has failed exactly at `Read`, and the sink exactly at `Write`.
 pub fn run<R: AllocGlobal, S: Source, W: Sink>(
     rt: &R,
     source: &mut S,
@@ -128,6 +128,7 @@ pub fn run<R: AllocGlobal, S: Source, W: Sink>(
     requires source { S.failed source.old ≡ false }
     requires sink { W.failed sink.old ≡ false }
     requires stats { options.now.stats ≡ false }
+    requires limit { options.now.limit ≡ None }
     ensures ran { RanFrom (S.remaining source.old) (W.contents sink.old) (W.contents sink.new)
         result }
     ensures source { S.failed source.new ≡ is_fault is_read result }

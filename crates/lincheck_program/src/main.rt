@@ -2,19 +2,62 @@
 //! linearizable.
 #![tactic(auto)]
 
-use lincheck::{Options, StdSink, StdSource, run, status_code};
-use std::io;
+use lincheck::{
+    Options, Request, RunFault, Status, StdSink, StdSource, options_of, run, status_code,
+};
 use std::process::ExitCode;
+use std::{env, io};
 
-fn main(rt: HostRuntime) -> ExitCode {
-    let mut source = StdSource::new(rt.reader());
-    let mut sink = StdSink::new(io::writer(&rt));
-    let Ok(options) = Options::new(4, 16, None, false) else {
+// The words after the program's name.
+fn words(rt: &HostRuntime) -> io::Result<Vec<String>> {
+    Ok(env::args(rt)?.skip(1).collect(rt.alloc())?)
+}
+
+// What the user asks for.
+fn request(rt: &HostRuntime) -> Result<Request, RunFault> {
+    match words(rt) {
+        Ok(words) => options_of(rt.alloc(), words.as_slice()).map_err(|_| RunFault::Memory),
+        Err(error) if error.kind() == io::ErrorKind::OutOfMemory => Err(RunFault::Memory),
+        Err(_) => Err(RunFault::Read),
+    }
+}
+
+// The check of standard input, answered on standard output.
+fn check(rt: &HostRuntime, options: &Options) -> Result<Status, RunFault> {
+    let Ok(options) = Options::new(options.workers(), options.shards(), None, false) else {
         unreachable!()
     };
-    let answer = run(&rt, &mut source, &mut sink, &options);
+    let mut source = StdSource::new(rt.reader());
+    let mut sink = StdSink::new(io::writer(rt));
+    run(rt, &mut source, &mut sink, &options)
+}
+
+// The exit status of an answer; a fault is told on standard error.
+fn ended(rt: &HostRuntime, answer: Result<Status, RunFault>) -> ExitCode {
     if let Err(fault) = answer {
         let _ = eprintln!(rt; "lincheck: {fault}");
     }
     ExitCode::from(status_code(&answer))
+}
+
+// Does what the user asks for.
+fn carry_out(rt: &HostRuntime, request: &Request) -> ExitCode {
+    match request {
+        Request::Run(options) => ended(rt, check(rt, options)),
+        Request::Help(text) => match print!(rt; "{text}") {
+            Ok(()) => ExitCode::SUCCESS,
+            Err(_) => ended(rt, Err(RunFault::Write)),
+        },
+        Request::Refused(text) => {
+            let _ = eprint!(rt; "{text}");
+            ended(rt, Ok(Status::Refused))
+        }
+    }
+}
+
+fn main(rt: HostRuntime) -> ExitCode {
+    match request(&rt) {
+        Ok(request) => carry_out(&rt, &request),
+        Err(fault) => ended(&rt, Err(fault)),
+    }
 }

@@ -1,0 +1,46 @@
+-- Options, and why there are none (this project's own).
+use Rattle.std.specs.Prelude.{ℕ, ◌≤◌, ◌||◌, Bool, false, Option, IfSome, Some, None, nat_lt, Result, Ok, Err, List, [], ◌∷◌}
+use Rattle.lin_history.specs.Refusals.{first_that_holds}
+use Rattle.lin_workers.specs.declared.options.OptionFault.{OptionFault}
+use Rattle.lin_workers.specs.declared.options.OptionFault.TheVariants.{Workers, Shards, Limit}
+use Rattle.lin_workers.specs.declared.options.TheConstants.{MAX_WORKERS, MAX_SHARDS, MAX_LIMIT}
+
+-- How a check is run.
+pub record Options : Type 0 where
+  pub workers : ℕ
+  pub shards : ℕ
+  pub limit : Option ℕ
+  pub stats : Bool
+
+-- The number is from 1 to the greatest.
+abbrev pub IsUpTo : ℕ → ℕ → Type 0
+IsUpTo greatest n = (1 ≤ n) × (n ≤ greatest)
+
+-- The options are within their ranges.
+abbrev pub AreWithin : Options → Type 0
+AreWithin o = IsUpTo MAX_WORKERS o.workers × IsUpTo MAX_SHARDS o.shards × IfSome o.limit (IsUpTo MAX_LIMIT)
+
+-- The number is not from 1 to the greatest.
+abbrev pub is_outside : ℕ → ℕ → Bool
+is_outside greatest n = nat_lt n 1 || nat_lt greatest n
+
+-- The same of a limit, where there is one.
+abbrev pub is_limit_outside : Option ℕ → Bool
+is_limit_outside None = false
+is_limit_outside (Some n) = is_outside MAX_LIMIT n
+
+-- Why options are refused, in order.
+abbrev pub option_refusals : Options → List (Bool × OptionFault)
+option_refusals o =
+    (is_outside MAX_WORKERS o.workers, Workers)
+    ∷ (is_outside MAX_SHARDS o.shards, Shards)
+    ∷ (is_limit_outside o.limit, Limit)
+    ∷ []
+
+abbrev unless : {A F : Type 0} → Option F → A → Result A F
+unless None value = Ok value
+unless (Some fault) value = Err fault
+
+-- These options, or their first refusal.
+abbrev pub options_made : Options → Result Options OptionFault
+options_made o = unless (first_that_holds (option_refusals o)) o

@@ -1,0 +1,137 @@
+//! How a check is run.
+ghost use Rattle.std.specs.Prelude.{◌≡◌, IfSome};
+ghost use Rattle.lin_workers.specs.Options.{IsUpTo, is_outside, is_limit_outside, options_made};
+
+use std::marker::Model;
+
+/// The most workers.
+pub const MAX_WORKERS: u64 = 64;
+
+/// The most shards.
+pub const MAX_SHARDS: u64 = 256;
+
+/// The greatest limit on lifts.
+pub const MAX_LIMIT: u64 = 1_000_000_000_000;
+
+/// How a check is run: by how many workers, with how many shards, with which limit on the lifts of each search, and
+/// whether it tells how many configurations were stored. The type keeps each within its range.
+#[derive(Clone, Copy, PartialEq, Eq, Debug)]
+pub struct Options {
+    workers: u64,
+    shards: u64,
+    limit: Option<u64>,
+    stats: bool,
+}
+
+impl Model for Options {
+    ghost use Rattle.lin_workers.specs.Options.{Options, AreWithin};
+
+    ghost Value = { Options };
+
+    ghost view = { λ o. record {
+      workers = o.workers;
+      shards = o.shards;
+      limit = o.limit;
+      stats = o.stats;
+    } };
+
+    ghost invariant = { λ o. AreWithin (record {
+      workers = o.workers;
+      shards = o.shards;
+      limit = o.limit;
+      stats = o.stats;
+    }) };
+
+    ghost inverse = { λ o. record {
+      workers = o.workers;
+      shards = o.shards;
+      limit = o.limit;
+      stats = o.stats;
+    } };
+}
+
+/// Why there are no such options.
+#[derive(Clone, Copy, PartialEq, Eq, Debug)]
+pub enum OptionFault {
+    /// Not 1 to `MAX_WORKERS` workers.
+    Workers,
+    /// Not 1 to `MAX_SHARDS` shards.
+    Shards,
+    /// A limit that is not 1 to `MAX_LIMIT`.
+    Limit,
+}
+
+// Whether there is a limit that is not 1 to `MAX_LIMIT`.
+fn is_limit_outside(limit: Option<u64>) -> bool
+    ensures { result ≡ is_limit_outside limit }
+{
+    match limit {
+        Some(lifts) => !(1..=MAX_LIMIT).contains(&lifts),
+        None => false,
+    }
+}
+
+impl Options {
+    /// The options. Refusals, in order: `Workers` where they are not 1 to `MAX_WORKERS`, `Shards` where they are not 1 to
+    /// `MAX_SHARDS`, `Limit` where one is given that is not 1 to `MAX_LIMIT`. It takes no memory.
+    pub fn new(
+        workers: u64,
+        shards: u64,
+        limit: Option<u64>,
+        stats: bool,
+    ) -> Result<Options, OptionFault>
+        ensures { result ≡ options_made (record {
+          workers = workers;
+          shards = shards;
+          limit = limit;
+          stats = stats;
+        }) }
+    {
+        if !(1..=MAX_WORKERS).contains(&workers) {
+            return Err(OptionFault::Workers);
+        }
+        if !(1..=MAX_SHARDS).contains(&shards) {
+            return Err(OptionFault::Shards);
+        }
+        if is_limit_outside(limit) {
+            return Err(OptionFault::Limit);
+        }
+        Ok(Options {
+            workers,
+            shards,
+            limit,
+            stats,
+        })
+    }
+
+    /// How many workers search: 1 to `MAX_WORKERS`.
+    pub fn workers(&self) -> u64
+        ensures workers { result ≡ self.now.workers }
+        ensures range { IsUpTo MAX_WORKERS result }
+    {
+        self.workers
+    }
+
+    /// How many shards the table of an object has: 1 to `MAX_SHARDS`.
+    pub fn shards(&self) -> u64
+        ensures shards { result ≡ self.now.shards }
+        ensures range { IsUpTo MAX_SHARDS result }
+    {
+        self.shards
+    }
+
+    /// The most lifts of each search, where there is such a limit: 1 to `MAX_LIMIT`.
+    pub fn limit(&self) -> Option<u64>
+        ensures limit { result ≡ self.now.limit }
+        ensures range { IfSome result (IsUpTo MAX_LIMIT) }
+    {
+        self.limit
+    }
+
+    /// Whether the number of configurations stored is told.
+    pub fn stats(&self) -> bool
+        ensures { result ≡ self.now.stats }
+    {
+        self.stats
+    }
+}

@@ -1,0 +1,240 @@
+-- What a parse of the command line gives.
+use Rattle.std.proofs.Common.{◌≡◌, ◌⊎◌, ◌∙◌, ◌<◌, ◌||◌, ℕ, Bool, true, false, List, [], ◌∷◌, length, Option, Some, None, Result, Ok, Err, ap, refl, sym, subst, inl, inr, arith, codes, slice_index}
+use Rattle.std.specs.Prelude.{IfSome, option_map, unwrap_or, slice_get}
+use Rattle.std.specs.List.{All, slice_index_or}
+use Rattle.std.specs.Borrow.{Bor}
+use Rattle.std.specs.Str.Parse.{ParsesUnsigned, digits_value, without_leading_plus}
+use Rattle.std.proofs.lemmas.Bool.{cases_lt, le-ltb}
+use Rattle.std.proofs.lemmas.List.Elements.{All-nil, All-push}
+use Rattle.std.proofs.lemmas.Slice.Eq.{bytes_eq-Decides}
+use Rattle.clap.specs.Words.{Accepts, AddsArg, BuildsTo, IsParsedFrom, IsPlain, IsPlainArg, IsUnsignedIn, ReadsOne, args_of, found_of, groups_of, matched_of, one_text, read_as, reading_of}
+use Rattle.clap.specs.Facts.{Entry, EntryPasses, HasReading, PassesArg, ValuesPass, parser_of_value}
+use Rattle.clap.specs.declared.builder.arg.Arg.{Arg}
+use Rattle.clap.specs.declared.builder.command.Command.{Command}
+use Rattle.clap.specs.declared.builder.command.Command.TheViews.{out-Command}
+use Rattle.clap.specs.declared.builder.value_parser.ValueParser.{ValueParser}
+use Rattle.clap.specs.declared.builder.value_parser.ValueParser.TheVariants as parsers
+use Rattle.clap.specs.declared.builder.value_parser.Reading.{Reading}
+use Rattle.clap.specs.declared.parser.matches.ArgMatches.{ArgMatches}
+use Rattle.clap.specs.declared.parser.matches.Found.{Found}
+use Rattle.clap.specs.declared.parser.matches.MatchedArg.{MatchedArg}
+use Rattle.clap.proofs.CallerLemmas.{added_plain, entry_by_id}
+use Rattle.lin_workers.specs.Options.{Options, IsUpTo, is_outside, is_limit_outside, options_made}
+use Rattle.lin_workers.specs.declared.options.TheConstants.{MAX_WORKERS, MAX_SHARDS, MAX_LIMIT}
+use Rattle.lincheck.specs.CommandLine.{TakesUpTo, IsCommandLine, IsNumberOption, GivesUpTo, AreAsked, AreInRange, number_given}
+use Rattle.lincheck.specs.declared.request.TheConstants.{DEFAULT_WORKERS, DEFAULT_SHARDS}
+
+-- One more argument, which takes such a number where it has the name.
+pub takes_push : (old new : Command) (a : Arg) (name : List ℕ) (greatest : ℕ) → AddsArg old a new → TakesUpTo old name greatest
+    → (a.id.now ≡ name → a.value_parser ≡ Some (parsers.Unsigned 1 greatest)) → TakesUpTo new name greatest
+takes_push old new a name greatest added all this =
+    subst (All (λ b. b.id.now ≡ name → b.value_parser ≡ Some (parsers.Unsigned 1 greatest))) (sym added.args)
+    (All-push (λ b. b.id.now ≡ name → b.value_parser ≡ Some (parsers.Unsigned 1 greatest)) (args_of old) added.arg all
+    (λ is. added.rules.parser (parsers.Unsigned 1 greatest) (this (ap (λ b. b.now) (sym added.rules.id) ∙ is))))
+
+-- Building adds help and version alone.
+takes_built : (old new : Command) (name : List ℕ) (greatest : ℕ) → BuildsTo old new → TakesUpTo old name greatest
+    → ((name ≡ codes "help") ⊎ (name ≡ codes "version") → ⊥) → TakesUpTo new name greatest
+takes_built old new name greatest builds all other k d lt =
+    λ is. elim (cases_lt k (length (args_of old))) [
+      | inl under ↦
+          let kept = builds.kept k d under in
+          kept.1.parser (parsers.Unsigned 1 greatest) (all k d under (ap (λ b. b.now) (sym kept.1.id) ∙ is))
+      | inr over ↦ absurd (other (elim (builds.extra k d over lt) [ inl h ↦ inl (sym is ∙ h) | inr h ↦ inr (sym is ∙ h) ]))
+    ]
+
+-- What such an argument takes, and as what it is read.
+accepted : (c : Command) (name : List ℕ) (greatest : ℕ) (text : List ℕ) → TakesUpTo c name greatest → PassesArg c name text
+    → IsUnsignedIn 1 greatest text
+accepted c name greatest text all pass =
+    let is : pass.1.id.now ≡ name = (bytes_eq-Decides pass.1.id.now name).0 pass.4.0 in
+    let parser : pass.1.value_parser ≡ Some (parsers.Unsigned 1 greatest) =
+    subst (λ b. b.id.now ≡ name → b.value_parser ≡ Some (parsers.Unsigned 1 greatest)) pass.3 (all pass.0 pass.1 pass.2) is in
+    subst (λ (p : ValueParser). Accepts pass.1.ignore_case p text) (ap parser_of_value parser) pass.4.1
+
+read_alike : (c : Command) (name : List ℕ) (greatest : ℕ) (how : Reading) → TakesUpTo c name greatest → HasReading c name how
+    → reading_of (parsers.Unsigned 1 greatest) ≡ how
+read_alike c name greatest how all has =
+    let is : has.1.id.now ≡ name = (bytes_eq-Decides has.1.id.now name).0 has.4.0 in
+    let parser : has.1.value_parser ≡ Some (parsers.Unsigned 1 greatest) =
+    subst (λ b. b.id.now ≡ name → b.value_parser ≡ Some (parsers.Unsigned 1 greatest)) has.3 (all has.0 has.1 has.2) is in
+    sym (ap reading_of (ap parser_of_value parser)) ∙ has.4.1
+
+first_given : (P : List ℕ → Type 0) (how : Reading) (vals : List (Bor (List ℕ))) → ((t : List ℕ) → read_as how t ≡ t)
+    → All (λ v. P v.now) vals → IfSome (option_map (λ s. read_as how s.now) (slice_get vals 0)) P
+first_given P how [] same all = tt
+first_given P how (v ∷ vs) same all = subst P (sym (same v.now)) (all 0 v (omega arith))
+
+entry_given : (c : Command) (name : List ℕ) (greatest : ℕ) (x : MatchedArg) (e : Entry) → groups_of c ≡ [] → (name ≡ [] → ⊥)
+    → TakesUpTo c name greatest → e.1 ≡ x → e.0.now ≡ name → EntryPasses c e
+    → IfSome (option_map (λ s. read_as x.reading s.now) (slice_get x.vals.items 0)) (IsUnsignedIn 1 greatest)
+entry_given c name greatest x e no_groups named all same key pass =
+    let no_group : e.1.is_group ≡ true → ⊥ = λ g. elim (pass.3 g) [
+      | inl empty ↦ named (sym key ∙ empty)
+      | inr lots ↦
+          let bad : 0 < 0 = rw no_groups at lots in
+          absurd (omega arith)
+    ] in
+    let vals : All (λ v. PassesArg c name v.now) x.vals.items = elim pass.0 [
+      | inl g ↦ absurd (no_group g)
+      | inr vals ↦ subst (λ (w : List ℕ). All (λ v. PassesArg c w v.now) x.vals.items) key (rw same at vals)
+    ] in
+    let how : reading_of (parsers.Unsigned 1 greatest) ≡ e.1.reading = elim pass.4 [
+      | inl g ↦ absurd (no_group g)
+      | inr h ↦ read_alike c name greatest e.1.reading all (subst (λ (w : List ℕ). HasReading c w e.1.reading) key h)
+    ] in
+    let how_x : reading_of (parsers.Unsigned 1 greatest) ≡ x.reading = how ∙ ap (λ (y : MatchedArg). y.reading) same in
+    first_given (IsUnsignedIn 1 greatest) x.reading x.vals.items
+    (λ t. subst (λ (r : Reading). read_as r t ≡ t) how_x refl)
+    (λ k d lt. accepted c name greatest (slice_index_or x.vals.items k d).now all (vals k d lt))
+
+gives : (c : Command) (f : Found) (name : List ℕ) (greatest : ℕ) → ValuesPass c f → groups_of c ≡ [] → (name ≡ [] → ⊥)
+    → TakesUpTo c name greatest → GivesUpTo f name greatest
+gives c f name greatest values no_groups named all = go (matched_of f name) refl
+  where
+    go : (o : Option MatchedArg) → matched_of f name ≡ o → GivesUpTo f name greatest
+    go None e = rw e tt
+    go (Some x) e =
+        let got = entry_by_id (EntryPasses c) f.entries.items name x values e in
+        rw e (entry_given c name greatest x got.0 no_groups named all got.1 ((bytes_eq-Decides got.0.0.now name).0 got.2) got.3)
+
+-- A name with another first letter is neither that of help nor that of version.
+not_auto : (name : List ℕ) (letter : ℕ) → slice_index name 0 ≡ letter → (letter ≡ 104 → ⊥) → (letter ≡ 118 → ⊥)
+    → (name ≡ codes "help") ⊎ (name ≡ codes "version") → ⊥
+not_auto name letter is help version auto = elim auto [
+  | inl h ↦ help (sym is ∙ ap (λ t. slice_index t 0) h)
+  | inr h ↦ version (sym is ∙ ap (λ t. slice_index t 0) h)
+]
+
+-- Each number that the words gave is within its range.
+pub in_range : (old : Command) (m : ArgMatches) → IsParsedFrom old m → IsCommandLine old → AreInRange (found_of m)
+in_range old m p line =
+    let parsed = p.parsed (p.from.globals ∙ line.own) in
+    let no_groups = (p.from.plain line.plain).1 in
+    record {
+      workers = gives p.built (found_of m) (codes "workers") MAX_WORKERS parsed.values no_groups (λ e. cc)
+          (takes_built old p.built (codes "workers") MAX_WORKERS p.from line.workers
+          (not_auto (codes "workers") 119 refl (λ e. absurd (omega arith)) (λ e. absurd (omega arith))));
+      shards = gives p.built (found_of m) (codes "shards") MAX_SHARDS parsed.values no_groups (λ e. cc)
+          (takes_built old p.built (codes "shards") MAX_SHARDS p.from line.shards
+          (not_auto (codes "shards") 115 refl (λ e. absurd (omega arith)) (λ e. absurd (omega arith))));
+      limit = gives p.built (found_of m) (codes "limit") MAX_LIMIT parsed.values no_groups (λ e. cc)
+          (takes_built old p.built (codes "limit") MAX_LIMIT p.from line.limit
+          (not_auto (codes "limit") 108 refl (λ e. absurd (omega arith)) (λ e. absurd (omega arith))));
+    }
+
+-- What is read of a text that gives such a number is that number.
+pub number_read : (E : Type 0) (G : List ℕ → Result ℕ E → Type 0) (greatest : ℕ) (text : Option (List ℕ)) (r : Option ℕ)
+    → (text ≡ None → r ≡ None) → ((t : List ℕ) → text ≡ Some t → ReadsOne G t r)
+    → ((u : List ℕ) (x : Result ℕ E) → G u x → ParsesUnsigned 64 10 u x) → IfSome text (IsUnsignedIn 1 greatest)
+    → (r ≡ option_map (λ t. digits_value 10 (without_leading_plus t)) text) × IfSome r (IsUpTo greatest)
+number_read E G greatest None r none some parses given = (none refl, subst (λ o. IfSome o (IsUpTo greatest)) (sym (none refl)) tt)
+number_read E G greatest (Some t) None none some parses given =
+    let read = some t refl in
+    absurd (parses t (Err read.0) read.1 (given.0, given.1))
+number_read E G greatest (Some t) (Some v) none some parses given =
+    let parsed = parses t (Ok v) (some t refl) in
+    (ap Some parsed.1, subst (IsUpTo greatest) (sym parsed.1) (given.2, given.3))
+
+-- Options within their ranges are not refused.
+is_inside : (greatest n : ℕ) → IsUpTo greatest n → is_outside greatest n ≡ false
+is_inside greatest n h = rw (le-ltb n 1 h.0, le-ltb greatest n h.1) refl
+
+limit_is_inside : (limit : Option ℕ) → IfSome limit (IsUpTo MAX_LIMIT) → is_limit_outside limit ≡ false
+limit_is_inside None h = refl
+limit_is_inside (Some n) h = is_inside MAX_LIMIT n h
+
+made_of : (o made : Options) → IsUpTo MAX_WORKERS o.workers → IsUpTo MAX_SHARDS o.shards → IfSome o.limit (IsUpTo MAX_LIMIT)
+    → options_made o ≡ Ok made → made ≡ o
+made_of o made workers shards limit is =
+    let same : Ok o ≡ Ok made = rw (is_inside MAX_WORKERS o.workers workers, is_inside MAX_SHARDS o.shards shards, limit_is_inside o.limit limit) at is in
+    cc
+
+-- A number, or the usual one.
+or_usual : (greatest usual : ℕ) (r : Option ℕ) → IfSome r (IsUpTo greatest) → IsUpTo greatest usual → IsUpTo greatest (unwrap_or r usual)
+or_usual greatest usual None given is = is
+or_usual greatest usual (Some n) given is = given
+
+-- The options that are made of what was read.
+pub asked : (found : Found) (w s l : Option ℕ) (workers shards : ℕ) (stats : Bool) (made : Options)
+    → (w ≡ number_given found (codes "workers")) × IfSome w (IsUpTo MAX_WORKERS)
+    → (s ≡ number_given found (codes "shards")) × IfSome s (IsUpTo MAX_SHARDS)
+    → (l ≡ number_given found (codes "limit")) × IfSome l (IsUpTo MAX_LIMIT)
+    → workers ≡ unwrap_or w DEFAULT_WORKERS → shards ≡ unwrap_or s DEFAULT_SHARDS
+    → (one_text found (codes "stats") ≡ Some (codes "true") → stats ≡ true) → (one_text found (codes "stats") ≡ None → stats ≡ false)
+    → options_made (record { workers = workers; shards = shards; limit = l; stats = stats }) ≡ Ok made → AreAsked found made
+asked found w s l workers shards stats made w_is s_is l_is workers_is shards_is on off is =
+    let workers_in : IsUpTo MAX_WORKERS workers = subst (IsUpTo MAX_WORKERS) (sym workers_is) (or_usual MAX_WORKERS DEFAULT_WORKERS w w_is.1 (omega arith, omega arith)) in
+    let shards_in : IsUpTo MAX_SHARDS shards = subst (IsUpTo MAX_SHARDS) (sym shards_is) (or_usual MAX_SHARDS DEFAULT_SHARDS s s_is.1 (omega arith, omega arith)) in
+    let same = made_of (record { workers = workers; shards = shards; limit = l; stats = stats }) made workers_in shards_in l_is.1 is in
+    record {
+      workers = ap (λ o. o.workers) same ∙ (workers_is ∙ ap (λ r. unwrap_or r DEFAULT_WORKERS) w_is.0);
+      shards = ap (λ o. o.shards) same ∙ (shards_is ∙ ap (λ r. unwrap_or r DEFAULT_SHARDS) s_is.0);
+      limit = ap (λ o. o.limit) same ∙ l_is.0;
+      stats = λ given. ap (λ o. o.stats) same ∙ on given;
+      silent = λ given. ap (λ o. o.stats) same ∙ off given;
+    }
+
+-- Texts that differ at a place are not the same.
+differ_at : (n m k : ℕ) (xs ys : List ℕ) → slice_index xs n ≡ m → slice_index ys n ≡ k → (m ≡ k → ⊥) → xs ≡ ys → ⊥
+differ_at n m k xs ys left right differ same = differ (sym left ∙ (ap (λ t. slice_index t n) same ∙ right))
+
+stats_is_not_shards : codes "stats" ≡ codes "shards" → ⊥
+stats_is_not_shards = differ_at 1 116 104 (codes "stats") (codes "shards") refl refl (λ e. absurd (omega arith))
+
+-- A command to which the program's four options were added, one after another.
+pub line_of : (start first second third last : Command) (w s l t : Arg)
+    → args_of start ≡ [] → groups_of start ≡ [] → (out-Command start).has_globals ≡ false
+    → AddsArg start w first → AddsArg first s second → AddsArg second l third → AddsArg third t last
+    → IsNumberOption (codes "workers") MAX_WORKERS w → IsNumberOption (codes "shards") MAX_SHARDS s
+    → IsNumberOption (codes "limit") MAX_LIMIT l
+    → t.id.now ≡ codes "stats" → IsPlainArg t → t.global ≡ false → IsCommandLine last
+line_of start first second third last w s l t none no_groups own to_w to_s to_l to_t is_w is_s is_l id plain local =
+    let plain0 : IsPlain start = (subst (All IsPlainArg) (sym none) (All-nil IsPlainArg), no_groups) in
+    let plain1 = added_plain start first w to_w plain0 is_w.plain in
+    let plain2 = added_plain first second s to_s plain1 is_s.plain in
+    let plain3 = added_plain second third l to_l plain2 is_l.plain in
+    let own1 = own_after start first w to_w own is_w.own in
+    let own2 = own_after first second s to_s own1 is_s.own in
+    let own3 = own_after second third l to_l own2 is_l.own in
+    record {
+      plain = added_plain third last t to_t plain3 plain;
+      own = own_after third last t to_t own3 local;
+      workers = takes_push third last t (codes "workers") MAX_WORKERS to_t
+          (takes_push second third l (codes "workers") MAX_WORKERS to_l
+          (takes_push first second s (codes "workers") MAX_WORKERS to_s
+          (takes_push start first w (codes "workers") MAX_WORKERS to_w (takes_none start (codes "workers") MAX_WORKERS none) (λ is. is_w.parser))
+          (other_name s (codes "workers") MAX_WORKERS 115 119 (ap (λ n. slice_index n 0) is_s.id) refl (λ e. absurd (omega arith))))
+          (other_name l (codes "workers") MAX_WORKERS 108 119 (ap (λ n. slice_index n 0) is_l.id) refl (λ e. absurd (omega arith))))
+          (other_name t (codes "workers") MAX_WORKERS 115 119 (ap (λ n. slice_index n 0) id) refl (λ e. absurd (omega arith)));
+      shards = takes_push third last t (codes "shards") MAX_SHARDS to_t
+          (takes_push second third l (codes "shards") MAX_SHARDS to_l
+          (takes_push first second s (codes "shards") MAX_SHARDS to_s
+          (takes_push start first w (codes "shards") MAX_SHARDS to_w (takes_none start (codes "shards") MAX_SHARDS none)
+          (other_name w (codes "shards") MAX_SHARDS 119 115 (ap (λ n. slice_index n 0) is_w.id) refl (λ e. absurd (omega arith))))
+          (λ is. is_s.parser))
+          (other_name l (codes "shards") MAX_SHARDS 108 115 (ap (λ n. slice_index n 0) is_l.id) refl (λ e. absurd (omega arith))))
+          (λ is. absurd (stats_is_not_shards (sym id ∙ is)));
+      limit = takes_push third last t (codes "limit") MAX_LIMIT to_t
+          (takes_push second third l (codes "limit") MAX_LIMIT to_l
+          (takes_push first second s (codes "limit") MAX_LIMIT to_s
+          (takes_push start first w (codes "limit") MAX_LIMIT to_w (takes_none start (codes "limit") MAX_LIMIT none)
+          (other_name w (codes "limit") MAX_LIMIT 119 108 (ap (λ n. slice_index n 0) is_w.id) refl (λ e. absurd (omega arith))))
+          (other_name s (codes "limit") MAX_LIMIT 115 108 (ap (λ n. slice_index n 0) is_s.id) refl (λ e. absurd (omega arith))))
+          (λ is. is_l.parser))
+          (other_name t (codes "limit") MAX_LIMIT 115 108 (ap (λ n. slice_index n 0) id) refl (λ e. absurd (omega arith)));
+    }
+  where
+    own_after : (old new : Command) (a : Arg) → AddsArg old a new → (out-Command old).has_globals ≡ false → a.global ≡ false
+        → (out-Command new).has_globals ≡ false
+    own_after old new a added was this = added.globals ∙ (ap (λ b. b || a.global) was ∙ ap (λ b. false || b) this)
+
+    takes_none : (c : Command) (name : List ℕ) (greatest : ℕ) → args_of c ≡ [] → TakesUpTo c name greatest
+    takes_none c name greatest none =
+        subst (All (λ a. a.id.now ≡ name → a.value_parser ≡ Some (parsers.Unsigned 1 greatest))) (sym none)
+        (All-nil (λ a. a.id.now ≡ name → a.value_parser ≡ Some (parsers.Unsigned 1 greatest)))
+
+    other_name : (a : Arg) (name : List ℕ) (greatest letter wanted : ℕ) → slice_index a.id.now 0 ≡ letter → slice_index name 0 ≡ wanted
+        → (letter ≡ wanted → ⊥) → a.id.now ≡ name → a.value_parser ≡ Some (parsers.Unsigned 1 greatest)
+    other_name a name greatest letter wanted has wants differ is =
+        absurd (differ (sym has ∙ (ap (λ n. slice_index n 0) is ∙ wants)))
