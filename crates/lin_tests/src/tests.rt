@@ -2,6 +2,7 @@
 //! outside vectors, threads, and bodies that must agree.
 
 mod boards;
+mod checks;
 mod cuts;
 mod devices;
 mod fakes;

@@ -4,3 +4,5 @@ pub mod LevelLemmas
 pub mod WidthLemmas
 pub mod TaskLemmas
 pub mod ValueLemmas
+mod OutcomeLemmas
+mod VerdictLemmas

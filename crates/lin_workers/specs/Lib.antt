@@ -4,3 +4,5 @@ pub mod Levels
 pub mod Heard
 pub mod Values
 pub mod Options
+pub mod Outcomes
+pub mod Verdict

@@ -6,16 +6,23 @@
 //! - `options`: by how many workers a check is run, with how many shards, and within which limit.
 #![tactic(auto)]
 
+mod check;
 mod cutting;
+mod deciding;
 mod gate;
+mod gathering;
 mod level;
 mod options;
+mod sharing;
 mod stop;
 mod task;
+mod verdict;
 mod worker;
 
+pub use check::check_object;
 pub use cutting::{LAST_LEVEL, cut};
 pub use gate::{FreeGate, Gate};
 pub use options::{MAX_LIMIT, MAX_SHARDS, MAX_WORKERS, OptionFault, Options};
 pub use task::Task;
+pub use verdict::{CheckFault, ObjectVerdict};
 pub use worker::{Done, work};

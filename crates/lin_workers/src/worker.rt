@@ -78,6 +78,43 @@ fn keep(
     }
 }
 
+// Claims tasks and searches each over the table, until all are claimed; the values are put to these.
+pub(crate) fn claim_all<O: SeqObject, G: Gate>(
+    alloc: Global,
+    problem: &Problem<O>,
+    tasks: &[Task<O>],
+    table: &Table<'_, O>,
+    hand: &mut Hand<O>,
+    board: &Board,
+    seat: &mut Seat,
+    values: &mut Vec<(u64, Outcome)>,
+    gate: &G,
+    limit: Option<u64>,
+)
+    requires cut { (k : ℕ) × IsCut (problem_of O.after O.State.eq O.Reply.eq problem.now) k
+        tasks.now }
+    requires tasks { board.now.tasks ≡ length tasks.now }
+    requires hand { IsHandOf table.now hand.old }
+    requires seat { IsSeatOf board.now seat.old }
+    requires none { values.old.items ≡ [] }
+    ensures brought { HasBrought (problem_of O.after O.State.eq O.Reply.eq problem.now) tasks.now
+        limit seat.old seat.new values.new.items }
+    ensures hand { IsHandOf table.now hand.new }
+    ensures seat { IsSeatOf board.now seat.new }
+    ensures ended { seat.new.ended ≡ true }
+{
+    while let Some(number) = board.claim(seat) {
+        gate.enter(number);
+        let task = &tasks[number as usize];
+        let searched = search_task(
+            alloc, problem, task, number, table, hand, board, seat, limit,
+        );
+        if let Some(outcome) = searched {
+            keep(board, seat, values, number, outcome);
+        }
+    }
+}
+
 /// Claims tasks of a cut and searches each over the table, until all are claimed. A task's value is the outcome of its
 /// search, within the limit where one is given; the search is stopped where the board tells of a smaller task that was
 /// found. A task whose search or whose value was refused memory has no value, and the worker goes on. The gate is entered
@@ -107,18 +144,22 @@ pub fn work<O: SeqObject, G: Gate>(
     ensures seat { IsSeatOf board.now result.seat }
     ensures ended { result.seat.ended ≡ true }
 {
-    let mut hand = hand;
-    let mut seat = seat;
-    let mut values = Vec::new(alloc);
-    while let Some(number) = board.claim(&mut seat) {
-        gate.enter(number);
-        let task = &tasks[number as usize];
-        let searched = search_task(
-            alloc, problem, task, number, table, &mut hand, board, &mut seat, limit,
-        );
-        if let Some(outcome) = searched {
-            keep(board, &mut seat, &mut values, number, outcome);
-        }
-    }
-    Done { values, hand, seat }
+    let mut done = Done {
+        values: Vec::new(alloc),
+        hand,
+        seat,
+    };
+    claim_all(
+        alloc,
+        problem,
+        tasks,
+        table,
+        &mut done.hand,
+        board,
+        &mut done.seat,
+        &mut done.values,
+        gate,
+        limit,
+    );
+    done
 }

@@ -3,7 +3,7 @@ use Rattle.lin_history.specs.Problems.Problem.{problem_of}
 use Rattle.lin_board.specs.Board.{IsSeatOf}
 use Rattle.lin_table.specs.Hand.{IsHandOf}
 use Rattle.lin_workers.specs.Values.{HasBrought}
-use Rattle.lin_workers.proofs.worker.work.Given as goal
+use Rattle.lin_workers.proofs.worker.claim_all.Given as goal
 
 abbrev pub decreases-loop-number : goal.decreases-loop-number
 decreases-loop-number g l = l.board.tasks - length l.seat.claimed

@@ -1,0 +1,107 @@
+-- The outcomes of the tasks, place by place.
+use Rattle.std.proofs.Common.{◌≡◌, ℕ, zero, suc, ◌+◌, ◌<◌, ◌≤◌, Option, Some, None, List, [], ◌∷◌, ◌++◌, length, slice_index_or, slice_set, take, ◌⊎◌, inl, inr, refl, sym, ◌∙◌, ap, subst, arith, replicate}
+use Rattle.std.specs.Prelude.{Contains, IfSome, slice_get}
+use Rattle.std.proofs.lemmas.List.{length-replicate}
+use Rattle.lin_history.specs.Problems.Problem.{Problem}
+use Rattle.lin_search.specs.declared.outcome.Outcome.{Outcome}
+use Rattle.lin_search.specs.declared.outcome.Outcome.TheVariants.{Found, Refuted, Undecided, Stopped}
+use Rattle.lin_search.specs.Answer.{IsAnswer}
+use Rattle.lin_board.specs.Facts.{SeatFacts}
+use Rattle.lin_workers.specs.Cut.{Task}
+use Rattle.lin_workers.specs.Heard.{IsTold}
+use Rattle.lin_workers.specs.Values.{IsValue, AreValues}
+use Rattle.lin_workers.specs.Outcomes.{WasNotStopped, AreOutcomes, ArePlaced}
+
+abbrev nothing : Option Outcome
+nothing = None
+
+-- no outcome stands at places that have none
+none_there : (n i : ℕ) (o : Outcome) → slice_get (replicate n nothing) i ≡ Some (Some o) → ⊥
+none_there zero i o e = absurd (cc)
+none_there (suc n) zero o e = absurd (cc)
+none_there (suc n) (suc i) o e = none_there n i o e
+
+pub outcomes_none : {State Op Reply : Type 0} (p : Problem State Op Reply) (ts : List (Task State)) (limit : Option ℕ) (outcomes : List (Option Outcome)) → outcomes ≡ replicate (length ts) nothing → AreOutcomes p ts limit outcomes
+outcomes_none p ts limit outcomes e = record {
+  places = ap length e ∙ length-replicate (length ts) nothing;
+  answers = λ i t o at h. absurd (none_there (length ts) i o (subst (λ (os : List (Option Outcome)). slice_get os i ≡ Some (Some o)) e h));
+}
+
+-- the value at a place of the values
+value_at : {State Op Reply : Type 0} (p : Problem State Op Reply) (ts : List (Task State)) (limit : Option ℕ) (seat : SeatFacts) (vs : List (ℕ × Outcome)) (v : ℕ × Outcome) (k : ℕ) → k < length vs → slice_index_or vs k v ≡ v → AreValues p ts limit seat vs → IsValue p ts limit seat v
+value_at p ts limit seat [] v k lt e h = absurd (omega (arith, lt))
+value_at p ts limit seat (u ∷ vs) v zero lt e h = subst (λ (w : ℕ × Outcome). IsValue p ts limit seat w) e h.0
+value_at p ts limit seat (u ∷ vs) v (suc k) lt e h = value_at p ts limit seat vs v k (omega (arith, lt)) e h.1
+
+module _ {State Op Reply : Type 0} (p : Problem State Op Reply) (limit : Option ℕ) where
+  -- the answer of a search that was not stopped needs no stop
+  not_stopped : (t : Task State) (tells : ℕ → Type 0) (o : Outcome) → WasNotStopped o → IsAnswer p t.config.lifted t.config.state limit tells o → IsAnswer p t.config.lifted t.config.state limit (λ told. ⊥) o
+  not_stopped t tells (Found order) w h = h
+  not_stopped t tells (Refuted longest) w h = h
+  not_stopped t tells Undecided w h = h
+  not_stopped t tells (Stopped told) w h = absurd w
+
+  -- values of tasks put at their places are outcomes of these tasks
+  pub outcomes_placed : (ts : List (Task State)) (seat : SeatFacts) (old new : List (Option Outcome)) (vs : List (ℕ × Outcome)) → ArePlaced old vs new → AreValues p ts limit seat vs → AreOutcomes p ts limit old → AreOutcomes p ts limit new
+  outcomes_placed ts seat old new vs placed values before = record {
+    places = placed.places ∙ before.places;
+    answers = λ i t o at h. elim (placed.each i o h) [
+      | inl q ↦ before.answers i t o at q
+      | inr q ↦ (
+          let c = q.0 in
+          let v = value_at p ts limit seat vs (i, o) c.0 c.1 c.2 values in
+          let same = one_task (slice_get ts i) v.task t v.at at in
+          not_stopped t (IsTold i seat) o q.1 (subst (λ (u : Task State). IsAnswer p u.config.lifted u.config.state limit (IsTold i seat) o) same v.answer)
+          )
+    ];
+  }
+    where
+      one_task : (m : Option (Task State)) (a b : Task State) → m ≡ Some a → m ≡ Some b → a ≡ b
+      one_task m a b x y = cc
+
+only : (v w : ℕ × Outcome) (k : ℕ) → k < 1 → slice_index_or (v ∷ []) k w ≡ w → v ≡ w
+only v w zero h e = e
+only v w (suc k) h e = absurd (omega (arith, h))
+
+-- what was put at a place, where no outcome was put
+pub none_put : (os : List (Option Outcome)) (i j : ℕ) (o : Outcome) → slice_get (slice_set os i nothing) j ≡ Some (Some o) → slice_get os j ≡ Some (Some o)
+none_put [] i j o h = absurd (cc)
+none_put (x ∷ os) zero zero o h = absurd (cc)
+none_put (x ∷ os) zero (suc j) o h = h
+none_put (x ∷ os) (suc i) zero o h = h
+none_put (x ∷ os) (suc i) (suc j) o h = none_put os i j o h
+
+length_put : (os : List (Option Outcome)) (i : ℕ) (x : Option Outcome) → length (slice_set os i x) ≡ length os
+length_put [] i x = refl
+length_put (y ∷ os) zero x = refl
+length_put (y ∷ os) (suc i) x = ap suc (length_put os i x)
+
+module _ {State Op Reply : Type 0} (p : Problem State Op Reply) (ts : List (Task State)) (limit : Option ℕ) (os : List (Option Outcome)) (outcomes : AreOutcomes p ts limit os) where
+  -- what is taken from its place is the answer of the task
+  pub outcome_at : (i : ℕ) (t : Task State) (x : Option Outcome) → slice_get ts i ≡ Some t → slice_get os i ≡ Some x → IfSome x (IsAnswer p t.config.lifted t.config.state limit (λ told. ⊥))
+  outcome_at i t None at h = tt
+  outcome_at i t (Some o) at h = outcomes.answers i t o at h
+
+  -- and what is left are outcomes of the tasks
+  pub outcomes_left : (i : ℕ) (x : Option Outcome) → x ≡ nothing → AreOutcomes p ts limit (slice_set os i x)
+  outcomes_left i x e = record {
+    places = length_put os i x ∙ outcomes.places;
+    answers = λ j t o at h. outcomes.answers j t o at (none_put os i j o (subst (λ (y : Option Outcome). slice_get (slice_set os i y) j ≡ Some (Some o)) e h));
+  }
+
+-- what was placed is placed among more values
+pub placed_more : (a b c : List (Option Outcome)) (all : List (ℕ × Outcome)) (v : ℕ × Outcome) → ArePlaced a all b → Contains all v → ArePlaced b (v ∷ []) c → ArePlaced a all c
+placed_more a b c all v first has second = record {
+  places = second.places ∙ first.places;
+  each = λ i o h. elim (second.each i o h) [
+    | inl q ↦ first.each i o q
+    | inr q ↦ inr (subst (λ (w : ℕ × Outcome). Contains all w) (only v (i, o) q.0.0 q.0.1 q.0.2) has, q.1)
+  ];
+}
+
+-- a vector whose items were all written anew
+pub written : {X : Type 0} (n : ℕ) (xs zs : List X) → length xs ≡ n → take n (xs ++ zs) ≡ xs
+written zero [] zs e = refl
+written zero (x ∷ xs) zs e = absurd (omega (arith, e))
+written (suc n) [] zs e = absurd (omega (arith, e))
+written (suc n) (x ∷ xs) zs e = ap (λ (ys : List _). x ∷ ys) (written n xs zs (omega (arith, e)))

@@ -1,0 +1,29 @@
+use Rattle.std.proofs.Common.{◌∙◌, arith}
+use Rattle.lin_history.specs.Problems.Problem.{problem_of}
+use Rattle.lin_workers.proofs.RunLemmas.{leads_reachable}
+use Rattle.lin_workers.proofs.LevelLemmas.{item_at, task_at}
+use Rattle.lin_workers.proofs.ValueLemmas.{brought_same, brought_kept, brought_ended}
+use Rattle.lin_workers.proofs.worker.claim_all.Goals as goal
+
+pub search_task-searched-requires-clause-reachable : goal.search_task-searched-requires-clause-reachable
+search_task-searched-requires-clause-reachable g c =
+    let at = item_at c.args.tasks.now c.in-Some.number c.index-tasks-number.result (let b = c.in-Some.ensures.below in let e = c.requires.tasks in omega (arith, b, e)) c.index-tasks-number.is in
+    leads_reachable _ _ _ _ (task_at _ _ _ _ _ c.requires.cut.1.level.each at).least.0
+
+pub loop-number-preserved-in-Some-searched : goal.loop-number-preserved-in-Some-searched
+loop-number-preserved-in-Some-searched g c = record {
+  hand = c.search_task-searched.ensures.hand;
+  seat = c.keep.ensures.kept.3.board ∙ c.search_task-searched.ensures.seat.board ∙ c.in-Some.ensures.seat;
+  brought = brought_kept (problem_of g.O.SeqObject.after g.O.State.PartialEq.eq g.O.Reply.PartialEq.eq c.args.problem.now) c.args.tasks.now c.args.limit c.args.seat.now c.loop-number.seat c.claim.new.seat c.loop-number.values.items c.in-Some.number c.claim.result c.in-Some.is c.claim.ensures.changed c.loop-number.invariant.brought c.search_task-searched.new.seat c.keep.new.seat c.in-Some-searched.outcome c.index-tasks-number.result c.keep.new.values.items c.search_task-searched.ensures.seat c.in-Some.ensures.other (item_at c.args.tasks.now c.in-Some.number c.index-tasks-number.result (let b = c.in-Some.ensures.below in let e = c.requires.tasks in omega (arith, b, e)) c.index-tasks-number.is) c.in-Some-searched.ensures.answer c.keep.ensures.kept;
+}
+
+pub loop-number-preserved : goal.loop-number-preserved
+loop-number-preserved g c = record {
+  hand = c.search_task-searched.ensures.hand;
+  seat = c.search_task-searched.ensures.seat.board ∙ c.in-Some.ensures.seat;
+  brought = brought_same (problem_of g.O.SeqObject.after g.O.State.PartialEq.eq g.O.Reply.PartialEq.eq c.args.problem.now) c.args.tasks.now c.args.limit c.args.seat.now c.loop-number.seat c.claim.new.seat c.loop-number.values.items c.in-Some.number c.claim.result c.in-Some.is c.claim.ensures.changed c.loop-number.invariant.brought c.search_task-searched.new.seat c.search_task-searched.ensures.seat;
+}
+
+pub returns-clause-brought : goal.returns-clause-brought
+returns-clause-brought g c =
+    brought_ended (problem_of g.O.SeqObject.after g.O.State.PartialEq.eq g.O.Reply.PartialEq.eq c.args.problem.now) c.args.tasks.now c.args.limit c.args.seat.now c.loop-number.seat c.claim.new.seat c.loop-number.values.items c.claim.result c.in_default.is c.claim.ensures.changed c.loop-number.invariant.brought

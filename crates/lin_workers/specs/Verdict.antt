@@ -1,0 +1,27 @@
+-- What a check of one object finds (this project's own; the definition is that of Herlihy and Wing 1990).
+use Rattle.std.specs.Prelude.{◌≡◌, ℕ, Option, Some, IsSomeAnd, List, slice_get}
+use Rattle.lin_history.specs.Problems.Problem.{Problem}
+use Rattle.lin_history.specs.Problems.Lists.{IsLeast}
+use Rattle.lin_history.specs.Problems.Linearizations.{IsRun, IsLinearization}
+use Rattle.lin_search.specs.LongestRun.{IsFirstLongest}
+use Rattle.lin_search.specs.Size.{HasMoreThan}
+use Rattle.lin_workers.specs.declared.verdict.ObjectVerdict.{ObjectVerdict}
+use Rattle.lin_workers.specs.declared.verdict.ObjectVerdict.TheVariants.{Yes, No, Undecided}
+use Rattle.lin_workers.specs.Cut.{Task, IsCut, DecideBy, HasNoneBefore}
+
+-- What each verdict says: the least linearization; that there is none, with the longest run; that there are more runs that
+-- are not empty than the limit, which was given.
+abbrev pub IsObjectVerdict : {State Op Reply : Type 0} → Problem State Op Reply → Option ℕ → ObjectVerdict → Type 0
+IsObjectVerdict p limit (Yes order) = IsLeast (IsLinearization p) order
+IsObjectVerdict p limit (No run) = ((l : List ℕ) → IsLinearization p l → ⊥) × IsFirstLongest (IsRun p) run
+IsObjectVerdict p limit Undecided = IsSomeAnd limit (λ most. HasMoreThan (IsRun p) most)
+
+-- The task is one of a cut that decides the problem, and none before it has a completion.
+pub record IsNextTask {State Op Reply : Type 0} (p : Problem State Op Reply) (t : Task State) : Type 0 where
+  pub level : ℕ
+  pub tasks : List (Task State)
+  pub index : ℕ
+  pub cut : IsCut p level tasks
+  pub decide : DecideBy p tasks
+  pub at : slice_get tasks index ≡ Some t
+  pub none : HasNoneBefore p tasks index

@@ -1,0 +1,218 @@
+//! The check of one object.
+ghost use Rattle.std.specs.Prelude.{◌≡◌, ℕ, ◌^◌, ◌<◌, ◌≤◌, All, IfOk, IfSome, vec_capacity, vec_len};
+ghost use Rattle.lin_history.specs.Problems.Problem.{problem_of};
+ghost use Rattle.lin_search.specs.Count.{IsNumberReachable};
+ghost use Rattle.lin_table.specs.Hand.{IsHandOf};
+ghost use Rattle.lin_workers.specs.Verdict.{IsObjectVerdict};
+
+use crate::cutting::cut;
+use crate::deciding::decide;
+use crate::gate::Gate;
+use crate::gathering::no_outcomes;
+use crate::options::Options;
+use crate::sharing::share;
+use crate::verdict::{CheckFault, ObjectVerdict};
+use lin_history::Problem;
+use lin_object::{SeqObject, SharedObject};
+use lin_search::Memo;
+use lin_table::{Hand, SharedMemo, Table};
+use std::alloc::{AllocError, AllocGlobal, Global};
+use std::thread::Threads;
+
+// How many lifts the calling thread makes by itself before workers are started.
+const LIFTS_ALONE: u64 = 20_000;
+
+// How many tasks are wanted for each worker.
+const TASKS_EACH: usize = 4;
+
+// The verdict, where the calling thread has it within its own lifts, and within the limit where one is given.
+fn decide_alone<O: SeqObject, M: Memo<O>>(
+    alloc: Global,
+    problem: &Problem<O>,
+    memo: &mut M,
+    limit: Option<u64>,
+) -> Result<Option<ObjectVerdict>, AllocError>
+    ensures verdict { IfOk result (λ decided. IfSome decided (IsObjectVerdict
+        (problem_of O.after O.State.eq O.Reply.eq problem.now) limit)) }
+    ensures memo { M.changes memo.old memo.new }
+{
+    let lifts = match limit {
+        Some(most) => most.min(LIFTS_ALONE),
+        None => LIFTS_ALONE,
+    };
+    let whole = cut(alloc, problem, 1)?;
+    let mut outcomes = no_outcomes(alloc, whole.len())?;
+    let decided = decide(
+        alloc,
+        problem,
+        whole.as_slice(),
+        outcomes.as_mut_slice(),
+        memo,
+        Some(lifts),
+    )?;
+    match decided {
+        ObjectVerdict::Undecided => Ok(None),
+        ObjectVerdict::Yes(order) => Ok(Some(ObjectVerdict::Yes(order))),
+        ObjectVerdict::No(run) => Ok(Some(ObjectVerdict::No(run))),
+    }
+}
+
+// The verdict by the tasks of a cut, which workers share that have these hands.
+fn decide_with_workers<O: SharedObject, R: Threads + Sync, G: Gate, M: Memo<O>>(
+    rt: &R,
+    alloc: Global,
+    problem: &Problem<O>,
+    table: &Table<'_, O>,
+    memo: &mut M,
+    hands: &mut Vec<Hand<O>>,
+    gate: &G,
+    limit: Option<u64>,
+) -> Result<ObjectVerdict, AllocError>
+    requires workers { (1 ≤ vec_len hands.old) × (vec_len hands.old ≤ 64) }
+    requires hands { All (IsHandOf table.now) hands.old.items }
+    ensures verdict { IfOk result (IsObjectVerdict
+        (problem_of O.after O.State.eq O.Reply.eq problem.now) limit) }
+    ensures memo { M.changes memo.old memo.new }
+    ensures hands { All (IsHandOf table.now) hands.new.items }
+    ensures count { vec_len hands.new ≡ vec_len hands.old }
+    ensures capacity { vec_capacity hands.new ≡ vec_capacity hands.old }
+{
+    let tasks = cut(alloc, problem, TASKS_EACH * hands.len())?;
+    let mut outcomes = share(
+        rt,
+        alloc,
+        problem,
+        tasks.as_slice(),
+        table,
+        hands,
+        gate,
+        limit,
+    )?;
+    decide(
+        alloc,
+        problem,
+        tasks.as_slice(),
+        outcomes.as_mut_slice(),
+        memo,
+        limit,
+    )
+}
+
+// The verdict over the table: by the calling thread with this hand, and by workers with the others.
+fn decide_over<O: SharedObject, R: Threads + Sync, G: Gate>(
+    rt: &R,
+    alloc: Global,
+    problem: &Problem<O>,
+    table: &Table<'_, O>,
+    own: &mut Hand<O>,
+    hands: &mut Vec<Hand<O>>,
+    gate: &G,
+    limit: Option<u64>,
+) -> Result<ObjectVerdict, AllocError>
+    requires workers { (1 ≤ vec_len hands.old) × (vec_len hands.old ≤ 64) }
+    requires own { IsHandOf table.now own.old }
+    requires hands { All (IsHandOf table.now) hands.old.items }
+    ensures verdict { IfOk result (IsObjectVerdict
+        (problem_of O.after O.State.eq O.Reply.eq problem.now) limit) }
+    ensures own { IsHandOf table.now own.new }
+    ensures hands { All (IsHandOf table.now) hands.new.items }
+    ensures count { vec_len hands.new ≡ vec_len hands.old }
+    ensures capacity { vec_capacity hands.new ≡ vec_capacity hands.old }
+{
+    let mut memo = SharedMemo::new(table, own);
+    if !gate.wants_workers() {
+        if let Some(verdict) = decide_alone(alloc, problem, &mut memo, limit)? {
+            return Ok(verdict);
+        }
+    }
+    decide_with_workers(
+        rt, alloc, problem, table, &mut memo, hands, gate, limit,
+    )
+}
+
+// The verdict over the table with these hands, and the hands.
+fn decide_by_all<O: SharedObject, R: Threads + Sync, G: Gate>(
+    rt: &R,
+    alloc: Global,
+    problem: &Problem<O>,
+    table: &Table<'_, O>,
+    mut hands: Vec<Hand<O>>,
+    gate: &G,
+    limit: Option<u64>,
+) -> (Result<ObjectVerdict, AllocError>, Vec<Hand<O>>)
+    requires count { (2 ≤ vec_len hands) × (vec_len hands ≤ 65) }
+    requires hands { All (IsHandOf table.now) hands.items }
+    ensures verdict { IfOk result.0 (IsObjectVerdict
+        (problem_of O.after O.State.eq O.Reply.eq problem.now) limit) }
+    ensures hands { All (IsHandOf table.now) result.1.items }
+    ensures count { vec_len result.1 ≡ vec_len hands }
+{
+    let Some(mut own) = hands.pop() else {
+        unreachable!()
+    };
+    let verdict = decide_over(rt, alloc, problem, table, &mut own, &mut hands, gate, limit);
+    hands.push_reserved(own);
+    (verdict, hands)
+}
+
+// The verdict, and how many configurations were stored, over a table of its own.
+fn check_over_table<O: SharedObject, R: Threads + Sync, G: Gate>(
+    rt: &R,
+    alloc: Global,
+    problem: &Problem<O>,
+    options: &Options,
+    gate: &G,
+) -> Result<(ObjectVerdict, u64), AllocError>
+    ensures verdict { IfOk result (λ r. IsObjectVerdict
+        (problem_of O.after O.State.eq O.Reply.eq problem.now) options.now.limit r.0) }
+    ensures bound { IfOk result (λ r. r.1 < 2 ^ 54) }
+    ensures at_most { IfOk result (λ r. (n : ℕ) → IsNumberReachable
+        (problem_of O.after O.State.eq O.Reply.eq problem.now) n → r.1 ≤ n) }
+{
+    let shards = options.shards() as usize;
+    let workers = options.workers() as usize;
+    let (table, hands) = Table::new(alloc, problem, shards, workers + 1)?;
+    let (verdict, hands) = decide_by_all(
+        rt,
+        alloc,
+        problem,
+        &table,
+        hands,
+        gate,
+        options.limit(),
+    );
+    let Ok(stored) = table.total(hands) else {
+        unreachable!()
+    };
+    Ok((verdict?, stored))
+}
+
+/// Checks one object: whether its calls have a linearization, and the least one, or the longest run where there is none; and
+/// how many configurations were stored.
+///
+/// The calling thread begins alone, for 20,000 lifts at most. What it has not decided then is cut into tasks, which as many
+/// workers share as the options say, but not more than there are tasks; a gate that wants workers has them at once. The tasks
+/// are then taken in their order, and the calling thread searches each that has no outcome. The verdict is the same for every
+/// number of workers and shards and on every schedule; with a limit, which bounds the search of each task, it may be
+/// `Undecided`, and that only where there are more runs than the limit.
+///
+/// The number stored is below 2^54 and at most that of the reachable configurations. `CheckFault::Memory` where the calling
+/// thread was refused memory; a worker that was refused some leaves its task to the calling thread, and where no thread can be
+/// had the workers work one after another. It may wait: for its workers, which wait where the gate does.
+pub fn check_object<O: SharedObject, R: AllocGlobal + Threads + Sync, G: Gate>(
+    rt: &R,
+    problem: &Problem<O>,
+    options: &Options,
+    gate: &G,
+) -> Result<(ObjectVerdict, u64), CheckFault>
+    ensures verdict { IfOk result (λ r. IsObjectVerdict
+        (problem_of O.after O.State.eq O.Reply.eq problem.now) options.now.limit r.0) }
+    ensures bound { IfOk result (λ r. r.1 < 2 ^ 54) }
+    ensures at_most { IfOk result (λ r. (n : ℕ) → IsNumberReachable
+        (problem_of O.after O.State.eq O.Reply.eq problem.now) n → r.1 ≤ n) }
+{
+    match check_over_table(rt, rt.alloc(), problem, options, gate) {
+        Ok(checked) => Ok(checked),
+        Err(AllocError) => Err(CheckFault::Memory),
+    }
+}

@@ -1,0 +1,21 @@
+//! What a check of one object finds.
+
+use lin_history::Order;
+
+/// What a check found of one object.
+#[derive(Drop)]
+pub enum ObjectVerdict {
+    /// It is linearizable: its least linearization.
+    Yes(Order),
+    /// It is not: its longest run, the first of those of the greatest length.
+    No(Order),
+    /// The search of a task met the limit before an answer.
+    Undecided,
+}
+
+/// Why a check ended without a verdict.
+#[derive(Clone, Copy, PartialEq, Eq, Debug)]
+pub enum CheckFault {
+    /// The calling thread was refused memory.
+    Memory,
+}
