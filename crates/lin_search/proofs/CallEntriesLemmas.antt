@@ -1,8 +1,8 @@
 -- The places of a problem's calls, found in one walk over the events.
-use Rattle.std.proofs.Common.{◌≡◌, ◌≢◌, ℕ, zero, suc, ◌+◌, ◌<◌, Option, Some, None, List, [], ◌∷◌, length, set, replicate, inl, inr, refl, sym, ap, ◌∙◌, arith}
+use Rattle.std.proofs.Common.{◌≡◌, ◌≢◌, ℕ, zero, suc, ◌+◌, ◌<◌, Option, Some, List, [], ◌∷◌, length, set, inl, inr, refl, sym, ap, ◌∙◌, arith}
 use Rattle.std.specs.List.{slice_get}
 use Rattle.std.proofs.lemmas.Option.{slice_get_within, same_Some}
-use Rattle.std.proofs.lemmas.List.{length-set, length-replicate}
+use Rattle.std.proofs.lemmas.List.{length-set}
 use Rattle.lin_history.specs.declared.problems.timeline.ProblemEvent.{ProblemEvent}
 use Rattle.lin_history.specs.declared.problems.timeline.ProblemEvent.TheVariants.{Call, Return}
 use Rattle.lin_search.specs.CallSetLemmas.{below_or_last, same_or_not}
@@ -28,20 +28,6 @@ module _ {A : Type 0} where
   set_other (x ∷ xs) zero (suc j) y ne = refl
   set_other (x ∷ xs) (suc i) zero y ne = refl
   set_other (x ∷ xs) (suc i) (suc j) y ne = set_other xs i j y (λ e. ne (ap suc e))
-
-none_set : {A : Type 0} (n c : ℕ) (e : A) → slice_get (replicate n None) c ≡ Some (Some e) → ⊥
-none_set zero c e h = cc
-none_set (suc n) zero e h = cc
-none_set (suc n) (suc c) e h = none_set n c e h
-
-pub places_start : (calls : ℕ) (events : List ProblemEvent) (called : List ℕ) (returned : List (Option ℕ)) → called ≡ replicate calls 0 → returned ≡ replicate calls None → AreEntriesBelow calls events 0 called returned
-places_start calls events called returned e f = record {
-  called_count = ap length e ∙ length-replicate calls 0;
-  returned_count = ap length f ∙ length-replicate calls None;
-  called_at = λ i c h g. absurd (omega (arith, h));
-  returned_at = λ i c h g. absurd (omega (arith, h));
-  only = λ c e g. absurd (none_set calls c e (ap (λ (l : List (Option ℕ)). slice_get l c) (sym f) ∙ g));
-}
 
 pub call_or_return : (c d : ℕ) → Call c ≡ Return d → ⊥
 call_or_return c d e = cc

@@ -232,11 +232,6 @@ word_fits word c h =
     let bit : 1 * 2 ^ (c % 64) % 2 ^ 64 < 2 ^ 64 = omega arith in
     or_lt 64 word (1 * 2 ^ (c % 64) % 2 ^ 64) h bit
 
--- words that are the same have the same calls
-same_bit : (old new : ℕ → ℕ) → ((i : ℕ) → new i ≡ old i) → (c : ℕ) → has_bit new c ≡ has_bit old c
-unfolding has_bit
-same_bit old new same c = ap (λ x. eqb (bit_at x (c % 64)) 1) (same (c / 64))
-
 -- a call is put in: its word is set in the list, which was made longer, and the words that are full then leave it
 module _ (calls f : ℕ) (ws us vs : List ℕ) (c k : ℕ) (window : IsWindow calls f ws) (below : c < calls) (from : f ≤ c / 64)
     (len : length us ≡ max (length ws) (c / 64 - f + 1))

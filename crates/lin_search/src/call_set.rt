@@ -239,6 +239,17 @@ impl CallSet {
         })
     }
 
+    // A copy of the set with the call, which is not in it, put in.
+    pub(crate) fn copy_with(&self, alloc: Global, call: usize) -> Result<CallSet, AllocError>
+        requires within { call < length self.now }
+        requires outside { has self.now call ≡ false }
+        ensures { IfOk result (λ set. set ≡ with_call self.now call) }
+    {
+        let mut set = self.copy(alloc)?;
+        set.insert(call)?;
+        Ok(set)
+    }
+
     /// Whether the call is in the set.
     pub fn has(&self, call: usize) -> bool
         ensures { result ≡ has self.now call }
@@ -257,7 +268,8 @@ impl CallSet {
     pub(crate) fn insert(&mut self, call: usize) -> Result<(), AllocError>
         requires within { call < length self.old }
         requires outside { has self.old call ≡ false }
-        ensures { IfOk result (λ done. self.new ≡ with_call self.old call) }
+        ensures lifted { IfOk result (λ done. self.new ≡ with_call self.old call) }
+        ensures err { OnErr result (self.new ≡ self.old) }
     {
         let index = call / 64 - self.full;
         lengthen(&mut self.words, index)?;
@@ -273,6 +285,7 @@ impl CallSet {
         requires { has self.old call ≡ true }
         ensures before { IfOk result (λ done. with_call self.new call ≡ self.old) }
         ensures outside { IfOk result (λ done. has self.new call ≡ false) }
+        ensures err { OnErr result (self.new ≡ self.old) }
     {
         open_full(&mut self.full, &mut self.words, call / 64)?;
         clear_bit(&mut self.words, call / 64 - self.full, call);

@@ -192,8 +192,7 @@ impl<O: SeqObject> Config<O> {
         let Some(state) = self.next_state(alloc, problem, call)? else {
             return Ok(None);
         };
-        let mut lifted = self.lifted.copy(alloc)?;
-        lifted.insert(call)?;
+        let lifted = self.lifted.copy_with(alloc, call)?;
         Ok(Some(Config { lifted, state }))
     }
 

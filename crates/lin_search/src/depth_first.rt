@@ -136,21 +136,27 @@ fn go_on<O: SeqObject, M: Memo<O>>(
 ) -> Result<ControlFlow<Outcome, Position>, AllocError>
     requires of { IsTrue is_for_problem → M.is_of memo.old path.old.entries.problem }
     requires lifted { (root from : Configuration O.State) × (limit left : Option ℕ)
-        × IsLifted (problem_of O.after O.State.eq O.Reply.eq path.old.entries.problem) root limit path.old.entries.lifted
-        path.old.frames.items left from frame path.old.config }
-    requires incomplete { HasEveryCompleted (problem_of O.after O.State.eq O.Reply.eq path.old.entries.problem) path.old.config.lifted → ⊥ }
+        × IsLifted (problem_of O.after O.State.eq O.Reply.eq path.old.entries.problem) root limit
+        path.old.entries.lifted path.old.frames.items left from frame path.old.config }
+    requires incomplete { HasEveryCompleted
+        (problem_of O.after O.State.eq O.Reply.eq path.old.entries.problem) path.old.config.lifted
+        → ⊥ }
     ensures problem { path.new.entries.problem ≡ path.old.entries.problem }
-    ensures step { IfOk result (λ step. (root from : Configuration O.State) (limit left after : Option ℕ)
-        → IsTaken left after → IsLifted (problem_of O.after O.State.eq O.Reply.eq path.old.entries.problem) root limit path.old.entries.lifted
-        path.old.frames.items left from frame path.old.config
-        → IsStep (problem_of O.after O.State.eq O.Reply.eq path.old.entries.problem) root limit path.new.entries.lifted path.new.frames.items after path.new.config
-        (λ told. ⊥) (work (length path.old.entries.problem.calls) root.lifted
-        path.old.frames.items from.lifted frame.call) step) }
+    ensures step { IfOk result (λ step. (root from : Configuration O.State)
+        (limit left after : Option ℕ) → IsTaken left after
+        → IsLifted (problem_of O.after O.State.eq O.Reply.eq path.old.entries.problem) root limit
+        path.old.entries.lifted path.old.frames.items left from frame path.old.config
+        → IsStep (problem_of O.after O.State.eq O.Reply.eq path.old.entries.problem) root limit
+        path.new.entries.lifted path.new.frames.items after path.new.config (λ told. ⊥)
+        (work (length path.old.entries.problem.calls) root.lifted path.old.frames.items from.lifted
+        frame.call) step) }
     ensures holds { IfOk result (λ step. (root from : Configuration O.State) (limit left : Option ℕ)
-        → IsLifted (problem_of O.after O.State.eq O.Reply.eq path.old.entries.problem) root limit path.old.entries.lifted path.old.frames.items left from frame
-        path.old.config → HoldsSearched (problem_of O.after O.State.eq O.Reply.eq path.old.entries.problem) (M.holds memo.old) root.lifted path.old.frames.items from
-        (Some frame.call) → HoldsStep (problem_of O.after O.State.eq O.Reply.eq path.old.entries.problem) root (M.holds memo.new) path.new.frames.items
-        path.new.config step) }
+        → IsLifted (problem_of O.after O.State.eq O.Reply.eq path.old.entries.problem) root limit
+        path.old.entries.lifted path.old.frames.items left from frame path.old.config
+        → HoldsSearched (problem_of O.after O.State.eq O.Reply.eq path.old.entries.problem)
+        (M.holds memo.old) root.lifted path.old.frames.items from (Some frame.call)
+        → HoldsStep (problem_of O.after O.State.eq O.Reply.eq path.old.entries.problem) root
+        (M.holds memo.new) path.new.frames.items path.new.config step) }
     ensures changes { M.changes memo.old memo.new }
 {
     match look_at(path.problem(), path.config(), memo, is_for_problem) {
@@ -173,8 +179,8 @@ fn success<O: SeqObject>(
     Ok(ControlFlow::Break(Outcome::Found(path.order_through(call)?)))
 }
 
-// Lifts the call, which leads to the frame's state: that is a success where the configuration is complete then. Else the
-// search goes on from there.
+// Lifts the call, which leads to the frame's state: that is a success where the configuration is complete then. Else
+// the search goes on from there.
 fn visit<O: SeqObject, M: Memo<O>>(
     path: &mut Path<'_, O>,
     next: Frame<O>,
@@ -183,23 +189,32 @@ fn visit<O: SeqObject, M: Memo<O>>(
 ) -> Result<ControlFlow<Outcome, Position>, AllocError>
     requires of { IsTrue is_for_problem → M.is_of memo.old path.old.entries.problem }
     requires progress { (root : Configuration O.State) × (limit left : Option ℕ)
-        × IsProgress (problem_of O.after O.State.eq O.Reply.eq path.old.entries.problem) root limit path.old.entries.lifted
-        path.old.frames.items left path.old.config next.longest (Some next.call) }
-    requires next { IsNext (problem_of O.after O.State.eq O.Reply.eq path.old.entries.problem) path.old.config.lifted path.old.config.state next.call next.state }
-    requires reachable { IsReachable (problem_of O.after O.State.eq O.Reply.eq path.old.entries.problem) (with_call path.old.config.lifted next.call) next.state }
+        × IsProgress (problem_of O.after O.State.eq O.Reply.eq path.old.entries.problem) root limit
+        path.old.entries.lifted path.old.frames.items left path.old.config next.longest
+        (Some next.call) }
+    requires next { IsNext (problem_of O.after O.State.eq O.Reply.eq path.old.entries.problem)
+        path.old.config.lifted path.old.config.state next.call next.state }
+    requires reachable { IsReachable
+        (problem_of O.after O.State.eq O.Reply.eq path.old.entries.problem)
+        (with_call path.old.config.lifted next.call) next.state }
     ensures problem { path.new.entries.problem ≡ path.old.entries.problem }
     ensures step { IfOk result (λ step. (root : Configuration O.State) (limit left after : Option ℕ)
-        → IsTaken left after → IsProgress (problem_of O.after O.State.eq O.Reply.eq path.old.entries.problem) root limit path.old.entries.lifted
-        path.old.frames.items left path.old.config next.longest (Some next.call)
-        → IsStep (problem_of O.after O.State.eq O.Reply.eq path.old.entries.problem) root limit path.new.entries.lifted path.new.frames.items after path.new.config
-        (λ told. ⊥) (work (length path.old.entries.problem.calls) root.lifted
-        path.old.frames.items path.old.config.lifted next.call) step) }
+        → IsTaken left after
+        → IsProgress (problem_of O.after O.State.eq O.Reply.eq path.old.entries.problem) root limit
+        path.old.entries.lifted path.old.frames.items left path.old.config next.longest
+        (Some next.call)
+        → IsStep (problem_of O.after O.State.eq O.Reply.eq path.old.entries.problem) root limit
+        path.new.entries.lifted path.new.frames.items after path.new.config (λ told. ⊥)
+        (work (length path.old.entries.problem.calls) root.lifted path.old.frames.items
+        path.old.config.lifted next.call) step) }
     ensures holds { IfOk result (λ step. (root : Configuration O.State) (limit left : Option ℕ)
-        → IsProgress (problem_of O.after O.State.eq O.Reply.eq path.old.entries.problem) root limit path.old.entries.lifted
-        path.old.frames.items left path.old.config next.longest (Some next.call)
-        → HoldsSearched (problem_of O.after O.State.eq O.Reply.eq path.old.entries.problem) (M.holds memo.old) root.lifted path.old.frames.items path.old.config
-        (Some next.call) → HoldsStep (problem_of O.after O.State.eq O.Reply.eq path.old.entries.problem) root (M.holds memo.new) path.new.frames.items
-        path.new.config step) }
+        → IsProgress (problem_of O.after O.State.eq O.Reply.eq path.old.entries.problem) root limit
+        path.old.entries.lifted path.old.frames.items left path.old.config next.longest
+        (Some next.call)
+        → HoldsSearched (problem_of O.after O.State.eq O.Reply.eq path.old.entries.problem)
+        (M.holds memo.old) root.lifted path.old.frames.items path.old.config (Some next.call)
+        → HoldsStep (problem_of O.after O.State.eq O.Reply.eq path.old.entries.problem) root
+        (M.holds memo.new) path.new.frames.items path.new.config step) }
     ensures changes { M.changes memo.old memo.new }
 {
     let mut frame = next;
@@ -223,21 +238,23 @@ fn try_call<O: SeqObject, M: Memo<O>, S: Stop>(
 ) -> Result<ControlFlow<Outcome, Position>, AllocError>
     requires of { IsTrue is_for_problem → M.is_of memo.old path.old.entries.problem }
     requires progress { (root : Configuration O.State) × (limit : Option ℕ)
-        × IsProgress (problem_of O.after O.State.eq O.Reply.eq path.old.entries.problem) root limit path.old.entries.lifted
-        path.old.frames.items left.old path.old.config longest (Some call) }
+        × IsProgress (problem_of O.after O.State.eq O.Reply.eq path.old.entries.problem) root limit
+        path.old.entries.lifted path.old.frames.items left.old path.old.config longest (Some call) }
     ensures problem { path.new.entries.problem ≡ path.old.entries.problem }
     ensures step { IfOk result (λ step. (root : Configuration O.State) (limit : Option ℕ)
-        → IsProgress (problem_of O.after O.State.eq O.Reply.eq path.old.entries.problem) root limit path.old.entries.lifted
-        path.old.frames.items left.old path.old.config longest (Some call)
-        → IsStep (problem_of O.after O.State.eq O.Reply.eq path.old.entries.problem) root limit path.new.entries.lifted path.new.frames.items left.new path.new.config
-        (S.tells stop.new) (work (length path.old.entries.problem.calls) root.lifted
-        path.old.frames.items path.old.config.lifted call) step) }
+        → IsProgress (problem_of O.after O.State.eq O.Reply.eq path.old.entries.problem) root limit
+        path.old.entries.lifted path.old.frames.items left.old path.old.config longest (Some call)
+        → IsStep (problem_of O.after O.State.eq O.Reply.eq path.old.entries.problem) root limit
+        path.new.entries.lifted path.new.frames.items left.new path.new.config (S.tells stop.new)
+        (work (length path.old.entries.problem.calls) root.lifted path.old.frames.items
+        path.old.config.lifted call) step) }
     ensures holds { IfOk result (λ step. (root : Configuration O.State) (limit : Option ℕ)
-        → IsProgress (problem_of O.after O.State.eq O.Reply.eq path.old.entries.problem) root limit path.old.entries.lifted
-        path.old.frames.items left.old path.old.config longest (Some call)
-        → HoldsSearched (problem_of O.after O.State.eq O.Reply.eq path.old.entries.problem) (M.holds memo.old) root.lifted path.old.frames.items path.old.config
-        (Some call) → HoldsStep (problem_of O.after O.State.eq O.Reply.eq path.old.entries.problem) root (M.holds memo.new) path.new.frames.items path.new.config
-        step) }
+        → IsProgress (problem_of O.after O.State.eq O.Reply.eq path.old.entries.problem) root limit
+        path.old.entries.lifted path.old.frames.items left.old path.old.config longest (Some call)
+        → HoldsSearched (problem_of O.after O.State.eq O.Reply.eq path.old.entries.problem)
+        (M.holds memo.old) root.lifted path.old.frames.items path.old.config (Some call)
+        → HoldsStep (problem_of O.after O.State.eq O.Reply.eq path.old.entries.problem) root
+        (M.holds memo.new) path.new.frames.items path.new.config step) }
     ensures changes { M.changes memo.old memo.new }
     ensures stop { S.follows stop.old stop.new }
 {
@@ -280,24 +297,26 @@ fn go_back<O: SeqObject, M: Memo<O>>(
 ) -> Result<ControlFlow<Outcome, Position>, AllocError>
     requires of { IsTrue is_for_problem → M.is_of memo.old path.old.entries.problem }
     requires progress { (root : Configuration O.State) × (limit : Option ℕ)
-        × IsProgress (problem_of O.after O.State.eq O.Reply.eq path.old.entries.problem) root limit path.old.entries.lifted
-        path.old.frames.items tally.old.left path.old.config longest None }
+        × IsProgress (problem_of O.after O.State.eq O.Reply.eq path.old.entries.problem) root limit
+        path.old.entries.lifted path.old.frames.items tally.old.left path.old.config longest None }
     ensures problem { path.new.entries.problem ≡ path.old.entries.problem }
     ensures left { tally.new.left ≡ tally.old.left }
     ensures step { IfOk result (λ step. (root : Configuration O.State) (limit : Option ℕ)
-        → IsProgress (problem_of O.after O.State.eq O.Reply.eq path.old.entries.problem) root limit path.old.entries.lifted
-        path.old.frames.items tally.old.left path.old.config longest None
-        → IsStep (problem_of O.after O.State.eq O.Reply.eq path.old.entries.problem) root limit path.new.entries.lifted path.new.frames.items tally.old.left
-        path.new.config (λ told. ⊥) (work (length path.old.entries.problem.calls) root.lifted
-        path.old.frames.items path.old.config.lifted (length path.old.entries.problem.calls))
-        step) }
+        → IsProgress (problem_of O.after O.State.eq O.Reply.eq path.old.entries.problem) root limit
+        path.old.entries.lifted path.old.frames.items tally.old.left path.old.config longest None
+        → IsStep (problem_of O.after O.State.eq O.Reply.eq path.old.entries.problem) root limit
+        path.new.entries.lifted path.new.frames.items tally.old.left path.new.config (λ told. ⊥)
+        (work (length path.old.entries.problem.calls) root.lifted path.old.frames.items
+        path.old.config.lifted (length path.old.entries.problem.calls)) step) }
     ensures whole { IsTrue tally.new.whole → IsTrue tally.old.whole }
     ensures holds { IfOk result (λ step. IsTrue tally.new.whole
         → (root : Configuration O.State) (limit : Option ℕ)
-        → IsProgress (problem_of O.after O.State.eq O.Reply.eq path.old.entries.problem) root limit path.old.entries.lifted
-        path.old.frames.items tally.old.left path.old.config longest None
-        → HoldsSearched (problem_of O.after O.State.eq O.Reply.eq path.old.entries.problem) (M.holds memo.old) root.lifted path.old.frames.items path.old.config None
-        → HoldsStep (problem_of O.after O.State.eq O.Reply.eq path.old.entries.problem) root (M.holds memo.new) path.new.frames.items path.new.config step) }
+        → IsProgress (problem_of O.after O.State.eq O.Reply.eq path.old.entries.problem) root limit
+        path.old.entries.lifted path.old.frames.items tally.old.left path.old.config longest None
+        → HoldsSearched (problem_of O.after O.State.eq O.Reply.eq path.old.entries.problem)
+        (M.holds memo.old) root.lifted path.old.frames.items path.old.config None
+        → HoldsStep (problem_of O.after O.State.eq O.Reply.eq path.old.entries.problem) root
+        (M.holds memo.new) path.new.frames.items path.new.config step) }
     ensures changes { M.changes memo.old memo.new }
 {
     let Some(frame) = path.pop() else {
@@ -320,24 +339,30 @@ fn step<O: SeqObject, M: Memo<O>, S: Stop>(
 ) -> Result<ControlFlow<Outcome, Position>, AllocError>
     requires of { IsTrue is_for_problem → M.is_of memo.old path.old.entries.problem }
     requires progress { (root : Configuration O.State) × (limit : Option ℕ)
-        × IsProgress (problem_of O.after O.State.eq O.Reply.eq path.old.entries.problem) root limit path.old.entries.lifted path.old.frames.items tally.old.left
-        path.old.config position.longest position.candidate }
+        × IsProgress (problem_of O.after O.State.eq O.Reply.eq path.old.entries.problem) root limit
+        path.old.entries.lifted path.old.frames.items tally.old.left path.old.config
+        position.longest position.candidate }
     ensures problem { path.new.entries.problem ≡ path.old.entries.problem }
     ensures step { IfOk result (λ step. (root : Configuration O.State) (limit : Option ℕ)
-        → IsProgress (problem_of O.after O.State.eq O.Reply.eq path.old.entries.problem) root limit path.old.entries.lifted path.old.frames.items tally.old.left
-        path.old.config position.longest position.candidate
-        → IsStep (problem_of O.after O.State.eq O.Reply.eq path.old.entries.problem) root limit path.new.entries.lifted path.new.frames.items tally.new.left
-        path.new.config (S.tells stop.new) (work (length path.old.entries.problem.calls)
-        root.lifted path.old.frames.items path.old.config.lifted (bound (problem_of O.after O.State.eq O.Reply.eq path.old.entries.problem) position.candidate))
-        step) }
+        → IsProgress (problem_of O.after O.State.eq O.Reply.eq path.old.entries.problem) root limit
+        path.old.entries.lifted path.old.frames.items tally.old.left path.old.config
+        position.longest position.candidate
+        → IsStep (problem_of O.after O.State.eq O.Reply.eq path.old.entries.problem) root limit
+        path.new.entries.lifted path.new.frames.items tally.new.left path.new.config
+        (S.tells stop.new) (work (length path.old.entries.problem.calls) root.lifted
+        path.old.frames.items path.old.config.lifted
+        (bound (problem_of O.after O.State.eq O.Reply.eq path.old.entries.problem)
+        position.candidate)) step) }
     ensures whole { IsTrue tally.new.whole → IsTrue tally.old.whole }
     ensures holds { IfOk result (λ step. IsTrue tally.new.whole
         → (root : Configuration O.State) (limit : Option ℕ)
-        → IsProgress (problem_of O.after O.State.eq O.Reply.eq path.old.entries.problem) root limit path.old.entries.lifted path.old.frames.items tally.old.left
-        path.old.config position.longest position.candidate
-        → HoldsSearched (problem_of O.after O.State.eq O.Reply.eq path.old.entries.problem) (M.holds memo.old) root.lifted path.old.frames.items path.old.config
-        position.candidate → HoldsStep (problem_of O.after O.State.eq O.Reply.eq path.old.entries.problem) root (M.holds memo.new) path.new.frames.items
-        path.new.config step) }
+        → IsProgress (problem_of O.after O.State.eq O.Reply.eq path.old.entries.problem) root limit
+        path.old.entries.lifted path.old.frames.items tally.old.left path.old.config
+        position.longest position.candidate
+        → HoldsSearched (problem_of O.after O.State.eq O.Reply.eq path.old.entries.problem)
+        (M.holds memo.old) root.lifted path.old.frames.items path.old.config position.candidate
+        → HoldsStep (problem_of O.after O.State.eq O.Reply.eq path.old.entries.problem) root
+        (M.holds memo.new) path.new.frames.items path.new.config step) }
     ensures changes { M.changes memo.old memo.new }
     ensures stop { S.follows stop.old stop.new }
 {
@@ -367,17 +392,25 @@ fn search_on<O: SeqObject, M: Memo<O>, S: Stop>(
 ) -> Result<Ended, AllocError>
     requires of { IsTrue is_for_problem → M.is_of memo.old path.old.entries.problem }
     requires frames { path.old.frames.items ≡ [] }
-    requires reachable { IsReachable (problem_of O.after O.State.eq O.Reply.eq path.old.entries.problem) path.old.config.lifted path.old.config.state }
-    requires lifted { lifted_set (problem_of O.after O.State.eq O.Reply.eq path.old.entries.problem) path.old.entries.lifted ≡ path.old.config.lifted }
-    requires incomplete { HasEveryCompleted (problem_of O.after O.State.eq O.Reply.eq path.old.entries.problem) path.old.config.lifted → ⊥ }
+    requires reachable { IsReachable
+        (problem_of O.after O.State.eq O.Reply.eq path.old.entries.problem) path.old.config.lifted
+        path.old.config.state }
+    requires lifted { lifted_set (problem_of O.after O.State.eq O.Reply.eq path.old.entries.problem)
+        path.old.entries.lifted ≡ path.old.config.lifted }
+    requires incomplete { HasEveryCompleted
+        (problem_of O.after O.State.eq O.Reply.eq path.old.entries.problem) path.old.config.lifted
+        → ⊥ }
     ensures problem { path.new.entries.problem ≡ path.old.entries.problem }
-    ensures answer { IfOk result (λ ended. IsAnswer (problem_of O.after O.State.eq O.Reply.eq path.old.entries.problem) path.old.config.lifted path.old.config.state
-        limit (S.tells stop.new) ended.outcome) }
+    ensures answer { IfOk result (λ ended. IsAnswer
+        (problem_of O.after O.State.eq O.Reply.eq path.old.entries.problem) path.old.config.lifted
+        path.old.config.state limit (S.tells stop.new) ended.outcome) }
     ensures back { IfOk result (λ ended. IsRefutation ended.outcome
         → path.new.config ≡ path.old.config) }
     ensures holds { IfOk result (λ ended. IsTrue ended.whole → IsRefutation ended.outcome
-        → IsClosed (problem_of O.after O.State.eq O.Reply.eq path.old.entries.problem) (M.holds memo.old)
-        → HoldsSearched (problem_of O.after O.State.eq O.Reply.eq path.old.entries.problem) (M.holds memo.new) path.old.config.lifted [] path.old.config None) }
+        → IsClosed (problem_of O.after O.State.eq O.Reply.eq path.old.entries.problem)
+        (M.holds memo.old)
+        → HoldsSearched (problem_of O.after O.State.eq O.Reply.eq path.old.entries.problem)
+        (M.holds memo.new) path.old.config.lifted [] path.old.config None) }
     ensures memo { M.changes memo.old memo.new }
     ensures stop { S.follows stop.old stop.new }
 {

@@ -51,6 +51,16 @@ impl<O: SeqObject> Frame<O> {
         self.call
     }
 
+    // What the continuations up to the call tell, where it led to a configuration that is refuted with this longest.
+    fn longest_with(&self, deep: Longest) -> Longest
+        requires { deep.more < 18446744073709551615 }
+        ensures longer { self.now.longest.more < deep.more + 1
+            → result ≡ record { more = deep.more + 1; first = Some self.now.call } }
+        ensures not_longer { deep.more + 1 ≤ self.now.longest.more → result ≡ self.now.longest }
+    {
+        self.longest.or_after(self.call, deep)
+    }
+
     // The state.
     fn into_state(self) -> O::State
         ensures { result ≡ self.state }
@@ -304,7 +314,7 @@ impl<'p, O: SeqObject> Path<'p, O> {
         let calls = self.entries.problem().len();
         prove!(deep.more < calls);
         self.unlift(frame)?;
-        Ok(self.after(frame.call, frame.longest.or_after(frame.call, deep)))
+        Ok(self.after(frame.call, frame.longest_with(deep)))
     }
 
     // The same, and hands out the configuration that was left.

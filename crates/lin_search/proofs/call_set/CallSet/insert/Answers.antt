@@ -50,9 +50,9 @@ invariant_of-self-2 c =
     rw c.weight.ensures
     (kept_with set.calls set.full (set.full + c.drop_full.result) set.words.items c.drop_full.new.words.items set.hash set.sum c.args.call c.self.invariant (below last) (out last) (window last) (adds last))
 
-pub returns : goal.returns
-returns c =
+pub returns-clause-lifted : goal.returns-clause-lifted
+returns-clause-lifted c =
     let set = c.self.inside in
-    let last = (goal.at.returns c).After-drop_full in
+    let last = (goal.at.returns-clause-lifted c).After-drop_full in
     rw (← c.self.view_is)
     (flags_with set.calls set.full (set.full + c.drop_full.result) set.words.items c.drop_full.new.words.items c.args.call (below last) (adds last))

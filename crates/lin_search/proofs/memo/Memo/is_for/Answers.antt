@@ -1,0 +1,5 @@
+use Rattle.std.proofs.Common.{rules}
+use Rattle.lin_search.proofs.memo.Memo.is_for.Goals as goal
+
+pub returns : goal.returns
+returns g c = search rules depth 3
