@@ -1,7 +1,5 @@
 //! A case: a text, what is printed of it, the exit status, and the options of the run.
 
-ghost use Rattle.std.specs.Prelude.{◌≡◌, false};
-
 use crate::choice::options_of;
 use crate::repeat::repeated;
 use lincheck::{Options, StdSink, StdSource, run, status_code};
@@ -32,9 +30,7 @@ fn words_of(rt: &HostRuntime, name: &str) -> io::Result<String> {
 }
 
 // Whether `run` answers the text with this status and prints this answer.
-fn gives(rt: &HostRuntime, text: &[u8], options: &Options, answer: &[u8], status: u8) -> bool
-    requires { options.now.stats ≡ false }
-{
+fn gives(rt: &HostRuntime, text: &[u8], options: &Options, answer: &[u8], status: u8) -> bool {
     let mut written = Vec::new(rt.alloc());
     let mut source = StdSource::new(text);
     let ran = run(rt, &mut source, &mut StdSink::new(&mut written), options);
@@ -42,9 +38,7 @@ fn gives(rt: &HostRuntime, text: &[u8], options: &Options, answer: &[u8], status
 }
 
 // The same of a case, with these options.
-fn is_answered_with(rt: &HostRuntime, name: &str, options: &Options) -> io::Result<bool>
-    requires { options.now.stats ≡ false }
-{
+fn is_answered_with(rt: &HostRuntime, name: &str, options: &Options) -> io::Result<bool> {
     let status = status_of(rt, name)?;
     let text = text_of(rt, name, "jsonl")?;
     let answer = text_of(rt, name, "answer")?;

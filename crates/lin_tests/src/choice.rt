@@ -1,7 +1,5 @@
 //! The options of a case, as a user says them: one a line.
 
-ghost use Rattle.std.specs.Prelude.{◌≡◌, false, IfSome};
-
 use lincheck::Options;
 
 // What a case asks for.
@@ -10,6 +8,7 @@ struct Choice {
     workers: u64,
     shards: u64,
     limit: Option<u64>,
+    stats: bool,
 }
 
 // What a case without options asks for.
@@ -17,10 +16,17 @@ const USUAL: Choice = Choice {
     workers: 4,
     shards: 16,
     limit: None,
+    stats: false,
 };
 
-// The choice, with what a line says: a name and a number.
+// The choice, with what a line says: a name and a number, or that statistics are told.
 fn with_line(choice: Choice, line: &str) -> Option<Choice> {
+    if line == "--stats" {
+        return Some(Choice {
+            stats: true,
+            ..choice
+        });
+    }
     let (name, value) = line.split_once(' ')?;
     let value = value.parse::<u64>().ok()?;
     match name {
@@ -41,12 +47,10 @@ fn with_line(choice: Choice, line: &str) -> Option<Choice> {
 }
 
 /// The options that the lines ask for; `None` where there are none such.
-pub fn options_of(lines: &str) -> Option<Options>
-    ensures { IfSome result (λ options. options.stats ≡ false) }
-{
+pub fn options_of(lines: &str) -> Option<Options> {
     let mut choice = USUAL;
     for line in lines.lines() {
         choice = with_line(choice, line)?;
     }
-    Options::new(choice.workers, choice.shards, choice.limit, false).ok()
+    Options::new(choice.workers, choice.shards, choice.limit, choice.stats).ok()
 }

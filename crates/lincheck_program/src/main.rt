@@ -24,12 +24,9 @@ fn request(rt: &HostRuntime) -> Result<Request, RunFault> {
 
 // The check of standard input, answered on standard output.
 fn check(rt: &HostRuntime, options: &Options) -> Result<Status, RunFault> {
-    let Ok(options) = Options::new(options.workers(), options.shards(), None, false) else {
-        unreachable!()
-    };
     let mut source = StdSource::new(rt.reader());
     let mut sink = StdSink::new(io::writer(rt));
-    run(rt, &mut source, &mut sink, &options)
+    run(rt, &mut source, &mut sink, options)
 }
 
 // The exit status of an answer; a fault is told on standard error.

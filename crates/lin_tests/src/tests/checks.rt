@@ -1,10 +1,10 @@
 //! Checks of one object: the same verdict by every number of workers, over every number of shards.
 
 use super::searches::{
-    EIGHT_WRITES_AND_A_READ, Part, READ_OF_NO_WRITTEN_VALUE, READ_OF_THE_LAST_VALUE, posed_by,
+    Part, READ_OF_NO_WRITTEN_VALUE, READ_OF_THE_LAST_VALUE, posed_by,
 };
 use lin_object::Kind;
-use lin_workers::{FreeGate, Gate, ObjectVerdict, Options, check_object};
+use lin_workers::{Gate, ObjectVerdict, Options, check_object};
 use std::thread::Threads;
 
 // A gate at which nothing happens, and that wants workers at once.
@@ -18,15 +18,14 @@ impl Gate for Eager {
 const WORKERS_AND_SHARDS: [(u64, u64); 6] =
     [(1, 1), (1, 256), (2, 16), (3, 16), (64, 1), (64, 256)];
 
-// What a check with so many workers and shards finds, within the limit.
+// What a check with so many workers and shards finds.
 fn found<R: AllocGlobal + Threads + Sync>(
     rt: &R,
     problem: &Part,
     workers: u64,
     shards: u64,
-    limit: Option<u64>,
 ) -> Option<ObjectVerdict> {
-    let options = Options::new(workers, shards, limit, false).ok()?;
+    let options = Options::new(workers, shards, None, false).ok()?;
     let (verdict, _) = check_object(rt, problem, &options, &Eager).ok()?;
     Some(verdict)
 }
@@ -34,7 +33,7 @@ fn found<R: AllocGlobal + Threads + Sync>(
 // Whether every number of workers and shards finds the problem refuted, with this longest run.
 fn all_refute<R: AllocGlobal + Threads + Sync>(rt: &R, problem: &Part, run: &[usize]) -> bool {
     for (workers, shards) in &WORKERS_AND_SHARDS {
-        match found(rt, problem, *workers, *shards, None) {
+        match found(rt, problem, *workers, *shards) {
             Some(ObjectVerdict::No(order)) if order.calls() == run => {}
             _ => return false,
         }
@@ -51,7 +50,7 @@ fn every_number_of_workers_finds_the_same_longest_run(rt: HostRuntime) {
 // Whether every number of workers and shards finds this least linearization.
 fn all_find<R: AllocGlobal + Threads + Sync>(rt: &R, problem: &Part, least: &[usize]) -> bool {
     for (workers, shards) in &WORKERS_AND_SHARDS {
-        match found(rt, problem, *workers, *shards, None) {
+        match found(rt, problem, *workers, *shards) {
             Some(ObjectVerdict::Yes(order)) if order.calls() == least => {}
             _ => return false,
         }
@@ -63,31 +62,4 @@ fn all_find<R: AllocGlobal + Threads + Sync>(rt: &R, problem: &Part, least: &[us
 fn every_number_of_workers_finds_the_same_linearization(rt: HostRuntime) {
     let problem = posed_by(rt.alloc(), Kind::Register, &READ_OF_THE_LAST_VALUE);
     assert!(rt; all_find(&rt, &problem, &[0, 1, 2, 3]));
-}
-
-// Whether a check within three lifts of each search is undecided.
-fn is_undecided<R: AllocGlobal + Threads + Sync>(rt: &R, problem: &Part) -> bool {
-    matches!(
-        found(rt, problem, 4, 16, Some(3)),
-        Some(ObjectVerdict::Undecided)
-    )
-}
-
-#[test]
-fn a_check_within_three_lifts_is_undecided(rt: HostRuntime) {
-    let problem = posed_by(rt.alloc(), Kind::Register, &EIGHT_WRITES_AND_A_READ);
-    assert!(rt; is_undecided(&rt, &problem));
-}
-
-// How many configurations the calling thread alone stores.
-fn stored_alone<R: AllocGlobal + Threads + Sync>(rt: &R, problem: &Part) -> Option<u64> {
-    let options = Options::new(1, 16, None, false).ok()?;
-    let (_, stored) = check_object(rt, problem, &options, &FreeGate).ok()?;
-    Some(stored)
-}
-
-#[test]
-fn the_calling_thread_alone_stores_each_once(rt: HostRuntime) {
-    let problem = posed_by(rt.alloc(), Kind::Register, &READ_OF_NO_WRITTEN_VALUE);
-    assert!(rt; stored_alone(&rt, &problem) == Some(13));
 }

@@ -36,28 +36,6 @@ pub(super) const READ_OF_NO_WRITTEN_VALUE: [Event; 8] = [
     Return(3, Reply::Int(9)),
 ];
 
-// Eight writes that overlap one another, and after them a read of what nobody wrote.
-pub(super) const EIGHT_WRITES_AND_A_READ: [Event; 18] = [
-    Call(1, Op::Write(1)),
-    Call(2, Op::Write(2)),
-    Call(3, Op::Write(3)),
-    Call(4, Op::Write(4)),
-    Call(5, Op::Write(5)),
-    Call(6, Op::Write(6)),
-    Call(7, Op::Write(7)),
-    Call(8, Op::Write(8)),
-    Return(0, Reply::Okay),
-    Return(1, Reply::Okay),
-    Return(2, Reply::Okay),
-    Return(3, Reply::Okay),
-    Return(4, Reply::Okay),
-    Return(5, Reply::Okay),
-    Return(6, Reply::Okay),
-    Return(7, Reply::Okay),
-    Call(9, Op::Read),
-    Return(8, Reply::Int(99)),
-];
-
 // The same with a read of the last write's value.
 pub(super) const READ_OF_THE_LAST_VALUE: [Event; 8] = [
     Call(1, Op::Write(1)),
