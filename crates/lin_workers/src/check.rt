@@ -125,9 +125,7 @@ fn decide_over<O: SharedObject, R: Threads + Sync, G: Gate>(
             return Ok(verdict);
         }
     }
-    decide_with_workers(
-        rt, alloc, problem, table, &mut memo, hands, gate, limit,
-    )
+    decide_with_workers(rt, alloc, problem, table, &mut memo, hands, gate, limit)
 }
 
 // The verdict over the table with these hands, and the hands.
@@ -172,15 +170,7 @@ fn check_over_table<O: SharedObject, R: Threads + Sync, G: Gate>(
     let shards = options.shards() as usize;
     let workers = options.workers() as usize;
     let (table, hands) = Table::new(alloc, problem, shards, workers + 1)?;
-    let (verdict, hands) = decide_by_all(
-        rt,
-        alloc,
-        problem,
-        &table,
-        hands,
-        gate,
-        options.limit(),
-    );
+    let (verdict, hands) = decide_by_all(rt, alloc, problem, &table, hands, gate, options.limit());
     let Ok(stored) = table.total(hands) else {
         unreachable!()
     };

@@ -90,11 +90,10 @@ earlier_have h orders object so_far i below =
     (there.0, (so_far.each i there.0 there.1).0)
 
 pub verdict_no : (h : RecordedHistory) (orders : List (List ℕ)) (object : ℕ) (order : List ℕ) (run : Vec (Placed Reply) Global) → object < length h.objects → AreLeastOf h object orders → ((l : List ℕ) → IsLinearization (part_of h object) l → ⊥) × IsFirstLongest (IsRun (part_of h object)) order → Places (whole_of h) object (start_at h object) order run.items → (limit : Option ℕ) → IsVerdict h limit (No object run)
-verdict_no h orders object order run declared so_far none placed limit =
-    (
-      (record { declared = declared; none = none.0; earlier = earlier_have h orders object so_far }, record { order = order; longest = none.1; placed = placed }),
-      none_of_whole state_eq.it (whole_of h) object none.0,
-    )
+verdict_no h orders object order run declared so_far none placed limit = (
+  (record { declared = declared; none = none.0; earlier = earlier_have h orders object so_far }, record { order = order; longest = none.1; placed = placed }),
+  none_of_whole state_eq.it (whole_of h) object none.0,
+)
 
 pub verdict_undecided : (h : RecordedHistory) (orders : List (List ℕ)) (object : ℕ) → object < length h.objects → AreLeastOf h object orders → (limit : Option ℕ) → IsSomeAnd limit (λ most. HasMoreThan (IsRun (part_of h object)) most) → IsVerdict h limit (Undecided object)
 verdict_undecided h orders object declared so_far limit over = record { declared = declared; earlier = earlier_have h orders object so_far; over = over }

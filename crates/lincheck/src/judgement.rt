@@ -53,8 +53,7 @@ fn judge<R: AllocGlobal + Threads + Sync, G: Gate>(
     let mut orders = Vec::new(rt.alloc());
     let mut stored = Some(0);
     for object in 0..problems.len() {
-        let (verdict, more) =
-            judge_object(rt, history, object, &problems[object], options, gate)?;
+        let (verdict, more) = judge_object(rt, history, object, &problems[object], options, gate)?;
         stored = with_more(stored, more);
         match verdict {
             ObjectVerdict::Yes(order) => orders.push(order)?,

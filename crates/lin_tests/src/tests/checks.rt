@@ -1,8 +1,6 @@
 //! Checks of one object: the same verdict by every number of workers, over every number of shards.
 
-use super::searches::{
-    Part, READ_OF_NO_WRITTEN_VALUE, READ_OF_THE_LAST_VALUE, posed_by,
-};
+use super::searches::{Part, READ_OF_NO_WRITTEN_VALUE, READ_OF_THE_LAST_VALUE, posed_by};
 use lin_object::Kind;
 use lin_workers::{Gate, ObjectVerdict, Options, check_object};
 use std::thread::Threads;
@@ -15,8 +13,14 @@ impl Gate for Eager {
 }
 
 // Numbers of workers and of shards.
-const WORKERS_AND_SHARDS: [(u64, u64); 6] =
-    [(1, 1), (1, 256), (2, 16), (3, 16), (64, 1), (64, 256)];
+const WORKERS_AND_SHARDS: [(u64, u64); 6] = [
+    (1, 1),
+    (1, 256),
+    (2, 16),
+    (3, 16),
+    (64, 1),
+    (64, 256),
+];
 
 // What a check with so many workers and shards finds.
 fn found<R: AllocGlobal + Threads + Sync>(
