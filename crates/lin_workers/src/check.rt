@@ -1,5 +1,5 @@
 //! The check of one object.
-ghost use Rattle.std.specs.Prelude.{◌≡◌, ℕ, ◌^◌, ◌<◌, ◌≤◌, All, IfOk, IfSome, vec_capacity, vec_len};
+ghost use Rattle.std.specs.Prelude.{◌≡◌, ℕ, ◌^◌, ◌<◌, ◌≤◌, All, IfNone, IfOk, IfSome, None, vec_capacity, vec_len};
 ghost use Rattle.lin_history.specs.Problems.Problem.{problem_of};
 ghost use Rattle.lin_search.specs.Count.{IsNumberReachable};
 ghost use Rattle.lin_table.specs.Hand.{IsHandOf};
@@ -13,8 +13,8 @@ use crate::options::Options;
 use crate::sharing::share;
 use crate::verdict::{CheckFault, ObjectVerdict};
 use lin_history::Problem;
-use lin_object::{SeqObject, SharedObject};
-use lin_search::Memo;
+use lin_object::{SeqObject, SharedObject, lawful};
+use lin_search::{Memo, OwnMemo};
 use lin_table::{Hand, SharedMemo, Table};
 use std::alloc::{AllocError, AllocGlobal, Global};
 use std::thread::Threads;
@@ -25,21 +25,34 @@ const LIFTS_ALONE: u64 = 20_000;
 // How many tasks are wanted for each worker.
 const TASKS_EACH: usize = 4;
 
-// The verdict, where the calling thread has it within its own lifts, and within the limit where one is given.
+// The number stored that is told is less than this.
+const STORED_BOUND: u64 = 1 << 54;
+
+// How many lifts the calling thread makes by itself: where there is one worker, as many as the limit allows.
+fn lifts_alone(workers: u64, limit: Option<u64>) -> Option<u64>
+    ensures none { IfNone result (limit ≡ None) }
+    ensures within { IfSome result (λ lifts. IfSome limit (λ most. lifts ≤ most)) }
+{
+    match limit {
+        None if workers == 1 => None,
+        None => Some(LIFTS_ALONE),
+        Some(most) if workers == 1 => Some(most),
+        Some(most) => Some(most.min(LIFTS_ALONE)),
+    }
+}
+
+// The verdict by a search from the root over the memo, where it ends within so many lifts.
 fn decide_alone<O: SeqObject, M: Memo<O>>(
     alloc: Global,
     problem: &Problem<O>,
     memo: &mut M,
+    lifts: Option<u64>,
     limit: Option<u64>,
 ) -> Result<Option<ObjectVerdict>, AllocError>
     ensures verdict { IfOk result (λ decided. IfSome decided (IsObjectVerdict
         (problem_of O.after O.State.eq O.Reply.eq problem.now) limit)) }
     ensures memo { M.changes memo.old memo.new }
 {
-    let lifts = match limit {
-        Some(most) => most.min(LIFTS_ALONE),
-        None => LIFTS_ALONE,
-    };
     let whole = cut(alloc, problem, 1)?;
     let mut outcomes = no_outcomes(alloc, whole.len())?;
     let decided = decide(
@@ -48,13 +61,60 @@ fn decide_alone<O: SeqObject, M: Memo<O>>(
         whole.as_slice(),
         outcomes.as_mut_slice(),
         memo,
-        Some(lifts),
+        lifts,
     )?;
     match decided {
         ObjectVerdict::Undecided => Ok(None),
         ObjectVerdict::Yes(order) => Ok(Some(ObjectVerdict::Yes(order))),
         ObjectVerdict::No(run) => Ok(Some(ObjectVerdict::No(run))),
     }
+}
+
+// The verdict by a search over the memo, which names the problem, where it ends within so many lifts; and how many
+// configurations the memo has then.
+fn check_over_memo<O: SeqObject>(
+    alloc: Global,
+    problem: &Problem<O>,
+    memo: &mut OwnMemo<'_, O>,
+    lifts: Option<u64>,
+    limit: Option<u64>,
+) -> Result<Option<(ObjectVerdict, u64)>, AllocError>
+    requires { memo.old.problem ≡ problem.now }
+    ensures verdict { IfOk result (λ checked. IfSome checked (λ r. IsObjectVerdict
+        (problem_of O.after O.State.eq O.Reply.eq problem.now) limit r.0)) }
+    ensures bound { IfOk result (λ checked. IfSome checked (λ r. r.1 < 2 ^ 54)) }
+    ensures at_most { IfOk result (λ checked. IfSome checked (λ r. (n : ℕ) → IsNumberReachable
+        (problem_of O.after O.State.eq O.Reply.eq problem.now) n → r.1 ≤ n)) }
+{
+    lawful::<O>();
+    let decided = decide_alone(alloc, problem, memo, lifts, limit)?;
+    let stored = memo.count();
+    match decided {
+        Some(verdict) if stored < STORED_BOUND => Ok(Some((verdict, stored))),
+        _ => Ok(None),
+    }
+}
+
+// The same over a memo of its own.
+fn check_alone<O: SeqObject>(
+    alloc: Global,
+    problem: &Problem<O>,
+    lifts: Option<u64>,
+    limit: Option<u64>,
+) -> Result<Option<(ObjectVerdict, u64)>, AllocError>
+    ensures verdict { IfOk result (λ checked. IfSome checked (λ r. IsObjectVerdict
+        (problem_of O.after O.State.eq O.Reply.eq problem.now) limit r.0)) }
+    ensures bound { IfOk result (λ checked. IfSome checked (λ r. r.1 < 2 ^ 54)) }
+    ensures at_most { IfOk result (λ checked. IfSome checked (λ r. (n : ℕ) → IsNumberReachable
+        (problem_of O.after O.State.eq O.Reply.eq problem.now) n → r.1 ≤ n)) }
+{
+    check_over_memo(
+        alloc,
+        problem,
+        &mut OwnMemo::new(alloc, problem),
+        lifts,
+        limit,
+    )
 }
 
 // The verdict by the tasks of a cut, which workers share that have these hands.
@@ -120,11 +180,6 @@ fn decide_over<O: SharedObject, R: Threads + Sync, G: Gate>(
     ensures capacity { vec_capacity hands.new ≡ vec_capacity hands.old }
 {
     let mut memo = SharedMemo::new(table, own);
-    if !gate.wants_workers() {
-        if let Some(verdict) = decide_alone(alloc, problem, &mut memo, limit)? {
-            return Ok(verdict);
-        }
-    }
     decide_with_workers(rt, alloc, problem, table, &mut memo, hands, gate, limit)
 }
 
@@ -177,12 +232,38 @@ fn check_over_table<O: SharedObject, R: Threads + Sync, G: Gate>(
     Ok((verdict?, stored))
 }
 
+// The verdict, and how many configurations were stored: by the calling thread alone where it has it within its own lifts
+// and the gate wants no workers at once, or else over a table.
+fn check_by_any<O: SharedObject, R: Threads + Sync, G: Gate>(
+    rt: &R,
+    alloc: Global,
+    problem: &Problem<O>,
+    options: &Options,
+    gate: &G,
+) -> Result<(ObjectVerdict, u64), AllocError>
+    ensures verdict { IfOk result (λ r. IsObjectVerdict
+        (problem_of O.after O.State.eq O.Reply.eq problem.now) options.now.limit r.0) }
+    ensures bound { IfOk result (λ r. r.1 < 2 ^ 54) }
+    ensures at_most { IfOk result (λ r. (n : ℕ) → IsNumberReachable
+        (problem_of O.after O.State.eq O.Reply.eq problem.now) n → r.1 ≤ n) }
+{
+    if gate.wants_workers() {
+        return check_over_table(rt, alloc, problem, options, gate);
+    }
+    let lifts = lifts_alone(options.workers(), options.limit());
+    match check_alone(alloc, problem, lifts, options.limit())? {
+        Some(checked) => Ok(checked),
+        None => check_over_table(rt, alloc, problem, options, gate),
+    }
+}
+
 /// Checks one object: whether its calls have a linearization, and the least one, or the longest run where there is none; and
 /// how many configurations were stored.
 ///
-/// The calling thread begins alone, for 20,000 lifts at most. What it has not decided then is cut into tasks, which as many
-/// workers share as the options say, but not more than there are tasks; a gate that wants workers has them at once. The tasks
-/// are then taken in their order, and the calling thread searches each that has no outcome. The verdict is the same for every
+/// The calling thread begins alone, over a memo of its own: for 20,000 lifts at most, or without such a bound where there is
+/// one worker. What it has not decided then is cut into tasks, which as many workers share as the options say, but not more
+/// than there are tasks; a gate that wants workers has them at once. The tasks are then taken in their order, and the calling
+/// thread searches each that has no outcome. The verdict is the same for every
 /// number of workers and shards and on every schedule; with a limit, which bounds the search of each task, it may be
 /// `Undecided`, and that only where there are more runs than the limit.
 ///
@@ -201,7 +282,7 @@ pub fn check_object<O: SharedObject, R: AllocGlobal + Threads + Sync, G: Gate>(
     ensures at_most { IfOk result (λ r. (n : ℕ) → IsNumberReachable
         (problem_of O.after O.State.eq O.Reply.eq problem.now) n → r.1 ≤ n) }
 {
-    match check_over_table(rt, rt.alloc(), problem, options, gate) {
+    match check_by_any(rt, rt.alloc(), problem, options, gate) {
         Ok(checked) => Ok(checked),
         Err(AllocError) => Err(CheckFault::Memory),
     }
