@@ -3,6 +3,7 @@
 use crate::choice::options_of;
 use crate::repeat::repeated;
 use lincheck::{Options, StdSink, StdSource, run, status_code};
+use std::thread::Threads;
 use std::{fs, io};
 
 // A file of the case, whole: `NAME.ENDING`, or what `NAME.ENDING.repeat` stands for.
@@ -29,26 +30,46 @@ fn words_of(rt: &HostRuntime, name: &str) -> io::Result<String> {
     Ok(fs::read_to_string(rt, path.as_str()).unwrap_or(String::new(rt.alloc())))
 }
 
-// Whether `run` answers the text with this status and prints this answer.
-fn gives(rt: &HostRuntime, text: &[u8], options: &Options, answer: &[u8], status: u8) -> bool {
-    let mut written = Vec::new(rt.alloc());
+// Whether `run`, which starts workers with `threads`, answers the text with this status and prints this answer.
+fn gives<R: AllocGlobal + Threads + Sync>(
+    threads: &R,
+    text: &[u8],
+    options: &Options,
+    answer: &[u8],
+    status: u8,
+) -> bool {
+    let mut written = Vec::new(threads.alloc());
     let mut source = StdSource::new(text);
-    let ran = run(rt, &mut source, &mut StdSink::new(&mut written), options);
+    let ran = run(
+        threads,
+        &mut source,
+        &mut StdSink::new(&mut written),
+        options,
+    );
     status_code(&ran) == status && written.as_slice() == answer
 }
 
 // The same of a case, with these options.
-fn is_answered_with(rt: &HostRuntime, name: &str, options: &Options) -> io::Result<bool> {
+fn is_answered_with<R: AllocGlobal + Threads + Sync>(
+    rt: &HostRuntime,
+    threads: &R,
+    name: &str,
+    options: &Options,
+) -> io::Result<bool> {
     let status = status_of(rt, name)?;
     let text = text_of(rt, name, "jsonl")?;
     let answer = text_of(rt, name, "answer")?;
-    Ok(gives(rt, text.as_slice(), options, answer.as_slice(), status))
+    Ok(gives(threads, text.as_slice(), options, answer.as_slice(), status))
 }
 
 /// Whether `run` answers the text of a case with its status and prints its answer, byte for byte.
-pub fn is_answered(rt: &HostRuntime, name: &str) -> io::Result<bool> {
+pub fn is_answered<R: AllocGlobal + Threads + Sync>(
+    rt: &HostRuntime,
+    threads: &R,
+    name: &str,
+) -> io::Result<bool> {
     match options_of(words_of(rt, name)?.as_str()) {
-        Some(options) => is_answered_with(rt, name, &options),
+        Some(options) => is_answered_with(rt, threads, name, &options),
         None => Ok(false),
     }
 }

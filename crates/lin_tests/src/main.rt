@@ -9,6 +9,7 @@ mod repeat;
 mod tests;
 
 use case::is_answered;
+use std::thread::Threads;
 use std::{fs, io};
 
 // The names of the cases of this folder, in order: each has a file `NAME.status`.
@@ -24,8 +25,12 @@ fn case_names(rt: &HostRuntime) -> io::Result<Vec<String>> {
 }
 
 // Whether a case is answered so; if not, its name is told. A case that can't be read is not answered.
-fn holds(rt: &HostRuntime, name: &str) -> io::Result<bool> {
-    let answered = is_answered(rt, name).unwrap_or(false);
+fn holds<R: AllocGlobal + Threads + Sync>(
+    rt: &HostRuntime,
+    threads: &R,
+    name: &str,
+) -> io::Result<bool> {
+    let answered = is_answered(rt, threads, name).unwrap_or(false);
     if !answered {
         println!(rt; "differs: {name}")?;
     }
@@ -36,7 +41,7 @@ fn main(rt: HostRuntime) -> io::Result<()> {
     let mut right = 0u64;
     let mut wrong = 0u64;
     for name in &case_names(&rt)? {
-        if holds(&rt, name.as_str())? {
+        if holds(&rt, &rt, name.as_str())? {
             right = right.wrapping_add(1);
         } else {
             wrong = wrong.wrapping_add(1);

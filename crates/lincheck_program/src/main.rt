@@ -6,6 +6,7 @@ use lincheck::{
     Options, Request, RunFault, Status, StdSink, StdSource, options_of, run, status_code,
 };
 use std::process::ExitCode;
+use std::thread::Threads;
 use std::{env, io};
 
 // The words after the program's name.
@@ -22,11 +23,15 @@ fn request(rt: &HostRuntime) -> Result<Request, RunFault> {
     }
 }
 
-// The check of standard input, answered on standard output.
-fn check(rt: &HostRuntime, options: &Options) -> Result<Status, RunFault> {
+// The check of standard input, answered on standard output. Workers are started with `threads`.
+fn check<R: AllocGlobal + Threads + Sync>(
+    rt: &HostRuntime,
+    threads: &R,
+    options: &Options,
+) -> Result<Status, RunFault> {
     let mut source = StdSource::new(rt.reader());
     let mut sink = StdSink::new(io::writer(rt));
-    run(rt, &mut source, &mut sink, options)
+    run(threads, &mut source, &mut sink, options)
 }
 
 // The exit status of an answer; a fault is told on standard error.
@@ -38,9 +43,13 @@ fn ended(rt: &HostRuntime, answer: Result<Status, RunFault>) -> ExitCode {
 }
 
 // Does what the user asks for.
-fn carry_out(rt: &HostRuntime, request: &Request) -> ExitCode {
+fn carry_out<R: AllocGlobal + Threads + Sync>(
+    rt: &HostRuntime,
+    threads: &R,
+    request: &Request,
+) -> ExitCode {
     match request {
-        Request::Run(options) => ended(rt, check(rt, options)),
+        Request::Run(options) => ended(rt, check(rt, threads, options)),
         Request::Help(text) => match print!(rt; "{text}") {
             Ok(()) => ExitCode::SUCCESS,
             Err(_) => ended(rt, Err(RunFault::Write)),
@@ -54,7 +63,7 @@ fn carry_out(rt: &HostRuntime, request: &Request) -> ExitCode {
 
 fn main(rt: HostRuntime) -> ExitCode {
     match request(&rt) {
-        Ok(request) => carry_out(&rt, &request),
+        Ok(request) => carry_out(&rt, &rt, &request),
         Err(fault) => ended(&rt, Err(fault)),
     }
 }

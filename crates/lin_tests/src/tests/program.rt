@@ -4,6 +4,7 @@ use crate::choice::options_of;
 use lincheck::{OptionFault, Options, RunFault, Status, StdSink, StdSource, run};
 use std::io;
 use std::io::{Read, Write};
+use std::thread::Threads;
 
 const TEXT: &str = r#"{"event":"object","object":"x","kind":"register"}
 {"event":"call","process":1,"object":"x","op":"write","args":[1]}
@@ -65,7 +66,11 @@ impl Write for Narrow {
 }
 
 // What a run answers with this reader and this writer.
-fn ran(rt: &HostRuntime, reader: Trickle, writer: &mut Narrow) -> Result<Status, RunFault> {
+fn ran<R: AllocGlobal + Threads + Sync>(
+    rt: &R,
+    reader: Trickle,
+    writer: &mut Narrow,
+) -> Result<Status, RunFault> {
     let Some(options) = options_of("") else {
         return Err(RunFault::Memory);
     };
@@ -78,8 +83,8 @@ fn ran(rt: &HostRuntime, reader: Trickle, writer: &mut Narrow) -> Result<Status,
 }
 
 // Whether a run ends so, with this much written.
-fn ends(
-    rt: &HostRuntime,
+fn ends<R: AllocGlobal + Threads + Sync>(
+    rt: &R,
     reader: Trickle,
     mut writer: Narrow,
     wanted: Result<Status, RunFault>,
