@@ -20,7 +20,7 @@ use std::alloc::{AllocError, AllocGlobal, Global};
 use std::thread::Threads;
 
 // How many lifts the calling thread makes by itself before workers are started.
-const LIFTS_ALONE: u64 = 20_000;
+const LIFTS_ALONE: u64 = 1_000_000;
 
 // How many tasks are wanted for each worker.
 const TASKS_EACH: usize = 4;
@@ -260,7 +260,7 @@ fn check_by_any<O: SharedObject, R: Threads + Sync, G: Gate>(
 /// Checks one object: whether its calls have a linearization, and the least one, or the longest run where there is none; and
 /// how many configurations were stored.
 ///
-/// The calling thread begins alone, over a memo of its own: for 20,000 lifts at most, or without such a bound where there is
+/// The calling thread begins alone, over a memo of its own: for 1,000,000 lifts at most, or without such a bound where there is
 /// one worker. What it has not decided then is cut into tasks, which as many workers share as the options say, but not more
 /// than there are tasks; a gate that wants workers has them at once. The tasks are then taken in their order, and the calling
 /// thread searches each that has no outcome. The verdict is the same for every

@@ -1,7 +1,10 @@
 //! Workers that share the search of one object.
 //!
+//! - `check`: the check of one object, by the calling thread alone or with workers; `verdict`: what it finds.
 //! - `cutting`: the search is cut into tasks; `level`: the levels of configurations that a cut is made of.
 //! - `worker`: a worker claims tasks and searches them; `stop`: its search stops where a smaller task was found.
+//! - `sharing`: workers in threads; `gathering`: what they brought is put together; `deciding`: the verdict by the tasks in
+//!   their order.
 //! - `gate`: what a worker passes after each claim.
 //! - `options`: by how many workers a check is run, with how many shards, and within which limit.
 #![tactic(auto)]

@@ -34,12 +34,19 @@ fn found<R: AllocGlobal + Threads + Sync>(
     Some(verdict)
 }
 
+// Whether it found that there is no linearization, with this longest run.
+fn is_refuted_with(found: Option<ObjectVerdict>, run: &[usize]) -> bool {
+    let Some(ObjectVerdict::No(order)) = found else {
+        return false;
+    };
+    order.calls() == run
+}
+
 // Whether every number of workers and shards finds the problem refuted, with this longest run.
 fn all_refute<R: AllocGlobal + Threads + Sync>(rt: &R, problem: &Part, run: &[usize]) -> bool {
     for (workers, shards) in &WORKERS_AND_SHARDS {
-        match found(rt, problem, *workers, *shards) {
-            Some(ObjectVerdict::No(order)) if order.calls() == run => {}
-            _ => return false,
+        if !is_refuted_with(found(rt, problem, *workers, *shards), run) {
+            return false;
         }
     }
     true
@@ -51,12 +58,19 @@ fn every_number_of_workers_finds_the_same_longest_run(rt: HostRuntime) {
     assert!(rt; all_refute(&rt, &problem, &[0, 1, 2]));
 }
 
+// Whether it found this least linearization.
+fn is_found_with(found: Option<ObjectVerdict>, least: &[usize]) -> bool {
+    let Some(ObjectVerdict::Yes(order)) = found else {
+        return false;
+    };
+    order.calls() == least
+}
+
 // Whether every number of workers and shards finds this least linearization.
 fn all_find<R: AllocGlobal + Threads + Sync>(rt: &R, problem: &Part, least: &[usize]) -> bool {
     for (workers, shards) in &WORKERS_AND_SHARDS {
-        match found(rt, problem, *workers, *shards) {
-            Some(ObjectVerdict::Yes(order)) if order.calls() == least => {}
-            _ => return false,
+        if !is_found_with(found(rt, problem, *workers, *shards), least) {
+            return false;
         }
     }
     true
