@@ -17,7 +17,7 @@ Reads the history from standard input and prints the answer on standard output."
 // What each option is good for.
 const WORKERS: &str =
     "Search each object by N workers, 1 to 64 [default: 4]. The answer is the same for
-every N; more workers may shorten a long search, up to the number of processors";
+every N; several workers shorten only the longest searches, and with many shards";
 
 const SHARDS: &str =
     "Keep what the workers share in N shards, 1 to 256 [default: 16]. The answer is the
@@ -30,8 +30,7 @@ A history whose search would take for ever then ends with the answer `undecided`
 
 const STATS: &str =
     "Print a last line `stored N` after the answer: how many refuted configurations (calls
-done, with the state after them) were kept, which tells how hard the search was.
-`stored unknown` where a thread did not start";
+done, with the state after them) were kept, which tells how hard the search was";
 
 // What is read, what is printed, and how the program ends.
 const MANUAL: &str = "\
