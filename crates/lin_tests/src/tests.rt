@@ -3,6 +3,7 @@
 
 mod boards;
 mod checks;
+mod command_line;
 mod cuts;
 mod devices;
 mod fakes;

@@ -1,13 +1,13 @@
 -- What a parse of the command line gives.
-use Rattle.std.proofs.Common.{◌≡◌, ◌⊎◌, ◌∙◌, ◌<◌, ◌||◌, ℕ, Bool, true, false, List, [], ◌∷◌, length, Option, Some, None, Result, Ok, Err, ap, refl, sym, subst, inl, inr, arith, codes, slice_index}
-use Rattle.std.specs.Prelude.{IfSome, option_map, unwrap_or, slice_get}
+use Rattle.std.proofs.Common.{◌≡◌, ◌⊎◌, ◌∙◌, ◌<◌, ◌||◌, ℕ, Bool, true, false, List, [], ◌∷◌, length, Option, Some, None, Result, Ok, Err, ap, ap₂, refl, sym, subst, inl, inr, arith, codes, slice_index}
+use Rattle.std.specs.Prelude.{IfOk, IfSome, option_map, unwrap_or, slice_get}
 use Rattle.std.specs.List.{All, slice_index_or}
 use Rattle.std.specs.Borrow.{Bor}
 use Rattle.std.specs.Str.Parse.{ParsesUnsigned, digits_value, without_leading_plus}
 use Rattle.std.proofs.lemmas.Bool.{cases_lt, le-ltb}
 use Rattle.std.proofs.lemmas.List.Elements.{All-nil, All-push}
 use Rattle.std.proofs.lemmas.Slice.Eq.{bytes_eq-Decides}
-use Rattle.clap.specs.Words.{Accepts, AddsArg, BuildsTo, IsParsedFrom, IsPlain, IsPlainArg, IsUnsignedIn, ReadsOne, args_of, found_of, groups_of, matched_of, one_text, read_as, reading_of}
+use Rattle.clap.specs.Words.{Accepts, AddsArg, BuildsTo, IsParsedFrom, IsPlain, IsPlainArg, IsUnsignedIn, ReadsOne, args_of, found_of, groups_of, matched_of, one_text, read_as, reading_of, rows_of, with_rule, Rule, Text, HasKind, HasMatchesOf, IsAmong, app_of, fault_of, is_simple, is_simple_and_free, kind_of, matches_of}
 use Rattle.clap.specs.Facts.{Entry, EntryPasses, HasReading, PassesArg, ValuesPass, parser_of_value}
 use Rattle.clap.specs.declared.builder.arg.Arg.{Arg}
 use Rattle.clap.specs.declared.builder.command.Command.{Command}
@@ -18,10 +18,17 @@ use Rattle.clap.specs.declared.builder.value_parser.Reading.{Reading}
 use Rattle.clap.specs.declared.parser.matches.ArgMatches.{ArgMatches}
 use Rattle.clap.specs.declared.parser.matches.Found.{Found}
 use Rattle.clap.specs.declared.parser.matches.MatchedArg.{MatchedArg}
+use Rattle.clap.specs.declared.error.Error.{Error}
+use Rattle.clap.specs.declared.error.kind.ErrorKind.TheVariants as kinds
+use Rattle.clap.proofs.WalkLemmas.{one_text-rows}
+use Rattle.clap.proofs.OnLiterals.{clap_on_literals}
 use Rattle.clap.proofs.CallerLemmas.{added_plain, entry_by_id}
 use Rattle.lin_workers.specs.Options.{Options, IsUpTo, is_outside, is_limit_outside, options_made}
 use Rattle.lin_workers.specs.declared.options.TheConstants.{MAX_WORKERS, MAX_SHARDS, MAX_LIMIT}
-use Rattle.lincheck.specs.CommandLine.{TakesUpTo, IsCommandLine, IsNumberOption, GivesUpTo, AreAsked, AreInRange, number_given}
+use Rattle.lincheck.specs.CommandLine.{TakesUpTo, flag_rule, no_options, number_rule, program, IsBareLine, IsCommandLine, IsFlagOption, IsNumberOption, GivesUpTo, AreAsked, AreInRange, number_in}
+use Rattle.lincheck.specs.Request.{AnswersKind, IsAnswerTo}
+use Rattle.lincheck.specs.declared.request.Request.{Request}
+use Rattle.lincheck.specs.declared.request.Request.TheVariants.{Run, Help, Refused}
 use Rattle.lincheck.specs.declared.request.TheConstants.{DEFAULT_WORKERS, DEFAULT_SHARDS}
 
 -- One more argument, which takes such a number where it has the name.
@@ -157,22 +164,22 @@ or_usual greatest usual (Some n) given is = given
 
 -- The options that are made of what was read.
 pub asked : (found : Found) (w s l : Option ℕ) (workers shards : ℕ) (stats : Bool) (made : Options)
-    → (w ≡ number_given found (codes "workers")) × IfSome w (IsUpTo MAX_WORKERS)
-    → (s ≡ number_given found (codes "shards")) × IfSome s (IsUpTo MAX_SHARDS)
-    → (l ≡ number_given found (codes "limit")) × IfSome l (IsUpTo MAX_LIMIT)
+    → (w ≡ number_in (one_text found (codes "workers"))) × IfSome w (IsUpTo MAX_WORKERS)
+    → (s ≡ number_in (one_text found (codes "shards"))) × IfSome s (IsUpTo MAX_SHARDS)
+    → (l ≡ number_in (one_text found (codes "limit"))) × IfSome l (IsUpTo MAX_LIMIT)
     → workers ≡ unwrap_or w DEFAULT_WORKERS → shards ≡ unwrap_or s DEFAULT_SHARDS
-    → (one_text found (codes "stats") ≡ Some (codes "true") → stats ≡ true) → (one_text found (codes "stats") ≡ None → stats ≡ false)
-    → options_made (record { workers = workers; shards = shards; limit = l; stats = stats }) ≡ Ok made → AreAsked found made
+    → (one_text found (codes "stats") ≡ Some (codes "true") → stats ≡ true) → (one_text found (codes "stats") ≡ Some (codes "false") → stats ≡ false)
+    → options_made (record { workers = workers; shards = shards; limit = l; stats = stats }) ≡ Ok made → AreAsked (rows_of found) made
 asked found w s l workers shards stats made w_is s_is l_is workers_is shards_is on off is =
     let workers_in : IsUpTo MAX_WORKERS workers = subst (IsUpTo MAX_WORKERS) (sym workers_is) (or_usual MAX_WORKERS DEFAULT_WORKERS w w_is.1 (omega arith, omega arith)) in
     let shards_in : IsUpTo MAX_SHARDS shards = subst (IsUpTo MAX_SHARDS) (sym shards_is) (or_usual MAX_SHARDS DEFAULT_SHARDS s s_is.1 (omega arith, omega arith)) in
     let same = made_of (record { workers = workers; shards = shards; limit = l; stats = stats }) made workers_in shards_in l_is.1 is in
     record {
-      workers = ap (λ o. o.workers) same ∙ (workers_is ∙ ap (λ r. unwrap_or r DEFAULT_WORKERS) w_is.0);
-      shards = ap (λ o. o.shards) same ∙ (shards_is ∙ ap (λ r. unwrap_or r DEFAULT_SHARDS) s_is.0);
-      limit = ap (λ o. o.limit) same ∙ l_is.0;
-      stats = λ given. ap (λ o. o.stats) same ∙ on given;
-      silent = λ given. ap (λ o. o.stats) same ∙ off given;
+      workers = ap (λ o. o.workers) same ∙ (workers_is ∙ ap (λ r. unwrap_or r DEFAULT_WORKERS) (w_is.0 ∙ ap number_in (one_text-rows found (codes "workers"))));
+      shards = ap (λ o. o.shards) same ∙ (shards_is ∙ ap (λ r. unwrap_or r DEFAULT_SHARDS) (s_is.0 ∙ ap number_in (one_text-rows found (codes "shards"))));
+      limit = ap (λ o. o.limit) same ∙ (l_is.0 ∙ ap number_in (one_text-rows found (codes "limit")));
+      stats = λ given. ap (λ o. o.stats) same ∙ on (one_text-rows found (codes "stats") ∙ given);
+      silent = λ given. ap (λ o. o.stats) same ∙ off (one_text-rows found (codes "stats") ∙ given);
     }
 
 -- Texts that differ at a place are not the same.
@@ -182,46 +189,91 @@ differ_at n m k xs ys left right differ same = differ (sym left ∙ (ap (λ t. s
 stats_is_not_shards : codes "stats" ≡ codes "shards" → ⊥
 stats_is_not_shards = differ_at 1 116 104 (codes "stats") (codes "shards") refl refl (λ e. absurd (omega arith))
 
+-- What a rule says of a number is what the argument takes.
+takes_it : (a : Arg) (name : List ℕ) (greatest : ℕ) → IsNumberOption name greatest a → a.value_parser ≡ Some (parsers.Unsigned 1 greatest)
+takes_it a name greatest is = ap (λ (r : Rule). r.parser) is.rule
+
+named : (a : Arg) (name : List ℕ) (greatest : ℕ) → IsNumberOption name greatest a → a.id.now ≡ name
+named a name greatest is = ap (λ (r : Rule). r.id) is.rule
+
+-- What the program's command line is made of.
+program_of : (c : Command) → app_of c ≡ with_rule (with_rule (with_rule (with_rule no_options (number_rule (codes "workers") MAX_WORKERS))
+    (number_rule (codes "shards") MAX_SHARDS)) (number_rule (codes "limit") MAX_LIMIT)) (flag_rule (codes "stats")) → app_of c ≡ program
+unfolding program
+program_of c is = is
+
+-- Its matches and its faults are those that can be computed.
+is_plain_enough : (is_simple program ≡ true) × (is_simple_and_free program ≡ true)
+unfolding program clap_on_literals
+is_plain_enough = (refl, refl)
+
+-- Where the words are taken, the options are those that they ask for.
+pub run_answers : (words : List Text) (c : Command) (m : ArgMatches) (o : Options) → IsCommandLine c → HasMatchesOf (app_of c) words m
+    → (is_simple_and_free (app_of c) ≡ true → fault_of (app_of c) words ≡ []) → AreAsked (rows_of (found_of m)) o → IsAnswerTo words (Run o)
+run_answers words c m o line matches fails asked =
+    let faults = fails (ap is_simple_and_free line.app ∙ is_plain_enough.1) in
+    let rows = (matches (ap is_simple line.app ∙ is_plain_enough.0)).0 in
+    (ap (λ a. fault_of a words) (sym line.app) ∙ faults, subst (λ r. AreAsked r o) (rows ∙ ap (λ a. matches_of a words) line.app) asked)
+
+help_is_not_memory : kinds.DisplayHelp ≡ kinds.OutOfMemory → ⊥
+help_is_not_memory same = cc
+
+-- Where they are not, help or a refusal is told by a fault that they have.
+pub other_answers : {E : Type 0} → (words : List Text) (c : Command) (e : Error) (r : Result Request E) → IsCommandLine c
+    → (is_simple_and_free (app_of c) ≡ true → HasKind (fault_of (app_of c) words) e) → AnswersKind (kind_of e) r → IfOk r (IsAnswerTo words)
+other_answers {E} words c e r line fails answers =
+    go r answers (subst (λ a. HasKind (fault_of a words) e) line.app (fails (ap is_simple_and_free line.app ∙ is_plain_enough.1)))
+  where
+    go : (r : Result Request E) → AnswersKind (kind_of e) r → HasKind (fault_of program words) e → IfOk r (IsAnswerTo words)
+    go (Ok (Run o)) answers kind = absurd answers
+    go (Ok (Help text)) answers (inl memory) = absurd (help_is_not_memory (sym answers ∙ memory))
+    go (Ok (Help text)) answers (inr among) = subst (λ k. IsAmong k (fault_of program words)) answers among
+    go (Ok (Refused text)) answers (inl memory) = absurd (answers.1 memory)
+    go (Ok (Refused text)) answers (inr among) = (kind_of e, answers.0, among)
+    go (Err fault) answers kind = tt
+
 -- A command to which the program's four options were added, one after another.
-pub line_of : (start first second third last : Command) (w s l t : Arg)
-    → args_of start ≡ [] → groups_of start ≡ [] → (out-Command start).has_globals ≡ false
+pub line_of : (start first second third last : Command) (w s l t : Arg) → IsBareLine start
     → AddsArg start w first → AddsArg first s second → AddsArg second l third → AddsArg third t last
     → IsNumberOption (codes "workers") MAX_WORKERS w → IsNumberOption (codes "shards") MAX_SHARDS s
-    → IsNumberOption (codes "limit") MAX_LIMIT l
-    → t.id.now ≡ codes "stats" → IsPlainArg t → t.global ≡ false → IsCommandLine last
-line_of start first second third last w s l t none no_groups own to_w to_s to_l to_t is_w is_s is_l id plain local =
-    let plain0 : IsPlain start = (subst (All IsPlainArg) (sym none) (All-nil IsPlainArg), no_groups) in
+    → IsNumberOption (codes "limit") MAX_LIMIT l → IsFlagOption (codes "stats") t → IsCommandLine last
+line_of start first second third last w s l t bare to_w to_s to_l to_t is_w is_s is_l is_t =
+    let plain0 : IsPlain start = (subst (All IsPlainArg) (sym bare.args) (All-nil IsPlainArg), bare.groups) in
     let plain1 = added_plain start first w to_w plain0 is_w.plain in
     let plain2 = added_plain first second s to_s plain1 is_s.plain in
     let plain3 = added_plain second third l to_l plain2 is_l.plain in
-    let own1 = own_after start first w to_w own is_w.own in
+    let own1 = own_after start first w to_w bare.own is_w.own in
     let own2 = own_after first second s to_s own1 is_s.own in
     let own3 = own_after second third l to_l own2 is_l.own in
+    let id = ap (λ (r : Rule). r.id) is_t.rule in
     record {
-      plain = added_plain third last t to_t plain3 plain;
-      own = own_after third last t to_t own3 local;
+      app = program_of last (to_t.shape is_t.own ∙ ap₂ with_rule (to_l.shape is_l.own ∙ ap₂ with_rule (to_s.shape is_s.own ∙ ap₂ with_rule
+          (to_w.shape is_w.own ∙ ap₂ with_rule bare.app is_w.rule) is_s.rule) is_l.rule) is_t.rule);
+      plain = added_plain third last t to_t plain3 is_t.plain;
+      own = own_after third last t to_t own3 is_t.own;
       workers = takes_push third last t (codes "workers") MAX_WORKERS to_t
           (takes_push second third l (codes "workers") MAX_WORKERS to_l
           (takes_push first second s (codes "workers") MAX_WORKERS to_s
-          (takes_push start first w (codes "workers") MAX_WORKERS to_w (takes_none start (codes "workers") MAX_WORKERS none) (λ is. is_w.parser))
-          (other_name s (codes "workers") MAX_WORKERS 115 119 (ap (λ n. slice_index n 0) is_s.id) refl (λ e. absurd (omega arith))))
-          (other_name l (codes "workers") MAX_WORKERS 108 119 (ap (λ n. slice_index n 0) is_l.id) refl (λ e. absurd (omega arith))))
+          (takes_push start first w (codes "workers") MAX_WORKERS to_w (takes_none start (codes "workers") MAX_WORKERS bare.args)
+          (λ is. takes_it w (codes "workers") MAX_WORKERS is_w))
+          (other_name s (codes "workers") MAX_WORKERS 115 119 (ap (λ n. slice_index n 0) (named s (codes "shards") MAX_SHARDS is_s)) refl (λ e. absurd (omega arith))))
+          (other_name l (codes "workers") MAX_WORKERS 108 119 (ap (λ n. slice_index n 0) (named l (codes "limit") MAX_LIMIT is_l)) refl (λ e. absurd (omega arith))))
           (other_name t (codes "workers") MAX_WORKERS 115 119 (ap (λ n. slice_index n 0) id) refl (λ e. absurd (omega arith)));
       shards = takes_push third last t (codes "shards") MAX_SHARDS to_t
           (takes_push second third l (codes "shards") MAX_SHARDS to_l
           (takes_push first second s (codes "shards") MAX_SHARDS to_s
-          (takes_push start first w (codes "shards") MAX_SHARDS to_w (takes_none start (codes "shards") MAX_SHARDS none)
-          (other_name w (codes "shards") MAX_SHARDS 119 115 (ap (λ n. slice_index n 0) is_w.id) refl (λ e. absurd (omega arith))))
-          (λ is. is_s.parser))
-          (other_name l (codes "shards") MAX_SHARDS 108 115 (ap (λ n. slice_index n 0) is_l.id) refl (λ e. absurd (omega arith))))
+          (takes_push start first w (codes "shards") MAX_SHARDS to_w (takes_none start (codes "shards") MAX_SHARDS bare.args)
+          (other_name w (codes "shards") MAX_SHARDS 119 115 (ap (λ n. slice_index n 0) (named w (codes "workers") MAX_WORKERS is_w)) refl (λ e. absurd (omega arith))))
+          (λ is. takes_it s (codes "shards") MAX_SHARDS is_s))
+          (other_name l (codes "shards") MAX_SHARDS 108 115 (ap (λ n. slice_index n 0) (named l (codes "limit") MAX_LIMIT is_l)) refl (λ e. absurd (omega arith))))
           (λ is. absurd (stats_is_not_shards (sym id ∙ is)));
       limit = takes_push third last t (codes "limit") MAX_LIMIT to_t
           (takes_push second third l (codes "limit") MAX_LIMIT to_l
           (takes_push first second s (codes "limit") MAX_LIMIT to_s
-          (takes_push start first w (codes "limit") MAX_LIMIT to_w (takes_none start (codes "limit") MAX_LIMIT none)
-          (other_name w (codes "limit") MAX_LIMIT 119 108 (ap (λ n. slice_index n 0) is_w.id) refl (λ e. absurd (omega arith))))
-          (other_name s (codes "limit") MAX_LIMIT 115 108 (ap (λ n. slice_index n 0) is_s.id) refl (λ e. absurd (omega arith))))
-          (λ is. is_l.parser))
+          (takes_push start first w (codes "limit") MAX_LIMIT to_w (takes_none start (codes "limit") MAX_LIMIT bare.args)
+          (other_name w (codes "limit") MAX_LIMIT 119 108 (ap (λ n. slice_index n 0) (named w (codes "workers") MAX_WORKERS is_w)) refl (λ e. absurd (omega arith))))
+          (other_name s (codes "limit") MAX_LIMIT 115 108 (ap (λ n. slice_index n 0) (named s (codes "shards") MAX_SHARDS is_s)) refl (λ e. absurd (omega arith))))
+          (λ is. takes_it l (codes "limit") MAX_LIMIT is_l))
           (other_name t (codes "limit") MAX_LIMIT 115 108 (ap (λ n. slice_index n 0) id) refl (λ e. absurd (omega arith)));
     }
   where

@@ -3,3 +3,4 @@ pub mod ReportLemmas
 pub mod JudgeLemmas
 pub mod PrintLemmas
 pub mod CommandLineLemmas
+pub mod CommandLineFacts

@@ -1,7 +1,9 @@
 -- What a user asks for (this project's own).
-use Rattle.std.specs.Prelude.{◌≡◌, ◌≢◌, Result, Ok, Err}
+use Rattle.std.specs.Prelude.{◌≡◌, ◌≢◌, List, [], Result, Ok, Err}
+use Rattle.clap.specs.Words.{Text, IsAmong, fault_of, matches_of}
 use Rattle.clap.specs.declared.error.kind.ErrorKind.{ErrorKind}
 use Rattle.clap.specs.declared.error.kind.ErrorKind.TheVariants as kinds
+use Rattle.lincheck.specs.CommandLine.{AreAsked, program}
 use Rattle.lincheck.specs.declared.request.Request.{Request}
 use Rattle.lincheck.specs.declared.request.Request.TheVariants.{Run, Help, Refused}
 
@@ -12,3 +14,10 @@ AnswersKind kind (Ok (Run options)) = ⊥
 AnswersKind kind (Ok (Help text)) = kind ≡ kinds.DisplayHelp
 AnswersKind kind (Ok (Refused text)) = (kind ≢ kinds.DisplayHelp) × (kind ≢ kinds.OutOfMemory)
 AnswersKind kind (Err e) = Unit {0}
+
+-- What is answered to the words: the options that they ask for where the program's command line takes them; help where
+-- that is what ends the reading of them; and a refusal where a fault does.
+abbrev pub IsAnswerTo : List Text → Request → Type 0
+IsAnswerTo words (Run options) = (fault_of program words ≡ []) × AreAsked (matches_of program words) options
+IsAnswerTo words (Help text) = IsAmong kinds.DisplayHelp (fault_of program words)
+IsAnswerTo words (Refused text) = (kind : ErrorKind) × (kind ≢ kinds.DisplayHelp) × IsAmong kind (fault_of program words)

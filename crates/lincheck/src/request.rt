@@ -1,9 +1,10 @@
 //! What the words after the program's name ask for.
-ghost use Rattle.std.specs.Prelude.{◌≤◌, IfOk};
-ghost use Rattle.clap.specs.Words.{found_of, kind_of};
-ghost use Rattle.lincheck.specs.CommandLine.{AreAsked, AreInRange, IsCommandLine, IsNumberOption};
-ghost use Rattle.lincheck.specs.Request.{AnswersKind};
+ghost use Rattle.std.specs.Prelude.{◌≡◌, ◌≤◌, IfOk, map, string_bytes};
+ghost use Rattle.clap.specs.Words.{found_of, kind_of, rows_of};
+ghost use Rattle.lincheck.specs.CommandLine.{AreAsked, AreInRange, IsBareLine, IsCommandLine, IsFlagOption, IsNumberOption};
+ghost use Rattle.lincheck.specs.Request.{AnswersKind, IsAnswerTo};
 
+use clap::builder::ValueParser;
 use clap::error::ErrorKind;
 use clap::{Arg, ArgAction, ArgMatches, Command, Error, value_parser};
 use lin_workers::{MAX_LIMIT, MAX_SHARDS, MAX_WORKERS, Options};
@@ -96,6 +97,14 @@ pub enum Request {
     Refused(String),
 }
 
+// What takes a number from 1 to the greatest, which is at most `MAX_LIMIT`.
+fn from_one<'a>(greatest: u64) -> ValueParser<'a>
+    requires { greatest ≤ MAX_LIMIT }
+    ensures { result ≡ ValueParser.Unsigned 1 greatest }
+{
+    value_parser!(u64).range(1..=greatest as i64)
+}
+
 // The option of this name, which takes a number from 1 to the greatest, which is at most `MAX_LIMIT`.
 fn number_option<'a>(alloc: Global, name: &'a str, greatest: u64, help: &'a str) -> Arg<'a>
     requires { greatest ≤ MAX_LIMIT }
@@ -104,33 +113,46 @@ fn number_option<'a>(alloc: Global, name: &'a str, greatest: u64, help: &'a str)
     Arg::new(alloc, name)
         .long(name)
         .value_name("N")
-        .value_parser(value_parser!(u64).range(1..=greatest as i64))
+        .value_parser(from_one(greatest))
         .help(help)
+}
+
+// The option of this name, which is given or not.
+fn flag_option<'a>(alloc: Global, name: &'a str, help: &'a str) -> Arg<'a>
+    ensures { IsFlagOption name.entry.now result }
+{
+    Arg::new(alloc, name)
+        .long(name)
+        .action(ArgAction::SetTrue)
+        .help(help)
+}
+
+// A command line without an option.
+fn bare_line<'a>(alloc: Global) -> Command<'a>
+    ensures { IsBareLine result }
+{
+    Command::new(alloc, "lincheck")
+        .no_binary_name(true)
+        .override_usage("lincheck [OPTIONS] < HISTORY")
+        .about(ABOUT)
+        .after_help(MANUAL)
 }
 
 // The command line of the program.
 fn command_line<'a>(alloc: Global) -> Result<Command<'a>, AllocError>
     ensures { IfOk result IsCommandLine }
 {
-    let stats = Arg::new(alloc, "stats")
-        .long("stats")
-        .action(ArgAction::SetTrue)
-        .help(STATS);
-    Command::new(alloc, "lincheck")
-        .no_binary_name(true)
-        .override_usage("lincheck [OPTIONS] < HISTORY")
-        .about(ABOUT)
-        .after_help(MANUAL)
+    bare_line(alloc)
         .arg(number_option(alloc, "workers", MAX_WORKERS, WORKERS))?
         .arg(number_option(alloc, "shards", MAX_SHARDS, SHARDS))?
         .arg(number_option(alloc, "limit", MAX_LIMIT, LIMIT))?
-        .arg(stats)
+        .arg(flag_option(alloc, "stats", STATS))
 }
 
 // The options that were asked for.
 fn options_asked(matches: &ArgMatches<'_>) -> Options
     requires { AreInRange (found_of matches.now) }
-    ensures { AreAsked (found_of matches.now) result }
+    ensures { AreAsked (rows_of (found_of matches.now)) result }
 {
     let workers = matches.get_one("workers").unwrap_or(DEFAULT_WORKERS);
     let shards = matches.get_one("shards").unwrap_or(DEFAULT_SHARDS);
@@ -157,7 +179,9 @@ fn answer_to(alloc: Global, error: &Error) -> Result<Request, AllocError>
 /// to `MAX_SHARDS`, 16), `--limit N` (1 to `MAX_LIMIT`, none), `--stats`, each at most once and in any order; or
 /// `--help`. Each number is read as a `u64`. Any other words are refused. The texts are `clap`'s. `AllocError` where memory
 /// was refused.
-pub fn options_of(alloc: Global, words: &[String]) -> Result<Request, AllocError> {
+pub fn options_of(alloc: Global, words: &[String]) -> Result<Request, AllocError>
+    ensures { IfOk result (IsAnswerTo (map string_bytes words.entry.now)) }
+{
     match command_line(alloc)?.try_get_matches_from(words) {
         Ok(matches) => Ok(Request::Run(options_asked(&matches))),
         Err(error) => answer_to(alloc, &error),

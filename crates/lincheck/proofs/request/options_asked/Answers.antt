@@ -15,5 +15,5 @@ returns c =
     c.get_one-2.ensures.none c.get_one-2.ensures.value (λ u x g. g.0) c.requires.shards)
     (number_read _ (λ bs r. ParsesUnsigned 64 10 bs r × ExplainsUnsignedError 10 bs r × HasUnsignedDigitsIfOk bs r) MAX_LIMIT _ c.get_one-limit.result
     c.get_one-limit.ensures.none c.get_one-limit.ensures.value (λ u x g. g.0) c.requires.limit)
-    c.unwrap_or-workers.ensures c.unwrap_or-shards.ensures c.get_flag.ensures.value c.get_flag.ensures.none
+    c.unwrap_or-workers.ensures c.unwrap_or-shards.ensures c.get_flag.ensures.value c.get_flag.ensures.other
     (sym c.new.ensures ∙ c.in-Ok.is)

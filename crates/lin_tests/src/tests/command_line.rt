@@ -1,0 +1,59 @@
+//! What the words after the program's name ask for, with ample memory.
+
+use lincheck::{Options, Request, options_of};
+use std::alloc::{AllocError, Global};
+
+// What these words ask for.
+fn request(alloc: Global, words: &[&str]) -> Result<Request, AllocError> {
+    let mut texts = Vec::with_capacity(alloc, words.len())?;
+    for word in words {
+        texts.push(String::from_str(alloc, word)?)?;
+    }
+    options_of(alloc, texts.as_slice())
+}
+
+// Whether they ask for a run with these options.
+fn runs(alloc: Global, words: &[&str], wanted: &Options) -> Result<bool, AllocError> {
+    Ok(matches!(&request(alloc, words)?, Request::Run(options) if options == wanted))
+}
+
+// Whether they are refused.
+fn is_refused(alloc: Global, words: &[&str]) -> Result<bool, AllocError> {
+    Ok(matches!(&request(alloc, words)?, Request::Refused(_)))
+}
+
+// Whether they are answered with help.
+fn is_helped(alloc: Global, words: &[&str]) -> Result<bool, AllocError> {
+    Ok(matches!(&request(alloc, words)?, Request::Help(_)))
+}
+
+const GREATEST: [&str; 7] = [
+    "--limit",
+    "1000000000000",
+    "--workers",
+    "64",
+    "--stats",
+    "--shards",
+    "256",
+];
+
+#[test]
+fn words_ask_for_a_run(rt: HostRuntime) {
+    let Ok(usual) = Options::new(4, 16, None, false) else {
+        unreachable!()
+    };
+    assert!(rt; matches!(runs(rt.alloc(), &[], &usual), Ok(true)));
+    let Ok(greatest) = Options::new(64, 256, Some(1_000_000_000_000), true) else {
+        unreachable!()
+    };
+    assert!(rt; matches!(runs(rt.alloc(), &GREATEST, &greatest), Ok(true)));
+}
+
+#[test]
+fn other_words_are_refused(rt: HostRuntime) {
+    assert!(rt; matches!(is_refused(rt.alloc(), &["--workers", "65"]), Ok(true)));
+    assert!(rt; matches!(is_refused(rt.alloc(), &["--shards", "257"]), Ok(true)));
+    assert!(rt; matches!(is_refused(rt.alloc(), &["--limit", "0"]), Ok(true)));
+    assert!(rt; matches!(is_refused(rt.alloc(), &["extra"]), Ok(true)));
+    assert!(rt; matches!(is_helped(rt.alloc(), &["--help"]), Ok(true)));
+}
