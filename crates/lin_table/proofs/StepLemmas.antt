@@ -1,10 +1,10 @@
 -- Each step keeps the rule of the shards.
-use Rattle.std.proofs.Common.{◌≡◌, ◌≢◌, Bool, ℕ, zero, suc, ◌+◌, ◌*◌, ◌<◌, ◌≤◌, List, [], ◌∷◌, ◌++◌, length, get_or, set, refl, sym, ap, ◌∙◌, subst, ⊎_elim, arith, length-append, length-set, get_or-set_same, cond, eqb, eq-eqb, ne_eqb, Option, Some, None, All, map, drop}
+use Rattle.std.proofs.Common.{◌≡◌, ◌≢◌, ℕ, zero, suc, ◌+◌, ◌*◌, ◌<◌, ◌≤◌, List, [], ◌∷◌, ◌++◌, length, get_or, set, refl, sym, ap, ◌∙◌, subst, ⊎_elim, arith, length-append, length-set, get_or-set_same, cond, eqb, eq-eqb, ne_eqb, Option, Some, None, All, map, drop}
 use mathlib.Core.Option.{Option as Maybe, none, some}
 use lib.ListN.{get_elem?}
 use Rattle.std.proofs.lemmas.List.{get_or-set_other}
 use Rattle.std.proofs.lemmas.Bool.{cases_eq}
-use Rattle.atomic_table.specs.Table.{Me, step, keeps, takes, gives, put_back, stepped, Allows}
+use Rattle.atomic_table.specs.Table.{Me, step, keeps, takes, gives, put_back, rest, stepped, Allows}
 use Rattle.atomic_table.proofs.Lists.{at_set, at_snoc, at_longer, at_last, set_again, set_here, set_else, exchanged}
 use Rattle.std.proofs.lemmas.List.Elements.{All-push, All-same}
 use Rattle.std.proofs.Math.Seq.{drop-append_seam}
@@ -20,15 +20,15 @@ use Rattle.lin_table.specs.declared.rule.Plan.{Plan}
 use Rattle.lin_table.specs.Home.{home_of}
 use Rattle.lin_table.specs.Totals.{once_below, one_if_same}
 use Rattle.lin_table.specs.Rule.{out_at, outs, named_by, names_of, Stands, Fits, IsHome, RuleHolds, KeepsRule, view}
-use Rattle.lin_table.specs.Steps.{with_out, with_none_out, with_entry, TakeTells, GiveBackTells, GiveMoreTells, added}
+use Rattle.lin_table.specs.Steps.{with_out, with_none_out, with_entry, with_added, TakeTells, GiveBackTells, GiveMoreTells, added, HasMore}
 use Rattle.lin_table.proofs.TotalLemmas.{total_set, total_at, total_append, one_where_same, none_where_other, once_more}
 
 pub some_same : {X : Type 0} {x y : X} → Some x ≡ Some y → x ≡ y
 some_same e = cc (e)
 
 -- a pair by its parts
-abbrev pub pair_of : {S : Type 0} → List Bool → S → Longest → Configuration S × Longest
-pair_of lifted state longest = (record { lifted = lifted; state = state }, longest)
+abbrev pub pair_of : {S : Type 0} → Configuration S → Longest → Configuration S × Longest
+pair_of config longest = (config, longest)
 
 same_word : (ws : List ℕ) (i : ℕ) → i < length ws → set ws i (get_or ws i 0) ≡ ws
 same_word [] i h = refl
@@ -140,9 +140,9 @@ module _ {O S A R : Type 0} where
       ))
       (cases_eq r 0)
 
-  pub gives_back : (a : Plan O S A R) (slots id : ℕ) (me : Me (Store O S A R) (View O S A R)) (i : ℕ) (y : Store O S A R) (rest : List (ℕ × Store O S A R)) → 0 < me.0.parts → me.1 ≡ (i, y) ∷ rest → Some y.problem ≡ me.0.problem → me.0.out ≡ Some (record { shard = i; pairs = y.pairs })
+  pub gives_back : (a : Plan O S A R) (slots id : ℕ) (me : Me (Store O S A R) (View O S A R)) (i : ℕ) (y : Store O S A R) (others : List (ℕ × Store O S A R)) → 0 < me.0.parts → me.1 ≡ (i, y) ∷ others → Some y.problem ≡ me.0.problem → me.0.out ≡ Some (record { shard = i; pairs = y.pairs })
       → Allows (KeepsRule a) slots id me i (λ _. 0) (λ _. GiveBackTells (step slots i 0 0 none) me 0)
-  gives_back a slots id me i y rest part holds theirs has s k len at small =
+  gives_back a slots id me i y others part holds theirs has s k len at small =
       let v : View O S A R = me.0 in
       let lists = k.0 in
       let h = k.1 in
@@ -235,32 +235,57 @@ module _ {O S A R : Type 0} where
               (cases_eq k i);
         }
 
-  -- what a shard with one pair more adds to its hand's entries
-  pub one_added : (i : ℕ) (out : Option (ShardOut O S A R)) (held : List (ℕ × Store O S A R)) (y : Store O S A R) (rest : List (ℕ × Store O S A R)) (old : List (Configuration S × Longest)) (q : Configuration S × Longest) → out ≡ Some (record { shard = i; pairs = old }) → held ≡ (i, y) ∷ rest → y.pairs ≡ old ++ q ∷ []
-      → added i out held ≡ record { shard = i; place = length old; config = q.0 } ∷ []
-  one_added i out held y rest old q has holds longer =
-      ap (λ (o : Option (ShardOut O S A R)). added i o held) has
-      ∙ ap (added i (Some (record { shard = i; pairs = old }))) holds
-      ∙ ap (map (λ (p : Configuration S × Longest). record { shard = i; place = length old; config = p.0 })) (ap (drop (length old)) longer ∙ drop-append_seam old (q ∷ []))
+  -- the entry of a pair that is stored behind these
+  abbrev pub entry_of : ℕ → List (Configuration S × Longest) → Configuration S × Longest → Entry O S A R
+  entry_of i old q = record { shard = i; place = length old; config = q.0 }
 
-  pub gives_more : (a : Plan O S A R) (slots id : ℕ) (me : Me (Store O S A R) (View O S A R)) (i : ℕ) (y : Store O S A R) (old : List (Configuration S × Longest)) (q : Configuration S × Longest) (rest : List (ℕ × Store O S A R)) → 0 < me.0.parts → me.1 ≡ (i, y) ∷ rest → Some y.problem ≡ me.0.problem
-      → me.0.out ≡ Some (record { shard = i; pairs = old }) → y.pairs ≡ old ++ q ∷ [] → home_of q.0.lifted a.shards ≡ i
+  -- what a shard with one pair more adds to its hand's entries
+  pub adds_one : (i shards : ℕ) (me : Me (Store O S A R) (View O S A R)) (more : HasMore i shards me) → with_added i me ≡ with_entry me.0 (entry_of i more.pairs more.pair)
+  adds_one i shards me more =
+      let v : View O S A R = me.0 in
+      let one : added i me.0.out me.1 ≡ entry_of i more.pairs more.pair ∷ [] =
+      ap (λ (o : Option (ShardOut O S A R)). added i o me.1) more.out
+      ∙ ap (added i (Some (record { shard = i; pairs = more.pairs }))) more.holds
+      ∙ ap (map (λ (p : Configuration S × Longest). entry_of i more.pairs p)) (ap (drop (length more.pairs)) more.longer ∙ drop-append_seam more.pairs (more.pair ∷ [])) in
+      ap (λ (l : List (Entry O S A R)). view v.problem v.parts (v.entries ++ l) None) one
+
+  pub gives_more : (a : Plan O S A R) (slots id : ℕ) (me : Me (Store O S A R) (View O S A R)) (i : ℕ) → 0 < me.0.parts → HasMore i a.shards me
       → Allows (KeepsRule a) slots id me i (λ _. 0) (λ _. GiveMoreTells (step slots i 0 0 none) me 0)
-  gives_more a slots id me i y old q rest part holds theirs has longer home s k len at small =
+  gives_more a slots id me i part more s k len at small =
       let v : View O S A R = me.0 in
       let h = k.1 in
       let mine = (h.each id v at).problem_is part in
-      let e : Entry O S A R = record { shard = i; place = length old; config = q.0 } in (
+      let e : Entry O S A R = entry_of i more.pairs more.pair in (
         with_entry v e,
         gives,
         tt,
         (
-          (λ m. cond (eqb m i) (old ++ q ∷ []) (k.0 m)),
-          subst (λ (c : List (ℕ × Store O S A R)). RuleHolds a.problem.now a.shards a.hands (set s.words i 0) (put_back s.homes c) (set s.views id (with_entry v e)) (λ m. cond (eqb m i) (old ++ q ∷ []) (k.0 m))) (sym holds)
-              (more_holds a.problem.now a.shards a.hands s.words s.homes s.views k.0 h id v at i old q part has y (some_same (theirs ∙ mine)) longer home),
+          (λ m. cond (eqb m i) (more.pairs ++ more.pair ∷ []) (k.0 m)),
+          subst (λ (c : List (ℕ × Store O S A R)). RuleHolds a.problem.now a.shards a.hands (set s.words i 0) (put_back s.homes c) (set s.views id (with_entry v e)) (λ m. cond (eqb m i) (more.pairs ++ more.pair ∷ []) (k.0 m))) (sym more.holds)
+              (more_holds a.problem.now a.shards a.hands s.words s.homes s.views k.0 h id v at i more.pairs more.pair part more.out more.now (some_same (more.problem_is ∙ mine)) more.longer more.home),
         ),
-        (ap (λ (l : List (Entry O S A R)). view v.problem v.parts (v.entries ++ l) None) (sym (one_added i me.0.out me.1 y rest old q has holds longer)), refl),
+        (sym (adds_one i a.shards me more), refl),
       )
+
+  -- a hand that has added a pair to the shard that it has out
+  pub has_more : (i shards : ℕ) (me : Me (Store O S A R) (View O S A R)) (y now : Store O S A R) (q : Configuration S × Longest) → me.1 ≡ (i, y) ∷ [] → Some y.problem ≡ me.0.problem → me.0.out ≡ Some (record { shard = i; pairs = y.pairs })
+      → now.problem ≡ y.problem → now.pairs ≡ y.pairs ++ q ∷ [] → home_of q.0.lifted shards ≡ i → HasMore i shards (me.0, (i, now) ∷ rest me.1)
+  has_more i shards me y now q holds theirs has same longer home = record {
+    now = now;
+    pairs = y.pairs;
+    pair = q;
+    holds = ap (λ (l : List (ℕ × Store O S A R)). (i, now) ∷ rest l) holds;
+    problem_is = ap Some same ∙ theirs;
+    out = has;
+    longer = longer;
+    home = home;
+  }
+
+  -- and what that adds to its entries
+  pub adds_pair : (i shards : ℕ) (me : Me (Store O S A R) (View O S A R)) (y now : Store O S A R) (q : Configuration S × Longest) → me.1 ≡ (i, y) ∷ [] → Some y.problem ≡ me.0.problem → me.0.out ≡ Some (record { shard = i; pairs = y.pairs })
+      → now.problem ≡ y.problem → now.pairs ≡ y.pairs ++ q ∷ [] → home_of q.0.lifted shards ≡ i → with_added i (me.0, (i, now) ∷ rest me.1) ≡ with_entry me.0 (entry_of i y.pairs q)
+  unfolding has_more
+  adds_pair i shards me y now q holds theirs has same longer home = adds_one i shards (me.0, (i, now) ∷ rest me.1) (has_more i shards me y now q holds theirs has same longer home)
 
   abbrev pub value_at : Store O S A R → List (ℕ × Store O S A R) → Store O S A R
   value_at d [] = d

@@ -7,7 +7,8 @@ use Rattle.lin_search.specs.Store.{Store}
 use Rattle.lin_table.specs.declared.rule.Entry.{Entry}
 use Rattle.lin_table.specs.declared.rule.ShardOut.{ShardOut}
 use Rattle.lin_table.specs.declared.rule.View.{View}
-use Rattle.lin_table.specs.Rule.{view}
+use Rattle.lin_table.specs.Home.{home_of}
+use Rattle.lin_table.specs.Rule.{Pairs, view}
 
 -- a hand's view, and the shards that it has out
 abbrev pub Holder : Type 0 → Type 0 → Type 0 → Type 0 → Type 0
@@ -42,9 +43,13 @@ module _ {O S A R : Type 0} where
   added k None cs = []
   added k (Some o) [] = []
 
+  -- with the entries of the pairs that the shard has more than when it was taken, and no shard out
+  abbrev pub with_added : ℕ → Holder O S A R → View O S A R
+  with_added k me = view me.0.problem me.0.parts (me.0.entries ++ added k me.0.out me.1) None
+
   -- the shard is home with one pair more, which the view lists now
   abbrev pub GiveMoreTells : Step (Store O S A R) → Holder O S A R → ℕ → Holder O S A R → Type 0
-  GiveMoreTells step before number after = (after.0 ≡ view before.0.problem before.0.parts (before.0.entries ++ added step.word before.0.out before.1) None) × (after.1 ≡ rest before.1)
+  GiveMoreTells step before number after = (after.0 ≡ with_added step.word before) × (after.1 ≡ rest before.1)
 
   -- what is left of a view when one part goes to a new hand
   abbrev pub one_part_less : View O S A R → View O S A R
@@ -65,3 +70,14 @@ module _ {O S A R : Type 0} where
 -- the hand has taken this shard out, and has no other: it names the view's problem, and the view has its pairs
 abbrev pub HasOut : {O S A R : Type 0} → ℕ → Holder O S A R → Holder O S A R → Type 0
 HasOut {O} {S} {A} {R} shard before after = (y : Store O S A R) × (after.1 ≡ (shard, y) ∷ before.1) × (Some y.problem ≡ before.0.problem) × (after.0 ≡ with_out before.0 (record { shard = shard; pairs = y.pairs }))
+
+-- the hand has this shard out, which has one pair more than when it was taken, of a configuration whose home it is
+pub record HasMore {O S A R : Type 0} (shard shards : ℕ) (me : Holder O S A R) : Type 0 where
+  pub now : Store O S A R
+  pub pairs : Pairs S
+  pub pair : Configuration S × Longest
+  pub holds : me.1 ≡ (shard, now) ∷ []
+  pub problem_is : Some now.problem ≡ me.0.problem
+  pub out : me.0.out ≡ Some (record { shard = shard; pairs = pairs })
+  pub longer : now.pairs ≡ pairs ++ pair ∷ []
+  pub home : home_of pair.0.lifted shards ≡ shard

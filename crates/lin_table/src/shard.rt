@@ -8,7 +8,7 @@ ghost use Rattle.lin_search.specs.Store.{Holds, IsNoted, IsStore};
 
 use lin_history::Problem;
 use lin_object::SeqObject;
-use lin_search::{CallSet, Config, Longest, Memo, Noted, OwnMemo, Refutation};
+use lin_search::{Config, Longest, Memo, Noted, OwnMemo, Refutation};
 use std::alloc::{AllocError, Global};
 use std::marker::Model;
 
@@ -83,23 +83,17 @@ impl<'p, O: SeqObject> Shard<'p, O> {
     }
 
     // `add` for a problem that is the same as the shard's: nothing is compared.
-    pub(crate) fn add_here(
-        &mut self,
-        problem: &Problem<O>,
-        lifted: CallSet,
-        state: O::State,
-        longest: Longest,
-    ) -> Noted
-        requires here { SameProblem O.eq O.State.eq O.Op.eq O.Reply.eq self.old.problem
-            problem.now }
-        requires refuted { IsRefutedWith (problem_of O.after O.State.eq O.Reply.eq problem.now)
-            lifted state longest }
+    pub(crate) fn add_here(&mut self, refutation: Refutation<'_, O>) -> Noted
+        requires { SameProblem O.eq O.State.eq O.Op.eq O.Reply.eq self.old.problem
+            refutation.problem }
         ensures problem { self.new.problem ≡ self.old.problem }
         ensures new { result ≡ Noted.New → self.new.pairs ≡ self.old.pairs
-            ++ (record { lifted = lifted; state = state }, longest) ∷ [] }
+            ++ (refutation.entry.config, refutation.entry.longest) ∷ [] }
         ensures same { result ≢ Noted.New → self.new ≡ self.old }
         ensures own { result ≢ Noted.Stranger }
     {
+        let (problem, config, longest) = refutation.into_parts();
+        let (lifted, state) = config.into_parts();
         self.memo.note_here(problem, lifted, state, longest)
     }
 }

@@ -5,14 +5,14 @@ ghost use Rattle.lin_history.specs.Problems.Problem.{problem_of};
 ghost use Rattle.lin_history.specs.Problems.SameProblem.{SameProblem};
 ghost use Rattle.lin_search.specs.Refutation.{IsRefutedWith};
 ghost use Rattle.lin_table.specs.Home.{home_of};
-ghost use Rattle.lin_table.specs.Steps.{HasOut, with_out, with_none_out, with_entry};
+ghost use Rattle.lin_table.specs.Steps.{HasOut, HasMore, with_out, with_none_out, with_entry, with_added};
 
 use crate::rule::{GiveBackStep, GiveMoreStep, Plan, ShardRule, TakeStep, View};
 use crate::shard::Shard;
 use atomic_table::{Seat, Shared};
 use lin_history::Problem;
 use lin_object::SeqObject;
-use lin_search::{CallSet, Config, Longest, Noted};
+use lin_search::{Config, Longest, Noted, Refutation};
 
 /// What all hands of a table share: a word and a place for each shard.
 pub(crate) type Shards<'p, O> = Shared<Shard<'p, O>, View<O>, Plan<'p, O>, ShardRule>;
@@ -83,15 +83,27 @@ pub(crate) fn look_out<'p, O: SeqObject>(
     it.look_here(problem, config)
 }
 
-/// Adds a pair to the shard that is out, and gives it back.
+/// Gives back the shard that is out, which has one pair more than when it was taken, of a configuration whose home it is.
+pub(crate) fn give_more<'p, O: SeqObject>(
+    shards: &Shards<'p, O>,
+    token: &mut Token<'p, O>,
+    shard: usize,
+)
+    requires table { (token.old.table_id ≡ shards.now.table_id)
+        × (shard < shards.now.table_id.words) × (0 < token.old.me.0.parts) }
+    requires out { HasMore shard shards.now.key.shards token.old.me }
+    ensures table { token.new.table_id ≡ token.old.table_id }
+    ensures me { token.new.me ≡ (with_added shard token.old.me, []) }
+{
+    shards.store::<GiveMoreStep>(token, shard, 0);
+}
+
+/// Adds a refutation to the shard that is out, and gives it back.
 pub(crate) fn note_out<'p, O: SeqObject>(
     shards: &Shards<'p, O>,
     token: &mut Token<'p, O>,
     shard: usize,
-    problem: &Problem<O>,
-    lifted: CallSet,
-    state: O::State,
-    longest: Longest,
+    refutation: Refutation<'_, O>,
 ) -> Noted
     requires table { (token.old.table_id ≡ shards.now.table_id)
         × (shard < shards.now.table_id.words) × (0 < token.old.me.0.parts) }
@@ -99,23 +111,21 @@ pub(crate) fn note_out<'p, O: SeqObject>(
         × (Some y.problem ≡ token.old.me.0.problem)
         × (token.old.me.0.out ≡ Some (record { shard = shard; pairs = y.pairs })) }
     requires here { (own : _) × (token.old.me.0.problem ≡ Some own)
-        × SameProblem O.eq O.State.eq O.Op.eq O.Reply.eq own problem.now }
-    requires refuted { IsRefutedWith (problem_of O.after O.State.eq O.Reply.eq problem.now) lifted
-        state longest }
-    requires home { home_of lifted shards.now.key.shards ≡ shard }
+        × SameProblem O.eq O.State.eq O.Op.eq O.Reply.eq own refutation.problem }
+    requires home { home_of refutation.config.lifted shards.now.key.shards ≡ shard }
     ensures table { token.new.table_id ≡ token.old.table_id }
     ensures empty { token.new.me.1 ≡ [] }
     ensures new { result ≡ Noted.New → (p : ℕ) × (token.new.me.0 ≡ with_entry token.old.me.0
-        (record { shard = shard; place = p; config = record { lifted = lifted; state = state } })) }
+        (record { shard = shard; place = p; config = refutation.entry.config })) }
     ensures same { result ≢ Noted.New → token.new.me.0 ≡ with_none_out token.old.me.0 }
     ensures own { result ≢ Noted.Stranger }
 {
     let it = token.slot_mut(&*shards, shard);
-    let noted = it.add_here(problem, lifted, state, longest);
+    let noted = it.add_here(refutation);
     if noted == Noted::New {
-        shards.store::<GiveMoreStep>(token, shard, 0);
+        give_more(&*shards, &mut *token, shard);
     } else {
-        shards.store::<GiveBackStep>(token, shard, 0);
+        give_back(&*shards, &mut *token, shard);
     }
     noted
 }
@@ -148,42 +158,29 @@ pub(crate) fn look_in<'p, O: SeqObject>(
     found
 }
 
-/// Adds a pair to this shard, which is its configuration's home. `Busy` where the shard was not got.
+/// Adds a refutation to this shard, which is its configuration's home. `Busy` where the shard was not got.
 pub(crate) fn note_in<'p, O: SeqObject>(
     shards: &Shards<'p, O>,
     token: &mut Token<'p, O>,
     shard: usize,
-    problem: &Problem<O>,
-    lifted: CallSet,
-    state: O::State,
-    longest: Longest,
+    refutation: Refutation<'_, O>,
 ) -> Noted
     requires table { (token.old.table_id ≡ shards.now.table_id)
         × (shard < shards.now.table_id.words) × (shard < shards.now.key.shards) }
     requires free { (0 < token.old.me.0.parts) × (token.old.me.0.out ≡ None)
         × (token.old.me.1 ≡ []) }
     requires here { (own : _) × (token.old.me.0.problem ≡ Some own)
-        × SameProblem O.eq O.State.eq O.Op.eq O.Reply.eq own problem.now }
-    requires refuted { IsRefutedWith (problem_of O.after O.State.eq O.Reply.eq problem.now) lifted
-        state longest }
-    requires home { home_of lifted shards.now.key.shards ≡ shard }
+        × SameProblem O.eq O.State.eq O.Op.eq O.Reply.eq own refutation.problem }
+    requires home { home_of refutation.config.lifted shards.now.key.shards ≡ shard }
     ensures table { token.new.table_id ≡ token.old.table_id }
     ensures empty { token.new.me.1 ≡ [] }
     ensures new { result ≡ Noted.New → (p : ℕ) × (token.new.me.0 ≡ with_entry token.old.me.0
-        (record { shard = shard; place = p; config = record { lifted = lifted; state = state } })) }
+        (record { shard = shard; place = p; config = refutation.entry.config })) }
     ensures same { result ≢ Noted.New → token.new.me.0 ≡ token.old.me.0 }
     ensures own { result ≢ Noted.Stranger }
 {
     if !take_out(&*shards, &mut *token, shard) {
         return Noted::Busy;
     }
-    note_out(
-        &*shards,
-        &mut *token,
-        shard,
-        problem,
-        lifted,
-        state,
-        longest,
-    )
+    note_out(&*shards, &mut *token, shard, refutation)
 }

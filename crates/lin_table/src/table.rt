@@ -181,12 +181,20 @@ impl<'p, O: SeqObject> Table<'p, O> {
         Ok(stored)
     }
 
-    // The shard of this number, counted round.
-    fn shard_of(&self, sum: u64) -> usize
-        ensures bound { result < self.now.shards }
-        ensures is { result ≡ sum % self.now.shards }
+    // Whether the table's problem is the same as this one.
+    fn is_for(&self, problem: &Problem<O>) -> bool
+        ensures { IsTrue result
+            ↔ SameProblem O.eq O.State.eq O.Op.eq O.Reply.eq self.now.problem problem.now }
     {
-        (sum % self.shards) as usize
+        self.problem.same(problem)
+    }
+
+    // The number of the shard that is the configuration's home.
+    fn home(&self, config: &Config<O>) -> usize
+        ensures bound { result < self.now.shards }
+        ensures is { result ≡ home_of config.now.lifted self.now.shards }
+    {
+        (config.sum() % self.shards) as usize
     }
 
     /// `look` for a problem that is the `same` as the table's: nothing is compared.
@@ -206,7 +214,7 @@ impl<'p, O: SeqObject> Table<'p, O> {
             config.now.state longest) }
         ensures hand { hand.new ≡ hand.old }
     {
-        let shard = self.shard_of(config.sum());
+        let shard = self.home(config);
         let mut token = mem::replace(&mut hand.badge, Badge::blank()).into_seat();
         let found = look_in(&self.inner.shared, &mut token, shard, problem, config);
         hand.badge = token.into_badge();
@@ -230,50 +238,55 @@ impl<'p, O: SeqObject> Table<'p, O> {
             config.now.state longest) }
         ensures hand { hand.new ≡ hand.old }
     {
-        if self.problem.same(problem) {
+        if self.is_for(problem) {
             self.look_here(hand, problem, config)
         } else {
             None
         }
     }
 
-    // Stores a pair in its home, with a hand that has not stored too much.
-    fn store(
-        &self,
-        hand: &mut Hand<O>,
-        problem: &Problem<O>,
-        lifted: CallSet,
-        state: O::State,
-        longest: Longest,
-    ) -> Noted
+    // Stores a refutation in its home, with a hand that has not stored too much.
+    fn store(&self, hand: &mut Hand<O>, refutation: Refutation<'_, O>) -> Noted
         requires hand { IsHandOf self.now hand.old }
         requires room { length hand.old.entries < MAX_STORED }
         requires here { SameProblem O.eq O.State.eq O.Op.eq O.Reply.eq self.now.problem
-            problem.now }
-        requires refuted { IsRefutedWith (problem_of O.after O.State.eq O.Reply.eq problem.now)
-            lifted state longest }
-        ensures new { result ≡ Noted.New → HasStored hand.old (home_of lifted self.now.shards)
-            (record { lifted = lifted; state = state }) hand.new }
+            refutation.problem }
+        ensures new { result ≡ Noted.New → HasStored hand.old
+            (home_of refutation.entry.config.lifted self.now.shards) refutation.entry.config
+            hand.new }
         ensures same { result ≢ Noted.New → hand.new ≡ hand.old }
         ensures came { IsHandOf self.now hand.new }
         ensures own { result ≢ Noted.Stranger }
     {
-        let shard = self.shard_of(lifted.sum());
+        let shard = self.home(refutation.config());
         let mut token = mem::replace(&mut hand.badge, Badge::blank()).into_seat();
-        let noted = note_in(
-            &self.inner.shared,
-            &mut token,
-            shard,
-            problem,
-            lifted,
-            state,
-            longest,
-        );
+        let noted = note_in(&self.inner.shared, &mut token, shard, refutation);
         if noted == Noted::New {
             hand.count += 1;
         }
         hand.badge = token.into_badge();
         noted
+    }
+
+    // `note` for a problem that is the same as the table's: nothing is compared.
+    fn keep(&self, hand: &mut Hand<O>, refutation: Refutation<'_, O>) -> Noted
+        requires hand { IsHandOf self.now hand.old }
+        requires here { SameProblem O.eq O.State.eq O.Op.eq O.Reply.eq self.now.problem
+            refutation.problem }
+        ensures new { result ≡ Noted.New → HasStored hand.old
+            (home_of refutation.entry.config.lifted self.now.shards) refutation.entry.config
+            hand.new }
+        ensures same { result ≢ Noted.New → hand.new ≡ hand.old }
+        ensures came { IsHandOf self.now hand.new }
+        ensures own { result ≢ Noted.Stranger }
+    {
+        if hand.has_room() {
+            return self.store(hand, refutation);
+        }
+        match self.look_here(hand, refutation.problem(), refutation.config()) {
+            Some(_) => Noted::Known,
+            None => Noted::NoRoom,
+        }
     }
 
     /// `note` for a problem that is the `same` as the table's, by the parts of a refutation: nothing is compared.
@@ -298,14 +311,8 @@ impl<'p, O: SeqObject> Table<'p, O> {
         ensures came { IsHandOf self.now hand.new }
         ensures own { result ≢ Noted.Stranger }
     {
-        if hand.has_room() {
-            return self.store(hand, problem, lifted, state, longest);
-        }
         let config = Config::from_parts(lifted, state);
-        match self.look_here(hand, problem, &config) {
-            Some(_) => Noted::Known,
-            None => Noted::NoRoom,
-        }
+        self.keep(hand, Refutation::new(problem, config, longest))
     }
 
     /// Hands a refutation to the table, which keeps it in its home. `Stranger` exactly where the table's problem is
@@ -325,11 +332,10 @@ impl<'p, O: SeqObject> Table<'p, O> {
             ↔ (SameProblem O.eq O.State.eq O.Op.eq O.Reply.eq self.now.problem
             refutation.entry.problem → ⊥) }
     {
-        let (problem, config, longest) = refutation.into_parts();
-        if !self.problem.same(problem) {
+        let problem = refutation.problem();
+        if !self.is_for(problem) {
             return Noted::Stranger;
         }
-        let (lifted, state) = config.into_parts();
-        self.note_here(hand, problem, lifted, state, longest)
+        self.keep(hand, refutation)
     }
 }

@@ -12,5 +12,8 @@ note_out-requires-clause-here g c =
     let here = c.requires.here in
     (here.0, ap (λ v. v.problem) t.3 ∙ here.1, here.2)
 
+pub note_out-requires-clause-home : goal.note_out-requires-clause-home
+note_out-requires-clause-home g c = c.requires.home
+
 pub returns-then-not-take_out-clause-new : goal.returns-then-not-take_out-clause-new
 returns-then-not-take_out-clause-new g c = λ is. absurd (cc (is))

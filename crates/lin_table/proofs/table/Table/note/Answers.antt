@@ -1,8 +1,9 @@
-use Rattle.std.proofs.Common.{refl, rules}
+use Rattle.std.proofs.Common.{refl}
+use Rattle.std.proofs.lemmas.Bool.{iff_false}
 use Rattle.lin_table.proofs.table.Table.note.Goals as goal
 
-pub note_here-requires-clause-here : goal.note_here-requires-clause-here
-note_here-requires-clause-here g c = search rules depth 3
+pub keep-requires-clause-here : goal.keep-requires-clause-here
+keep-requires-clause-here g c = rw c.problem-problem.ensures at (c.is_for.ensures.0 c.if-not-is_for.false)
 
-pub returns-then-not-same-clause-stranger : goal.returns-then-not-same-clause-stranger
-returns-then-not-same-clause-stranger g c = (search rules depth 3, λ _. refl)
+pub returns-then-not-is_for-clause-stranger : goal.returns-then-not-is_for-clause-stranger
+returns-then-not-is_for-clause-stranger g c = (λ _ same. iff_false c.is_for.ensures c.if-not-is_for.true (rw c.problem-problem.ensures same), λ _. refl)

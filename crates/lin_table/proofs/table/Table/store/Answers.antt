@@ -1,5 +1,6 @@
 use Rattle.std.proofs.Common.{rules, length, sym, ap, ◌∙◌}
 use Rattle.lin_table.specs.Hand.{facts_of}
+use Rattle.lin_table.specs.Home.{home_of}
 use Rattle.lin_table.proofs.HandLemmas.{free_still, free_with_entry}
 use Rattle.lin_table.proofs.table.Table.store.Goals as goal
 use Rattle.lin_table.proofs.table.Table.store.Goals.{then-eq, else-eq}
@@ -28,4 +29,5 @@ note_in-noted-requires-clause-here g c =
     (c.args.self.now.problem, ap (λ views. (facts_of c.hand.inside.badge.table_id views).problem) mine ∙ ap (λ h. h.problem) c.hand.view_is ∙ c.requires.hand.1, c.requires.here)
 
 pub note_in-noted-requires-clause-home : goal.note_in-noted-requires-clause-home
-note_in-noted-requires-clause-home g c = search rules depth 3
+note_in-noted-requires-clause-home g c =
+    ap (home_of c.args.refutation.config.lifted) (c.self.invariant.1 ∙ ap (λ t. t.shards) c.self.view_is) ∙ sym (c.home-shard.ensures.is ∙ ap (λ x. home_of x.lifted c.args.self.now.shards) c.config.ensures)
