@@ -7,3 +7,6 @@ keep-requires-clause-here g c = rw c.problem-problem.ensures at (c.is_for.ensure
 
 pub returns-then-not-is_for-clause-stranger : goal.returns-then-not-is_for-clause-stranger
 returns-then-not-is_for-clause-stranger g c = (λ _ same. iff_false c.is_for.ensures c.if-not-is_for.true (rw c.problem-problem.ensures same), λ _. refl)
+
+pub returns-clause-stranger : goal.returns-clause-stranger
+returns-clause-stranger g c = (λ is. absurd (c.keep.ensures.own is), λ no. absurd (no (rw c.problem-problem.ensures at (c.is_for.ensures.0 c.if-not-is_for.false))))
