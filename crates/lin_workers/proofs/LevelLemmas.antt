@@ -20,8 +20,8 @@ use Rattle.lin_search.specs.FirstCallLemmas.{continuation_split, next_within, ne
 use Rattle.lin_search.specs.AlikeLemmas.{AreAlike, turned}
 use Rattle.lin_workers.specs.Cut.{LeadsTo, IsAtLevel, Task, IsTask, AreTasks, IsBeforeEach, AreInOrder, configurations_of, AreLevel, HasNoComplete}
 use Rattle.lin_workers.specs.NextLevel.{IsTried, AreChildren, IsFilled}
-use Rattle.lin_workers.proofs.RunLemmas.{flags_of, leads_next, leads_last, leads_equal, leads_reachable, step_alike}
-use Rattle.lin_workers.proofs.PathLemmas.{up_to_chain, up_to_last, up_to_call, last_same, last_of}
+use Rattle.lin_workers.proofs.RunLemmas.{some_once, flags_of, leads_next, leads_last, leads_equal, leads_reachable, step_alike}
+use Rattle.lin_workers.proofs.PathLemmas.{up_to_chain, up_to_last, up_to_call, up_to_parts, last_same, last_of}
 
 -- how many calls a set has
 abbrev pub many : List Bool → ℕ
@@ -63,9 +63,6 @@ module _ {State Op Reply : Type 0} (p : Problem State Op Reply) where
       let f : lifted_set p l ≡ lifted_set p m = sym x.calls ∙ (e ∙ y.calls) in
       let g : many (lifted_set p l) ≡ many (lifted_set p m) = ap many f in
       omega (arith, n, o, g)
-
-some_once : {X : Type 0} (m : Option X) (a b : X) → m ≡ Some a → m ≡ Some b → a ≡ b
-some_once m a b x y = cc
 
 -- an item of a list, by its index
 pub item_at : {X : Type 0} (xs : List X) (i : ℕ) (x : X) → i < length xs → x ≡ get_or xs i x → slice_get xs i ≡ Some x
@@ -315,10 +312,7 @@ module _ {State Op Reply : Type 0} (p : Problem State Op Reply) where
         long_path = (parent_is k parents i c ts q t n).calls
 
         up_to_end : (a b : List ℕ) (x y : ℕ) → length a ≡ length b → IsUpTo a b → x ≤ y → IsUpTo (a ++ x ∷ []) (b ++ y ∷ [])
-        up_to_end [] [] x y e k h = up_to_call [] x y h
-        up_to_end [] (j ∷ b) x y e k h = absurd (omega (arith, e))
-        up_to_end (i ∷ a) [] x y e k h = absurd k
-        up_to_end (i ∷ a) (j ∷ b) x y e k h = elim k [ inl u ↦ inl u | inr u ↦ inr (u.0, up_to_end a b x y (omega (arith, e)) u.1 h) ]
+        up_to_end a b x y e k h = up_to_parts a b (x ∷ []) (y ∷ []) e k (λ same. up_to_call [] x y h)
 
         same_parent : (f : IsFrom k parents m (with_call q.config.lifted c) t) → (f.index ≡ i) × (c ≤ f.call) → IsUpTo (q.path ++ c ∷ []) (f.front ++ f.call ∷ [])
         same_parent f x =

@@ -1,7 +1,7 @@
 -- The outcomes of the tasks, place by place.
-use Rattle.std.proofs.Common.{◌≡◌, ℕ, zero, suc, ◌+◌, ◌<◌, ◌≤◌, Option, Some, None, List, [], ◌∷◌, ◌++◌, length, slice_index_or, slice_set, take, ◌⊎◌, inl, inr, refl, sym, ◌∙◌, ap, subst, arith, replicate}
+use Rattle.std.proofs.Common.{◌≡◌, ℕ, zero, suc, ◌<◌, Option, Some, None, List, [], ◌∷◌, ◌++◌, length, slice_index_or, slice_set, take, ◌⊎◌, inl, inr, refl, ◌∙◌, ap, subst, arith, replicate}
 use Rattle.std.specs.Prelude.{Contains, IfSome, slice_get}
-use Rattle.std.proofs.lemmas.List.{length-replicate}
+use Rattle.std.proofs.lemmas.List.{length-replicate, length-set}
 use Rattle.lin_history.specs.Problems.Problem.{Problem}
 use Rattle.lin_search.specs.declared.outcome.Outcome.{Outcome}
 use Rattle.lin_search.specs.declared.outcome.Outcome.TheVariants.{Found, Refuted, Undecided, Stopped}
@@ -11,6 +11,7 @@ use Rattle.lin_workers.specs.Cut.{Task}
 use Rattle.lin_workers.specs.Heard.{IsTold}
 use Rattle.lin_workers.specs.Values.{IsValue, AreValues}
 use Rattle.lin_workers.specs.Outcomes.{WasNotStopped, AreOutcomes, ArePlaced}
+use Rattle.lin_workers.proofs.RunLemmas.{some_once}
 
 abbrev nothing : Option Outcome
 nothing = None
@@ -50,31 +51,51 @@ module _ {State Op Reply : Type 0} (p : Problem State Op Reply) (limit : Option 
       | inr q ↦ (
           let c = q.0 in
           let v = value_at p ts limit seat vs (i, o) c.0 c.1 c.2 values in
-          let same = one_task (slice_get ts i) v.task t v.at at in
+          let same = some_once (slice_get ts i) v.task t v.at at in
           not_stopped t (IsTold i seat) o q.1 (subst (λ (u : Task State). IsAnswer p u.config.lifted u.config.state limit (IsTold i seat) o) same v.answer)
           )
     ];
   }
-    where
-      one_task : (m : Option (Task State)) (a b : Task State) → m ≡ Some a → m ≡ Some b → a ≡ b
-      one_task m a b x y = cc
 
 only : (v w : ℕ × Outcome) (k : ℕ) → k < 1 → slice_index_or (v ∷ []) k w ≡ w → v ≡ w
 only v w zero h e = e
 only v w (suc k) h e = absurd (omega (arith, h))
 
--- what was put at a place, where no outcome was put
-pub none_put : (os : List (Option Outcome)) (i j : ℕ) (o : Outcome) → slice_get (slice_set os i nothing) j ≡ Some (Some o) → slice_get os j ≡ Some (Some o)
-none_put [] i j o h = absurd (cc)
-none_put (x ∷ os) zero zero o h = absurd (cc)
-none_put (x ∷ os) zero (suc j) o h = h
-none_put (x ∷ os) (suc i) zero o h = h
-none_put (x ∷ os) (suc i) (suc j) o h = none_put os i j o h
+-- an outcome that is none of a search that was stopped
+pub by_not_stopped : (o : Outcome) → ((told : ℕ) → o ≡ Stopped told → ⊥) → WasNotStopped o
+by_not_stopped (Found order) h = tt
+by_not_stopped (Refuted longest) h = tt
+by_not_stopped Undecided h = tt
+by_not_stopped (Stopped told) h = h told refl
 
-length_put : (os : List (Option Outcome)) (i : ℕ) (x : Option Outcome) → length (slice_set os i x) ≡ length os
-length_put [] i x = refl
-length_put (y ∷ os) zero x = refl
-length_put (y ∷ os) (suc i) x = ap suc (length_put os i x)
+-- an outcome at a place, where a place was written: it was there, or was written there
+written_or_there : (os : List (Option Outcome)) (i j : ℕ) (x : Option Outcome) (o : Outcome) → slice_get (slice_set os i x) j ≡ Some (Some o) → (slice_get os j ≡ Some (Some o)) ⊎ ((j ≡ i) × (x ≡ Some o))
+written_or_there [] i j x o h = inl h
+written_or_there (y ∷ os) zero zero x o h = inr (refl, cc)
+written_or_there (y ∷ os) zero (suc j) x o h = inl h
+written_or_there (y ∷ os) (suc i) zero x o h = inl h
+written_or_there (y ∷ os) (suc i) (suc j) x o h = elim (written_or_there os i j x o h) [ inl q ↦ inl q | inr q ↦ inr (ap suc q.0, q.1) ]
+
+-- where no outcome was written, it was there
+pub none_put : (os : List (Option Outcome)) (i j : ℕ) (o : Outcome) → slice_get (slice_set os i nothing) j ≡ Some (Some o) → slice_get os j ≡ Some (Some o)
+none_put os i j o h = elim (written_or_there os i j nothing o h) [ inl q ↦ q | inr q ↦ absurd (let e = q.1 in cc) ]
+
+-- an outcome put at a place
+pub placed_at : (os : List (Option Outcome)) (i : ℕ) (o : Outcome) → WasNotStopped o → ArePlaced os ((i, o) ∷ []) (slice_set os i (Some o))
+placed_at os i o w = record {
+  places = length-set os i (Some o);
+  each = λ j u h. elim (written_or_there os i j (Some o) u h) [
+    | inl q ↦ inl q
+    | inr q ↦ inr (there j u q.0 q.1)
+  ];
+}
+  where
+    there : (j : ℕ) (u : Outcome) → j ≡ i → Some o ≡ Some u → Contains {X = ℕ × Outcome} ((i, o) ∷ []) (j, u) × WasNotStopped u
+    there j u e f =
+        let g : o ≡ u = cc in
+        let v : (i, o) ≡ (j, u) = (rw (e, g) refl) in
+        let one : 0 < 1 = omega arith in
+        ((0, one, v), subst (λ (x : Outcome). WasNotStopped x) g w)
 
 module _ {State Op Reply : Type 0} (p : Problem State Op Reply) (ts : List (Task State)) (limit : Option ℕ) (os : List (Option Outcome)) (outcomes : AreOutcomes p ts limit os) where
   -- what is taken from its place is the answer of the task
@@ -85,7 +106,7 @@ module _ {State Op Reply : Type 0} (p : Problem State Op Reply) (ts : List (Task
   -- and what is left are outcomes of the tasks
   pub outcomes_left : (i : ℕ) (x : Option Outcome) → x ≡ nothing → AreOutcomes p ts limit (slice_set os i x)
   outcomes_left i x e = record {
-    places = length_put os i x ∙ outcomes.places;
+    places = length-set os i x ∙ outcomes.places;
     answers = λ j t o at h. outcomes.answers j t o at (none_put os i j o (subst (λ (y : Option Outcome). slice_get (slice_set os i y) j ≡ Some (Some o)) e h));
   }
 

@@ -41,6 +41,16 @@ up_to_call [] x y h = elim (order x y h) [ inl q ↦ inl q | inr q ↦ inr (q, t
     order x y h = grind arith
 up_to_call (i ∷ a) x y h = inr (refl, up_to_call a x y h)
 
+-- two lists, of which the first parts are as long and in order, and the rests are where the first parts are one
+pub up_to_parts : (a b c d : List ℕ) → length a ≡ length b → IsUpTo a b → (a ≡ b → IsUpTo c d) → IsUpTo (a ++ c) (b ++ d)
+up_to_parts [] [] c d e h k = k refl
+up_to_parts [] (y ∷ b) c d e h k = absurd (omega (arith, e))
+up_to_parts (x ∷ a) [] c d e h k = absurd h
+up_to_parts (x ∷ a) (y ∷ b) c d e h k = elim h [
+  | inl q ↦ inl q
+  | inr q ↦ inr (q.0, up_to_parts a b c d (omega (arith, e)) q.1 (λ f. k (let g = q.0 in rw (g, f) refl)))
+]
+
 -- the front and the last call of a list
 pub last_same : (a b : List ℕ) (x y : ℕ) → a ++ x ∷ [] ≡ b ++ y ∷ [] → (a ≡ b) × (x ≡ y)
 last_same [] [] x y e = (refl, cc)

@@ -1,5 +1,5 @@
 -- Runs by their last call, and the configurations that they lead to.
-use Rattle.std.proofs.Common.{◌≡◌, ℕ, suc, ◌+◌, ◌<◌, Bool, true, Some, List, [], ◌∷◌, ◌++◌, length, ◌⊎◌, inl, inr, refl, sym, ◌∙◌, ap, subst, arith}
+use Rattle.std.proofs.Common.{◌≡◌, ℕ, suc, ◌<◌, Bool, true, false, Option, Some, List, [], ◌∷◌, ◌++◌, length, ◌⊎◌, inl, inr, refl, sym, ◌∙◌, ap, subst, arith}
 use Rattle.std.proofs.Common.{take, drop, slice_index_or, zero}
 use Rattle.std.proofs.lemmas.List.{length-set, length-replicate}
 use Rattle.lin_history.specs.Problems.Problem.{Problem}
@@ -14,6 +14,10 @@ use Rattle.lin_search.specs.NextCall.{IsNext}
 use Rattle.lin_search.specs.FirstCallLemmas.{continuation_split, continuation_join, none_continues, next_within}
 use Rattle.lin_search.specs.AlikeLemmas.{AreAlike, turned}
 use Rattle.lin_workers.specs.Cut.{LeadsTo}
+
+-- what an answer has is one value
+pub some_once : {X : Type 0} (m : Option X) (a b : X) → m ≡ Some a → m ≡ Some b → a ≡ b
+some_once m a b x y = cc
 
 module _ {State Op Reply : Type 0} (p : Problem State Op Reply) where
   -- a continuation without its last call, where it ends, and the step of that call
@@ -48,19 +52,24 @@ module _ {State Op Reply : Type 0} (p : Problem State Op Reply) where
       (continuation_join p set s c [] t flags m (none_continues p (with_call set c) t), (t, m.step, refl))
   last_join set s e (d ∷ l) c t flags k legal n =
       let q = continuation_split p set s d l flags k in
-      let same : q.0 ≡ legal.0 = one q.0 legal.0 (next p s d) q.1.step legal.1 in
+      let same : q.0 ≡ legal.0 = some_once (next p s d) q.0 legal.0 q.1.step legal.1 in
       let r = last_join (with_call set d) q.0 e l c t (length-set set d true ∙ flags) q.2 (subst (λ (x : State). Legal p x l e) (sym same) legal.2) n in
       (continuation_join p set s d (l ++ c ∷ []) q.0 flags q.1 r.0, (q.0, q.1.step, r.1))
-    where
-      one : (a b : State) (m : Rattle.std.proofs.Common.Option State) → m ≡ Some a → m ≡ Some b → a ≡ b
-      one a b m x y = cc
+
+  -- a continuation, and then a list of which P holds where that leads: P holds of both, where a call in front keeps it
+  pub joined : (P : List Bool → State → List ℕ → Type 0) → ((set : List Bool) (s : State) (c : ℕ) (cs : List ℕ) (t : State) → length set ≡ length p.calls → IsNext p set s c t → P (with_call set c) t cs → P set s (c ∷ cs)) → (set : List Bool) (s e : State) (l m : List ℕ) → length set ≡ length p.calls → IsContinuation p set s l → Legal p s l e → P (with_calls set l) e m → P set s (l ++ m)
+  joined P in_front set s e [] m flags k legal h = subst (λ (x : State). P set x m) (sym legal) h
+  joined P in_front set s e (c ∷ l) m flags k legal h =
+      let q = continuation_split p set s c l flags k in
+      let same = some_once (next p s c) q.0 legal.0 q.1.step legal.1 in
+      in_front set s c (l ++ m) q.0 flags q.1 (joined P in_front (with_call set c) q.0 e l m (length-set set c true ∙ flags) q.2 (subst (λ (x : State). Legal p x l e) (sym same) legal.2) h)
 
   -- as many flags as calls
   pub flags_of : (l : List ℕ) → length (lifted_set p l) ≡ length p.calls
-  flags_of l = length_calls (no_calls p) l ∙ length-replicate (length p.calls) Rattle.std.proofs.Common.false
+  flags_of l = length_calls (no_calls p) l ∙ length-replicate (length p.calls) false
 
-  root_flags : length (no_calls p) ≡ length p.calls
-  root_flags = length-replicate (length p.calls) Rattle.std.proofs.Common.false
+  pub root_flags : length (no_calls p) ≡ length p.calls
+  root_flags = length-replicate (length p.calls) false
 
   -- the run with no call leads to the configuration with no call
   pub leads_root : (s : State) → p.same_state p.start s ≡ true → LeadsTo p [] (no_calls p) s
@@ -102,13 +111,10 @@ module _ {State Op Reply : Type 0} (p : Problem State Op Reply) where
           k.calls ∙ with_append (no_calls p) l (c ∷ []),
         )
       where
-        one : (a b : State) (m : Rattle.std.proofs.Common.Option State) → m ≡ Some a → m ≡ Some b → a ≡ b
-        one a b m x y = cc
-
         ends_once : (l : List ℕ) (s a b : State) → Legal p s l a → Legal p s l b → a ≡ b
         ends_once [] s a b x y = sym x ∙ y
         ends_once (d ∷ l) s a b x y =
-            ends_once l y.0 a b (subst (λ (m : State). Legal p m l a) (one x.0 y.0 (next p s d) x.1 y.1) x.2) y.2
+            ends_once l y.0 a b (subst (λ (m : State). Legal p m l a) (some_once (next p s d) x.0 y.0 x.1 y.1) x.2) y.2
 
     -- a run leads to equal configurations alike
     pub leads_equal : (l : List ℕ) (set : List Bool) (s t : State) → p.same_state s t ≡ true → LeadsTo p l set s → LeadsTo p l set t
@@ -122,7 +128,7 @@ module _ {State Op Reply : Type 0} (p : Problem State Op Reply) where
       continuation_join p set s c l q.0 flags q.1 (front_continues (with_call set c) q.0 l m (length-set set c true ∙ flags) q.2)
 
   -- a call of a run is a call of the problem that the calls before it do not have
-  pub call_of_run : (l : List ℕ) (c : ℕ) (m : List ℕ) → IsRun p (l ++ c ∷ m) → (c < length p.calls) × (has (lifted_set p l) c ≡ Rattle.std.proofs.Common.false)
+  pub call_of_run : (l : List ℕ) (c : ℕ) (m : List ℕ) → IsRun p (l ++ c ∷ m) → (c < length p.calls) × (has (lifted_set p l) c ≡ false)
   call_of_run l c m k =
       let q = last_split (no_calls p) p.start l c root_flags (front_continues (no_calls p) p.start (l ++ c ∷ []) m root_flags (subst (λ (x : List ℕ). IsRun p x) (parts l c m) k)) in
       (next_within p q.end q.after c q.step.step, q.step.outside)
@@ -132,7 +138,7 @@ module _ {State Op Reply : Type 0} (p : Problem State Op Reply) where
       parts (d ∷ l) c m = ap (λ (x : List ℕ). d ∷ x) (parts l c m)
 
   -- the call of a run at an index
-  pub call_at_run : (l : List ℕ) (i d : ℕ) → i < length l → IsRun p l → (slice_index_or l i d < length p.calls) × (has (lifted_set p (take i l)) (slice_index_or l i d) ≡ Rattle.std.proofs.Common.false)
+  pub call_at_run : (l : List ℕ) (i d : ℕ) → i < length l → IsRun p l → (slice_index_or l i d < length p.calls) × (has (lifted_set p (take i l)) (slice_index_or l i d) ≡ false)
   call_at_run l i d h k = call_of_run (take i l) (slice_index_or l i d) (drop (suc i) l) (subst (λ (x : List ℕ). IsRun p x) (parts l i d h) k)
     where
       parts : (l : List ℕ) (i d : ℕ) → i < length l → l ≡ take i l ++ slice_index_or l i d ∷ drop (suc i) l

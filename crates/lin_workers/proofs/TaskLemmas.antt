@@ -1,30 +1,20 @@
 -- What the tasks of a cut tell of the whole problem.
-use Rattle.std.proofs.Common.{◌≡◌, ℕ, zero, suc, ◌<◌, ◌≤◌, Bool, true, false, Option, Some, List, [], ◌∷◌, ◌++◌, length, take, drop, ◌⊎◌, inl, inr, refl, sym, ◌∙◌, ap, subst, arith}
-use Rattle.std.proofs.lemmas.List.{length-set, length-replicate}
+use Rattle.std.proofs.Common.{◌≡◌, ℕ, zero, suc, ◌<◌, ◌≤◌, Bool, true, Some, List, [], ◌∷◌, ◌++◌, length, take, drop, ◌⊎◌, inl, inr, refl, sym, ◌∙◌, ap, subst, arith}
+use Rattle.std.proofs.lemmas.List.{length-set}
 use Rattle.std.specs.List.{slice_get}
 use Rattle.lin_history.specs.Problems.Problem.{Problem}
 use Rattle.lin_history.specs.Problems.Lists.{IsUpTo, IsLeast}
-use Rattle.lin_history.specs.Problems.LegalLists.{next, Legal}
+use Rattle.lin_history.specs.Problems.LegalLists.{Legal}
 use Rattle.lin_history.specs.Problems.Continuations.{no_calls, IsContinuation, IsCompletion}
 use Rattle.lin_history.specs.Problems.Linearizations.{IsLinearization}
 use Rattle.lin_search.specs.CallSet.{with_call, with_calls, lifted_set}
 use Rattle.lin_search.specs.Answer.{HasNoCompletion}
-use Rattle.lin_search.specs.FirstCallLemmas.{continuation_split, continuation_join, completion_split, completion_join, none_continues, complete_none}
+use Rattle.lin_search.specs.FirstCallLemmas.{continuation_join, completion_split, completion_join, none_continues, complete_none}
 use Rattle.lin_search.specs.AlikeLemmas.{AreAlike, turned, like_completion}
 use Rattle.lin_workers.specs.Cut.{LeadsTo, Task, IsTask, IsCut, DecideBy}
-use Rattle.lin_workers.proofs.RunLemmas.{leads_equal}
-use Rattle.lin_workers.proofs.PathLemmas.{up_to_chain, up_to_both}
+use Rattle.lin_workers.proofs.RunLemmas.{some_once, joined, root_flags, leads_equal}
+use Rattle.lin_workers.proofs.PathLemmas.{up_to_chain, up_to_both, up_to_parts}
 use Rattle.lin_workers.proofs.LevelLemmas.{among_at, within_at, task_at, in_order_at}
-
--- two lists, of which the first parts are as long and in order, and the rests are where the first parts are one
-up_to_parts : (a b c d : List ℕ) → length a ≡ length b → IsUpTo a b → (a ≡ b → IsUpTo c d) → IsUpTo (a ++ c) (b ++ d)
-up_to_parts [] [] c d e h k = k refl
-up_to_parts [] (y ∷ b) c d e h k = absurd (omega (arith, e))
-up_to_parts (x ∷ a) [] c d e h k = absurd h
-up_to_parts (x ∷ a) (y ∷ b) c d e h k = elim h [
-  | inl q ↦ inl q
-  | inr q ↦ inr (q.0, up_to_parts a b c d (omega (arith, e)) q.1 (λ f. k (let g = q.0 in rw (g, f) refl)))
-]
 
 two_parts : (n : ℕ) (l : List ℕ) → n ≤ length l → (l ≡ take n l ++ drop n l) × (length (take n l) ≡ n)
 two_parts zero l h = (refl, refl)
@@ -32,9 +22,6 @@ two_parts (suc n) [] h = absurd (omega (arith, h))
 two_parts (suc n) (c ∷ l) h = let r = two_parts n l (omega (arith, h)) in (ap (λ (x : List ℕ). c ∷ x) r.0, ap suc r.1)
 
 module _ {State Op Reply : Type 0} (p : Problem State Op Reply) where
-  once : (a b : State) (m : Option State) → m ≡ Some a → m ≡ Some b → a ≡ b
-  once a b m x y = cc
-
   -- a completion in two parts: where the first ends, the second completes
   record IsParted (set : List Bool) (s : State) (l m : List ℕ) : Type 0 where
     pub end : State
@@ -49,24 +36,13 @@ module _ {State Op Reply : Type 0} (p : Problem State Op Reply) where
       let r = parted (with_call set c) q.0 l m (length-set set c true ∙ flags) q.2 in
       record { end = r.end; front = continuation_join p set s c l q.0 flags q.1 r.front; legal = (q.0, q.1.step, r.legal); rest = r.rest }
 
-  -- a continuation, and then a completion of what it leads to
-  joined : (set : List Bool) (s e : State) (l m : List ℕ) → length set ≡ length p.calls → IsContinuation p set s l → Legal p s l e → IsCompletion p (with_calls set l) e m → IsCompletion p set s (l ++ m)
-  joined set s e [] m flags k legal h = subst (λ (x : State). IsCompletion p set x m) (sym legal) h
-  joined set s e (c ∷ l) m flags k legal h =
-      let q = continuation_split p set s c l flags k in
-      let same = once q.0 legal.0 (next p s c) q.1.step legal.1 in
-      completion_join p set s c (l ++ m) q.0 flags q.1 (joined (with_call set c) q.0 e l m (length-set set c true ∙ flags) q.2 (subst (λ (x : State). Legal p x l e) (sym same) legal.2) h)
-
-  root_flags : length (no_calls p) ≡ length p.calls
-  root_flags = length-replicate (length p.calls) false
-
   module _ (alike : AreAlike p p) (k : ℕ) (ts : List (Task State)) (cut : IsCut p k ts) where
     -- a linearization has as many calls as the level
     long_enough : (l : List ℕ) → IsLinearization p l → k ≤ length l
     long_enough l h = elim (order k (length l)) [
       | inl q ↦ q
       | inr q ↦ absurd (
-          let r = parted (no_calls p) p.start l [] root_flags (subst (λ (x : List ℕ). IsLinearization p x) (end l) h) in
+          let r = parted (no_calls p) p.start l [] (root_flags p) (subst (λ (x : List ℕ). IsLinearization p x) (end l) h) in
           cut.incomplete (length l) q (lifted_set p l) r.end (l, record { run = r.front; calls = refl; ends = (r.end, r.legal, alike.equal_states.refl r.end) }, refl) (complete_none p (lifted_set p l) r.end r.rest)
           )
     ]
@@ -93,7 +69,7 @@ module _ {State Op Reply : Type 0} (p : Problem State Op Reply) where
     through : (l : List ℕ) → IsLinearization p l → IsThrough l
     through l h =
         let two = two_parts k l (long_enough l h) in
-        let r = parted (no_calls p) p.start (take k l) (drop k l) root_flags (subst (λ (x : List ℕ). IsLinearization p x) two.0 h) in
+        let r = parted (no_calls p) p.start (take k l) (drop k l) (root_flags p) (subst (λ (x : List ℕ). IsLinearization p x) two.0 h) in
         let leads : LeadsTo p (take k l) (lifted_set p (take k l)) r.end = record { run = r.front; calls = refl; ends = (r.end, r.legal, alike.equal_states.refl r.end) } in
         let a = among_at p.same_state ts (lifted_set p (take k l)) r.end (cut.level.every (lifted_set p (take k l)) r.end (take k l, leads, two.1)) in
         let t = task_at p k ts a.0 a.1 cut.level.each a.2 in
@@ -122,7 +98,7 @@ module _ {State Op Reply : Type 0} (p : Problem State Op Reply) where
       whole_of_task m h =
           let leads = task.least.0 in
           let e = leads.ends in
-          joined (no_calls p) p.start e.0 t.path m root_flags leads.run e.1
+          joined p (IsCompletion p) (completion_join p) (no_calls p) p.start e.0 t.path m (root_flags p) leads.run e.1
           (like_completion alike.there (lifted_set p t.path) t.config.state e.0 m (turned alike e.0 t.config.state e.2) (subst (λ (x : List Bool). IsCompletion p x t.config.state m) leads.calls h))
 
       -- of the first task that has a completion the least one makes the least linearization
@@ -134,12 +110,9 @@ module _ {State Op Reply : Type 0} (p : Problem State Op Reply) where
 
           first : (l : List ℕ) (q : IsThrough l) → q.index ≡ i → IsUpTo (t.path ++ m) (q.front ++ q.rest)
           first l q x =
-              let e : q.task ≡ t = same (slice_get ts i) q.task t (subst (λ (y : ℕ). slice_get ts y ≡ Some q.task) x q.at) at in
+              let e : q.task ≡ t = some_once (slice_get ts i) q.task t (subst (λ (y : ℕ). slice_get ts y ≡ Some q.task) x q.at) at in
               up_to_parts t.path q.front m q.rest (task.calls ∙ sym q.calls) (subst (λ (y : Task State). IsUpTo y.path q.front) e q.path)
               (λ f. h.1 q.rest (subst (λ (y : Task State). IsCompletion p y.config.lifted y.config.state q.rest) e q.completes))
-            where
-              same : (m : Option (Task State)) (a b : Task State) → m ≡ Some a → m ≡ Some b → a ≡ b
-              same m a b x y = cc
 
           later : (l : List ℕ) (q : IsThrough l) → i < q.index → IsUpTo (t.path ++ m) (q.front ++ q.rest)
           later l q x =

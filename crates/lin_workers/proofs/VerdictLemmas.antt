@@ -1,19 +1,18 @@
 -- What the task whose turn it is tells of the whole problem.
-use Rattle.std.proofs.Common.{◌≡◌, ℕ, zero, suc, ◌+◌, ◌<◌, ◌≤◌, Bool, false, Option, Some, None, List, [], ◌∷◌, ◌++◌, length, ◌⊎◌, inl, inr, refl, sym, ◌∙◌, ap, subst, arith}
-use Rattle.std.proofs.lemmas.List.{length-set, length-replicate}
+use Rattle.std.proofs.Common.{◌≡◌, ℕ, suc, ◌+◌, ◌<◌, Bool, Option, Some, None, List, [], ◌∷◌, ◌++◌, length, ◌⊎◌, inl, inr, refl, sym, ◌∙◌, ap, subst, arith}
 use Rattle.std.specs.Prelude.{IsSomeAnd, slice_get}
 use Rattle.lin_history.specs.Problems.Problem.{Problem}
 use Rattle.lin_history.specs.Problems.Lists.{IsLeast}
-use Rattle.lin_history.specs.Problems.LegalLists.{next, Legal}
 use Rattle.lin_history.specs.Problems.Continuations.{no_calls, IsContinuation, IsCompletion}
 use Rattle.lin_history.specs.Problems.Linearizations.{IsRun, IsLinearization}
 use Rattle.lin_search.specs.Answer.{HasNoCompletion}
-use Rattle.lin_search.specs.CallSet.{with_call, with_calls, lifted_set}
+use Rattle.lin_search.specs.CallSet.{lifted_set}
 use Rattle.lin_search.specs.Size.{IsOneOf, AllDifferent, EachOf, HasMany, HasMoreThan}
-use Rattle.lin_search.specs.FirstCallLemmas.{continuation_split, continuation_join}
+use Rattle.lin_search.specs.FirstCallLemmas.{continuation_join}
 use Rattle.lin_search.specs.AlikeLemmas.{AreAlike, turned, like_continuation}
-use Rattle.lin_workers.specs.Cut.{LeadsTo, Task, IsCut, DecideBy, HasNoneBefore}
+use Rattle.lin_workers.specs.Cut.{LeadsTo, Task, HasNoneBefore}
 use Rattle.lin_workers.specs.Verdict.{IsNextTask}
+use Rattle.lin_workers.proofs.RunLemmas.{some_once, joined, root_flags}
 use Rattle.lin_workers.proofs.LevelLemmas.{task_at}
 
 -- each list with these calls in front
@@ -52,23 +51,12 @@ each_after P Q path [] f h = tt
 each_after P Q path (l ∷ ls) f h = ((f l h.0.0, λ e. h.0.1 (no_front path l e)), each_after P Q path ls f h.1)
 
 module _ {State Op Reply : Type 0} (p : Problem State Op Reply) where
-  same_end : (a b : State) (m : Option State) → m ≡ Some a → m ≡ Some b → a ≡ b
-  same_end a b m x y = cc
-
-  -- a continuation, and then one of what it leads to
-  continued : (set : List Bool) (s e : State) (l m : List ℕ) → length set ≡ length p.calls → IsContinuation p set s l → Legal p s l e → IsContinuation p (with_calls set l) e m → IsContinuation p set s (l ++ m)
-  continued set s e [] m flags k legal h = subst (λ (x : State). IsContinuation p set x m) (sym legal) h
-  continued set s e (c ∷ l) m flags k legal h =
-      let q = continuation_split p set s c l flags k in
-      let same = same_end q.0 legal.0 (next p s c) q.1.step legal.1 in
-      continuation_join p set s c (l ++ m) q.0 flags q.1 (continued (with_call set c) q.0 e l m (length-set set c Rattle.std.proofs.Common.true ∙ flags) q.2 (subst (λ (x : State). Legal p x l e) (sym same) legal.2) h)
-
   module _ (alike : AreAlike p p) (t : Task State) (leads : LeadsTo p t.path t.config.lifted t.config.state) where
     -- the path of a task, and then a continuation of its configuration, is a run
     run_of_task : (m : List ℕ) → IsContinuation p t.config.lifted t.config.state m → IsRun p (t.path ++ m)
     run_of_task m h =
         let e = leads.ends in
-        continued (no_calls p) p.start e.0 t.path m (length-replicate (length p.calls) false) leads.run e.1
+        joined p (IsContinuation p) (continuation_join p) (no_calls p) p.start e.0 t.path m (root_flags p) leads.run e.1
         (like_continuation alike.there (lifted_set p t.path) t.config.state e.0 m (turned alike e.0 t.config.state e.2) (subst (λ (x : List Bool). IsContinuation p x t.config.state m) leads.calls h))
 
     -- a configuration that runs lead to has no more continuations than there are runs
@@ -93,11 +81,8 @@ module _ {State Op Reply : Type 0} (p : Problem State Op Reply) where
   pub none_up_to : (ts : List (Task State)) (i : ℕ) (t : Task State) → slice_get ts i ≡ Some t → HasNoneBefore p ts i → HasNoCompletion p t.config.lifted t.config.state → HasNoneBefore p ts (i + 1)
   none_up_to ts i t at none no_completion j u h e = elim (order j h) [
     | inl q ↦ none j u q e
-    | inr q ↦ subst (λ (x : Task State). HasNoCompletion p x.config.lifted x.config.state) (one_task (slice_get ts i) t u at (subst (λ (x : ℕ). slice_get ts x ≡ Some u) q e)) no_completion
+    | inr q ↦ subst (λ (x : Task State). HasNoCompletion p x.config.lifted x.config.state) (some_once (slice_get ts i) t u at (subst (λ (x : ℕ). slice_get ts x ≡ Some u) q e)) no_completion
   ]
     where
       order : (j : ℕ) → j < i + 1 → (j < i) ⊎ (j ≡ i)
       order j h = grind arith
-
-      one_task : (m : Option (Task State)) (a b : Task State) → m ≡ Some a → m ≡ Some b → a ≡ b
-      one_task m a b x y = cc

@@ -13,6 +13,7 @@ use Rattle.lin_workers.specs.declared.cutting.TheConstants.{LAST_LEVEL}
 use Rattle.lin_workers.specs.Levels.{AreLevels}
 use Rattle.lin_workers.proofs.RunLemmas.{leads_root, leads_equal}
 use Rattle.lin_workers.proofs.PathLemmas.{up_to_both}
+use Rattle.lin_workers.proofs.LevelLemmas.{below_or_at}
 
 module _ {State Op Reply : Type 0} (p : Problem State Op Reply) (alike : AreAlike p p) where
   equal : IsEquivalence p.same_state
@@ -79,9 +80,6 @@ module _ {State Op Reply : Type 0} (p : Problem State Op Reply) (alike : AreAlik
     incomplete = λ j h. absurd (omega (arith, h));
     below = inl (refl, refl);
   }
-
-  below_or_at : (j n : ℕ) → j < n + 1 → (j < n) ⊎ (j ≡ n)
-  below_or_at j n h = grind arith
 
   -- one level more, where the last was not the last to be made
   pub record IsMore (want n : ℕ) (widest last next : List (Task State)) : Type 0 where

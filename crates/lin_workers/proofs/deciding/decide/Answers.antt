@@ -1,4 +1,4 @@
-use Rattle.std.proofs.Common.{◌≡◌, ◌<◌, ◌∙◌, Some, ap, sym, length, arith}
+use Rattle.std.proofs.Common.{◌<◌, ◌∙◌, Some, ap, sym, length, arith}
 use Rattle.lin_workers.proofs.RunLemmas.{leads_reachable}
 use Rattle.lin_workers.proofs.LevelLemmas.{item_at, task_at}
 use Rattle.lin_workers.proofs.OutcomeLemmas.{outcome_at, outcomes_left}

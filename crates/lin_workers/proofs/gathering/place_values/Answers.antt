@@ -1,4 +1,4 @@
-use Rattle.std.proofs.Common.{refl, arith, subst, sym, ◌∷◌, []}
+use Rattle.std.proofs.Common.{refl, arith}
 use Rattle.std.proofs.lemmas.List.Elements.{Contains-append_left, Contains-append_right}
 use Rattle.lin_workers.proofs.OutcomeLemmas.{placed_more}
 use Rattle.lin_workers.proofs.gathering.place_values.Goals as goal
