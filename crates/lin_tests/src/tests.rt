@@ -13,3 +13,4 @@ mod program;
 mod searches;
 mod tables;
 mod workers;
+mod workers_at_once;
