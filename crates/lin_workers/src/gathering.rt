@@ -1,9 +1,9 @@
 //! What workers brought is put together.
-ghost use Rattle.std.specs.Prelude.{◌≡◌, ℕ, ◌+◌, ◌≤◌, ◌∷◌, [], All, IfOk, List, None, Option, replicate, vec_capacity, vec_len};
+ghost use Rattle.std.specs.Prelude.{◌≡◌, ℕ, ◌+◌, ◌≤◌, ◌∷◌, [], All, IfOk, List, None, Option, IsFalse, replicate, vec_capacity, vec_len};
 ghost use Rattle.lin_history.specs.Problems.Problem.{Problem as ProblemOf};
 ghost use Rattle.lin_table.specs.Hand.{IsHandOf, TableFacts};
 ghost use Rattle.lin_workers.specs.Cut.{Task as TaskOf};
-ghost use Rattle.lin_workers.specs.Outcomes.{AreOutcomes, ArePlaced};
+ghost use Rattle.lin_workers.specs.Outcomes.{AreOutcomes, ArePlaced, WasNotStopped};
 ghost use Rattle.lin_workers.specs.Values.{AreValues};
 
 use crate::worker::Done;
@@ -23,13 +23,20 @@ pub(crate) fn no_outcomes(alloc: Global, count: usize) -> Result<Vec<Option<Outc
     Ok(outcomes)
 }
 
+// Whether the outcome is that of a search that was stopped.
+fn was_stopped(outcome: &Outcome) -> bool
+    ensures { IsFalse result → WasNotStopped outcome.now }
+{
+    matches!(outcome, Outcome::Stopped(_))
+}
+
 // Puts the outcome at the place of this number, where there is one; but not that of a search that was stopped.
 fn place_value(outcomes: &mut [Option<Outcome>], number: u64, outcome: Outcome)
     ensures { ArePlaced outcomes.old ((number, outcome) ∷ []) outcomes.new }
 {
     let place = number as usize;
-    let was_stopped = matches!(&outcome, Outcome::Stopped(_));
-    if place < outcomes.len() && !was_stopped {
+    let is_stopped = was_stopped(&outcome);
+    if place < outcomes.len() && !is_stopped {
         outcomes[place] = Some(outcome);
     }
 }
