@@ -1,5 +1,5 @@
 //! What workers brought is put together.
-ghost use Rattle.std.specs.Prelude.{◌≡◌, ℕ, ◌+◌, ◌≤◌, ◌∷◌, [], All, IfOk, List, None, Option, IsFalse, replicate, vec_capacity, vec_len};
+ghost use Rattle.std.specs.Prelude.{◌≡◌, ℕ, ◌+◌, ◌≤◌, ◌∷◌, [], All, IfOk, List, None, Option, IsFalse, IsTrue, replicate, vec_capacity, vec_len};
 ghost use Rattle.lin_history.specs.Problems.Problem.{Problem as ProblemOf};
 ghost use Rattle.lin_table.specs.Hand.{IsHandOf, TableFacts};
 ghost use Rattle.lin_workers.specs.Cut.{Task as TaskOf};
@@ -25,7 +25,8 @@ pub(crate) fn no_outcomes(alloc: Global, count: usize) -> Result<Vec<Option<Outc
 
 // Whether the outcome is that of a search that was stopped.
 fn was_stopped(outcome: &Outcome) -> bool
-    ensures { IsFalse result → WasNotStopped outcome.now }
+    ensures stopped { IsTrue result → WasNotStopped outcome.now → ⊥ }
+    ensures other { IsFalse result → WasNotStopped outcome.now }
 {
     matches!(outcome, Outcome::Stopped(_))
 }
