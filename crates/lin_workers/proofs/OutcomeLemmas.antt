@@ -92,9 +92,9 @@ placed_at os i o w = record {
   where
     there : (j : ℕ) (u : Outcome) → j ≡ i → Some o ≡ Some u → Contains {X = ℕ × Outcome} ((i, o) ∷ []) (j, u) × WasNotStopped u
     there j u e f =
+        let one : 0 < 1 = omega arith in
         let g : o ≡ u = cc in
         let v : (i, o) ≡ (j, u) = (rw (e, g) refl) in
-        let one : 0 < 1 = omega arith in
         ((0, one, v), subst (λ (x : Outcome). WasNotStopped x) g w)
 
 module _ {State Op Reply : Type 0} (p : Problem State Op Reply) (ts : List (Task State)) (limit : Option ℕ) (os : List (Option Outcome)) (outcomes : AreOutcomes p ts limit os) where

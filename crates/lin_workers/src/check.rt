@@ -1,5 +1,5 @@
 //! The check of one object.
-ghost use Rattle.std.specs.Prelude.{◌≡◌, ℕ, ◌^◌, ◌<◌, ◌≤◌, All, IfNone, IfOk, IfSome, None, vec_capacity, vec_len};
+ghost use Rattle.std.specs.Prelude.{◌≡◌, ◌≢◌, ℕ, ◌^◌, ◌<◌, ◌≤◌, All, IfNone, IfOk, IfSome, None, vec_capacity, vec_len};
 ghost use Rattle.lin_history.specs.Problems.Problem.{problem_of};
 ghost use Rattle.lin_search.specs.Count.{IsNumberReachable};
 ghost use Rattle.lin_table.specs.Hand.{IsHandOf};
@@ -41,6 +41,19 @@ fn lifts_alone(workers: u64, limit: Option<u64>) -> Option<u64>
     }
 }
 
+// The verdict, where the search ended with one.
+fn unless_undecided(verdict: ObjectVerdict) -> Option<ObjectVerdict>
+    ensures same { IfSome result (λ decided. decided ≡ verdict) }
+    ensures decided { IfSome result (λ decided. decided ≢ ObjectVerdict.Undecided) }
+    ensures undecided { IfNone result (verdict ≡ ObjectVerdict.Undecided) }
+{
+    match verdict {
+        ObjectVerdict::Undecided => None,
+        ObjectVerdict::Yes(order) => Some(ObjectVerdict::Yes(order)),
+        ObjectVerdict::No(run) => Some(ObjectVerdict::No(run)),
+    }
+}
+
 // The verdict by a search from the root over the memo, where it ends within so many lifts.
 fn decide_alone<O: SeqObject, M: Memo<O>>(
     alloc: Global,
@@ -63,11 +76,7 @@ fn decide_alone<O: SeqObject, M: Memo<O>>(
         memo,
         lifts,
     )?;
-    match decided {
-        ObjectVerdict::Undecided => Ok(None),
-        ObjectVerdict::Yes(order) => Ok(Some(ObjectVerdict::Yes(order))),
-        ObjectVerdict::No(run) => Ok(Some(ObjectVerdict::No(run))),
-    }
+    Ok(unless_undecided(decided))
 }
 
 // The verdict by a search over the memo, which names the problem, where it ends within so many lifts; and how many
