@@ -1,5 +1,5 @@
 -- All hands' views become one, one hand at a time.
-use Rattle.std.proofs.Common.{◌≡◌, List, [], ◌∷◌, ◌++◌, length, refl, sym, ◌∙◌, ap, arith, length-append, append_assoc}
+use Rattle.std.proofs.Common.{◌≡◌, List, [], ◌∷◌, ◌++◌, length, refl, sym, ◌∙◌, ap, arith, length-append, append_assoc, append-nil}
 use Rattle.lin_table.specs.declared.rule.Entry.{Entry}
 use Rattle.lin_table.specs.declared.rule.View.{View}
 use Rattle.lin_table.specs.Steps.{both_views}
@@ -9,11 +9,7 @@ use Rattle.lin_table.specs.Gather.{IsViewOf, entries_in, Gathered}
 module _ {O S A R : Type 0} where
   -- the entries of the last hand come first
   pub entries-last : (hands : List (HandFacts O S A R)) (hand : HandFacts O S A R) → entries_in (hands ++ hand ∷ []) ≡ hand.entries ++ entries_in hands
-  entries-last [] hand = append-nil-both hand.entries
-    where
-      append-nil-both : (es : List (Entry O S A R)) → [] ++ es ≡ es ++ []
-      append-nil-both [] = refl
-      append-nil-both (e ∷ es) = ap (λ (l : List (Entry O S A R)). e ∷ l) (append-nil-both es)
+  entries-last [] hand = sym (append-nil hand.entries)
   entries-last (h ∷ hands) hand = ap (λ (l : List (Entry O S A R)). l ++ h.entries) (entries-last hands hand) ∙ append_assoc hand.entries (entries_in hands) h.entries
 
   -- one more hand is joined

@@ -25,11 +25,6 @@ replicate_at zero k x h = absurd (omega arith)
 replicate_at (suc n) zero x h = refl
 replicate_at (suc n) (suc k) x h = replicate_at n k x (omega arith)
 
--- one more of equal things
-pub replicate-push : {X : Type 0} (n : ℕ) (x : X) → replicate n x ++ x ∷ [] ≡ replicate (n + 1) x
-replicate-push zero x = refl
-replicate-push {X} (suc n) x = let more : suc (n + 1) ≡ suc n + 1 = omega arith in ap (λ (l : List X). x ∷ l) (replicate-push n x) ∙ ap (λ m. replicate m x) more
-
 module _ {O S A R : Type 0} where
   -- a shard with nothing in it
   abbrev pub empty_shard : ProblemParts O S A R → Store O S A R

@@ -1,8 +1,8 @@
 -- Each step keeps the rule of the shards.
-use Rattle.std.proofs.Common.{◌≡◌, ◌≢◌, ℕ, zero, suc, ◌+◌, ◌*◌, ◌<◌, ◌≤◌, List, [], ◌∷◌, ◌++◌, length, get_or, set, refl, sym, ap, ◌∙◌, subst, ⊎_elim, arith, length-append, length-set, get_or-set_same, cond, eqb, eq-eqb, ne_eqb, Option, Some, None, All, map, drop}
+use Rattle.std.proofs.Common.{◌≡◌, ◌≢◌, ℕ, ◌+◌, ◌*◌, ◌<◌, ◌≤◌, List, [], ◌∷◌, ◌++◌, length, get_or, set, refl, sym, ap, ◌∙◌, subst, ⊎_elim, arith, length-append, length-set, get_or-set_same, cond, eqb, eq-eqb, ne_eqb, Option, Some, None, All, map, drop}
 use mathlib.Core.Option.{Option as Maybe, none, some}
 use lib.ListN.{get_elem?}
-use Rattle.std.proofs.lemmas.List.{get_or-set_other}
+use Rattle.std.proofs.lemmas.List.{get_or-set_other, set-get_or}
 use Rattle.std.proofs.lemmas.Bool.{cases_eq}
 use Rattle.atomic_table.specs.Table.{Me, step, keeps, takes, gives, put_back, rest, stepped, Allows}
 use Rattle.atomic_table.proofs.Lists.{at_set, at_snoc, at_longer, at_last, set_again, set_here, set_else, exchanged}
@@ -29,11 +29,6 @@ some_same e = cc (e)
 -- a pair by its parts
 abbrev pub pair_of : {S : Type 0} → Configuration S → Longest → Configuration S × Longest
 pair_of config longest = (config, longest)
-
-same_word : (ws : List ℕ) (i : ℕ) → i < length ws → set ws i (get_or ws i 0) ≡ ws
-same_word [] i h = refl
-same_word (w ∷ ws) zero h = refl
-same_word (w ∷ ws) (suc i) h = ap (λ (l : List ℕ). w ∷ l) (same_word ws i (omega arith))
 
 module _ {O S A R : Type 0} where
   pub each_set : (problem : ProblemParts O S A R) (n : ℕ) (lists : ℕ → List (Configuration S × Longest)) (views : List (View O S A R)) (id : ℕ) (w : View O S A R) → ((j : ℕ) (u : View O S A R) → get_elem? views j ≡ some u → Fits problem n lists u) → Fits problem n lists w → (j : ℕ) (u : View O S A R) → get_elem? (set views id w) j ≡ some u → Fits problem n lists u
@@ -135,7 +130,7 @@ module _ {O S A R : Type 0} where
         keeps,
         tt,
         exchanged r 0 1 (λ (n : ℕ). KeepsRule a (stepped s i n id me.1 v keeps)) (λ hit. absurd (miss hit))
-            (λ _. (lists, subst (λ (z : List ℕ × List (View O S A R)). RuleHolds a.problem.now a.shards a.hands z.0 s.homes z.1 lists) (λ j. (sym (same_word s.words i (let l = h.long in omega arith)) j, sym (set_again s.views id v at) j)) h)),
+            (λ _. (lists, subst (λ (z : List ℕ × List (View O S A R)). RuleHolds a.problem.now a.shards a.hands z.0 s.homes z.1 lists) (λ j. (sym (set-get_or s.words i 0) j, sym (set_again s.views id v at) j)) h)),
         ((λ hit. absurd (miss hit)), (λ _. refl)),
       ))
       (cases_eq r 0)

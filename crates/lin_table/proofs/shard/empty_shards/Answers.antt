@@ -1,5 +1,5 @@
 use Rattle.std.proofs.Common.{◌≡◌, [], length, replicate, ap, ◌∙◌, arith, rules}
-use Rattle.lin_table.proofs.PartLemmas.{replicate-push}
+use Rattle.std.proofs.lemmas.List.{replicate-append-replicate}
 use Rattle.lin_table.proofs.shard.empty_shards.Goals as goal
 
 pub push_reserved-requires : goal.push_reserved-requires
@@ -17,7 +17,7 @@ loop-init g c =
 pub loop-preserved : goal.loop-preserved
 loop-preserved g c =
     let i = c.loop.invariant in record {
-      items = c.push_reserved.ensures.items ∙ rw (i.items, c.new.ensures) (replicate-push c.loop.counter (record { problem = c.args.problem.now; pairs = [] }));
+      items = c.push_reserved.ensures.items ∙ rw (i.items, c.new.ensures) (replicate-append-replicate c.loop.counter 1 (record { problem = c.args.problem.now; pairs = [] }));
       len = let l = i.len in let m = c.push_reserved.ensures.len in omega arith;
       room = let r = i.room in let m = c.push_reserved.ensures.capacity in omega arith;
     }
