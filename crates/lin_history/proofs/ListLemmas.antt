@@ -1,5 +1,5 @@
 -- Lists after a push, after a write at an index, and through a function.
-use Rattle.std.proofs.Common.{◌≡◌, ◌≢◌, ℕ, zero, suc, ◌+◌, Bool, true, false, cond, Some, None, List, [], ◌∷◌, ◌++◌, map, find, filter, take, drop, set, length, slice_get, refl, sym, ap, ◌∙◌, arith, ◌⊎◌, inl, inr}
+use Rattle.std.proofs.Common.{◌≡◌, ◌≢◌, ℕ, zero, suc, ◌+◌, ◌≤◌, Bool, true, false, cond, Some, None, List, [], ◌∷◌, ◌++◌, map, find, filter, take, drop, set, length, slice_get, refl, sym, ap, ◌∙◌, arith, ◌⊎◌, inl, inr}
 use Rattle.std.proofs.lemmas.List.{length-set, take_all}
 
 module _ {A : Type 0} where
@@ -105,3 +105,24 @@ module _ {A : Type 0} where
   pub length_filter-none : (p : A → Bool) (xs : List A) → ((j : ℕ) (y : A) → slice_get xs j ≡ Some y → p y ≡ false) → length (filter p xs) ≡ 0
   length_filter-none p [] none = refl
   length_filter-none p (y ∷ xs) none = let here = none 0 y refl in rw here (length_filter-none p xs (λ j z k. none (suc j) z k))
+
+  -- how many pass, after a write that does not change whether its element passes
+  pub length_filter-same : (p : A → Bool) (xs : List A) (i : ℕ) (x y : A) → slice_get xs i ≡ Some x → p y ≡ p x → length (filter p (set xs i y)) ≡ length (filter p xs)
+  length_filter-same p [] i x y h same = refl
+  length_filter-same p (z ∷ xs) zero x y h same =
+      let here : z ≡ x = cc in
+      rw (here, same) (elim (p x) as (λ b. length (cond b (y ∷ filter p xs) (filter p xs)) ≡ length (cond b (x ∷ filter p xs) (filter p xs))) [ true ↦ refl | false ↦ refl ])
+  length_filter-same p (z ∷ xs) (suc i) x y h same =
+      let rest = length_filter-same p xs i x y h same in
+      elim (p z) as (λ b. length (cond b (z ∷ filter p (set xs i y)) (filter p (set xs i y))) ≡ length (cond b (z ∷ filter p xs) (filter p xs))) [ true ↦ ap suc rest | false ↦ rest ]
+
+  -- no more pass two tests than one
+  pub length_filter-twice : (p q : A → Bool) (xs : List A) → length (filter p (filter q xs)) ≤ length (filter p xs)
+  length_filter-twice p q [] = omega arith
+  length_filter-twice p q (x ∷ xs) = by_tests (q x) (p x) refl (length_filter-twice p q xs)
+    where
+      by_tests : (b d : Bool) → p x ≡ d → length (filter p (filter q xs)) ≤ length (filter p xs) → length (filter p (cond b (x ∷ filter q xs) (filter q xs))) ≤ length (cond d (x ∷ filter p xs) (filter p xs))
+      by_tests true true e rest = rw e (omega (arith, rest))
+      by_tests true false e rest = rw e rest
+      by_tests false true e rest = omega (arith, rest)
+      by_tests false false e rest = rest

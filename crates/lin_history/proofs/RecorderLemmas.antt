@@ -4,5 +4,8 @@ pub mod OutcomeLemmas
 pub mod ObjectLemmas
 pub mod NextEventLemmas
 pub mod BuilderLemmas
+pub mod KeptLemmas
+pub mod EndLemmas
+pub mod NumberingLemmas
 pub mod IndexLemmas
 pub mod PartCallsLemmas

@@ -2,6 +2,7 @@
 pub mod Names
 pub mod Events
 pub mod RecordedHistory
+pub mod Recording
 pub mod Parts
 pub mod NextEvents
 pub mod Views

@@ -9,6 +9,7 @@ abbrev pub cause_of : BuildFault → Cause
 cause_of faults.BadName = causes.BadObject
 cause_of faults.Declared = causes.Declared
 cause_of faults.UnknownObject = causes.UnknownObject
+cause_of (faults.ProcessEnded process) = causes.ProcessEnded process
 cause_of (faults.Busy process) = causes.Busy process
 cause_of (faults.NoCall process) = causes.NoCall process
 cause_of (faults.OtherObject process) = causes.OtherObject process

@@ -1,5 +1,6 @@
 -- The fields of a line's JSON value: each is none where it is absent or is not what it is to be.
-use Rattle.std.specs.Prelude.{ℕ, ◌^◌, ℤ, pos, negsuc, Bool, List, [], ◌∷◌, codes, bytes_eq, nat_lt, Option, Some, None, option_map, option_and_then, ok_or, Result, Err, if◌then◌else◌}
+use Rattle.std.specs.Prelude.{ℕ, ◌^◌, ◌&&◌, ℤ, pos, negsuc, Bool, true, false, is_some, is_none, List, [], ◌∷◌, codes, bytes_eq, nat_lt, Option, Some, None, option_map, option_and_then, ok_or, Result, Err, if◌then◌else◌}
+use Rattle.std.specs.Ordering.{int_eq}
 use Rattle.serde_json.specs.Data.{Data, null, boolean, number, string, array, object, Items, no_items, item}
 use Rattle.serde_json.specs.Find.{get, as_str, as_number, as_i64, as_array}
 use Rattle.lin_object.specs.Names.{beside}
@@ -10,7 +11,9 @@ use Rattle.lin_object.specs.declared.reply.Reply.{Reply}
 use Rattle.lin_object.specs.declared.reply.Reply.TheVariants.{Okay, Int, Flag, Empty}
 use Rattle.lin_history.specs.Recorder.Names.{is_name}
 use Rattle.lin_text.specs.declared.line.EventKind.{EventKind}
-use Rattle.lin_text.specs.declared.line.EventKind.TheVariants.{Declaration, Call, Return}
+use Rattle.lin_text.specs.declared.line.EventKind.TheVariants.{Header, Declaration, Call, Return, Fail, Info}
+use Rattle.lin_text.specs.declared.line.Format.{Format}
+use Rattle.lin_text.specs.declared.line.Format.TheVariants.{Unstated, One, Two}
 use Rattle.lin_text.specs.declared.cause.Cause.{Cause}
 use Rattle.lin_text.specs.declared.cause.Cause.TheVariants as causes
 
@@ -35,11 +38,44 @@ process_number (negsuc n) = None
 
 -- The events by their words.
 abbrev pub events : List (List ℕ × EventKind)
-events = (codes "object", Declaration) ∷ (codes "call", Call) ∷ (codes "return", Return) ∷ []
+events = (codes "object", Declaration) ∷ (codes "call", Call) ∷ (codes "return", Return) ∷ (codes "fail", Fail) ∷ (codes "info", Info) ∷ []
 
--- Which kind of event the line is, by its word at `event`.
-unfoldable pub event_kind_in : Data → Option EventKind
-event_kind_in d = option_and_then (beside events) (text_at (codes "event") d)
+-- The kind of event by the word at `event`.
+unfoldable pub kind_by_word : Data → Option EventKind
+kind_by_word d = option_and_then (beside events) (text_at (codes "event") d)
+
+-- The line is a header: no line that counts stands before it, and it has a format and no event.
+unfoldable pub is_header : Format → Data → Bool
+is_header Unstated d = is_some (get (codes "format") d) && is_none (get (codes "event") d)
+is_header One d = false
+is_header Two d = false
+
+-- The format is the second one.
+abbrev pub is_two : Format → Bool
+is_two Unstated = false
+is_two One = false
+is_two Two = true
+
+-- A text of this format may have events of this kind.
+abbrev pub has_kind : Format → EventKind → Bool
+has_kind format Header = true
+has_kind format Declaration = true
+has_kind format Call = true
+has_kind format Return = true
+has_kind format Fail = is_two format
+has_kind format Info = is_two format
+
+-- Which kind of event the line is, in a text of this format, or that it is the header.
+unfoldable pub event_kind_in : Format → Data → Option EventKind
+event_kind_in format d = if is_header format d then Some Header else option_and_then (when (has_kind format)) (kind_by_word d)
+
+-- The number 2.
+abbrev pub is_number_2 : ℤ → Bool
+is_number_2 n = int_eq n (pos 2)
+
+-- The format of a header is the whole number 2.
+unfoldable pub states_two : Data → Bool
+states_two d = is_some (option_and_then (when is_number_2) (option_and_then whole (get (codes "format") d)))
 
 -- The number at `process`.
 unfoldable pub process_in : Data → Option ℕ

@@ -1,5 +1,5 @@
 -- What one line of a history's text means: the event, or the first cause that holds.
-use Rattle.std.specs.Prelude.{◌≡◌, ℕ, ◌&&◌, ◌||◌, ℤ, Bool, true, false, List, [], ◌∷◌, Option, Some, None, is_none, option_map, option_and_then, Result, Ok, Err, if◌then◌else◌}
+use Rattle.std.specs.Prelude.{◌≡◌, ℕ, ◌&&◌, ℤ, Bool, true, false, not, List, [], ◌∷◌, Option, Some, None, is_none, option_map, option_and_then, Result, Ok, Err, if◌then◌else◌}
 use Rattle.std.specs.Str.{is_utf8}
 use Rattle.serde_json.specs.Data.{Data}
 use Rattle.serde_json.specs.Read.{read}
@@ -9,19 +9,24 @@ use Rattle.lin_object.specs.declared.op.Op.{Op}
 use Rattle.lin_object.specs.declared.reply.Reply.{Reply}
 use Rattle.lin_history.specs.Refusals.{first_that_holds}
 use Rattle.lin_text.specs.declared.line.EventKind.{EventKind}
-use Rattle.lin_text.specs.declared.line.EventKind.TheVariants.{Declaration, Call, Return}
+use Rattle.lin_text.specs.declared.line.EventKind.TheVariants.{Header, Declaration, Call, Return, Fail, Info}
+use Rattle.lin_text.specs.declared.line.Format.{Format}
 use Rattle.lin_text.specs.declared.line.Line.{Line}
 use Rattle.lin_text.specs.declared.line.Line.TheVariants as lines
 use Rattle.lin_text.specs.declared.cause.Cause.{Cause}
-use Rattle.lin_text.specs.declared.cause.Cause.TheVariants.{NotJson, NotObject, BadEvent, BadProcess, BadObject, UnknownObject, BadKind, BadStart, BadResult}
+use Rattle.lin_text.specs.declared.cause.Cause.TheVariants.{NotJson, NotObject, BadFormat, BadEvent, BadProcess, BadObject, UnknownObject, BadKind, BadStart, BadResult}
 use Rattle.lin_text.specs.declared.cause.Cause.TheVariants as causes
-use Rattle.lin_text.specs.Fields.{event_kind_in, process_in, name_in, kind_in, start_in, declared_kind, maker_in, op_in, reply_in}
+use Rattle.lin_text.specs.Fields.{event_kind_in, states_two, process_in, name_in, kind_in, start_in, declared_kind, maker_in, op_in, reply_in}
 
--- The event of a line: a declaration, a call or a return, with the name of its object.
+-- What a line tells: that the text has the second format, or an event: a declaration, a call, a return, a failure or the
+-- end of a process, with the name of its object.
 pub data LineEvent : Type 0 where
+  states : LineEvent
   declares : List ℕ → Kind → ℤ → LineEvent
   calls : ℕ → List ℕ → Op → LineEvent
   returns_ : ℕ → List ℕ → Reply → LineEvent
+  fails : ℕ → List ℕ → LineEvent
+  ends : ℕ → List ℕ → LineEvent
 
 -- ---- the causes, in order
 
@@ -29,47 +34,53 @@ pub data LineEvent : Type 0 where
 unfoldable pub json : List ℕ → Option Data
 json bytes = if is_utf8 bytes then read bytes else None
 
--- The line is this kind of event.
-abbrev pub is_event_kind : EventKind → Option EventKind → Bool
-is_event_kind Declaration (Some Declaration) = true
-is_event_kind Call (Some Call) = true
-is_event_kind Return (Some Return) = true
-is_event_kind _ _ = false
+-- It is this kind of event.
+abbrev pub is_kind : EventKind → Option EventKind → Bool
+is_kind Header (Some Header) = true
+is_kind Declaration (Some Declaration) = true
+is_kind Call (Some Call) = true
+is_kind Return (Some Return) = true
+is_kind _ _ = false
 
--- The line is a declaration, a call, a return.
-abbrev pub is_declaration : Data → Bool
-is_declaration d = is_event_kind Declaration (event_kind_in d)
+-- It is an event of a process.
+abbrev pub is_of_process : Option EventKind → Bool
+is_of_process None = false
+is_of_process (Some Header) = false
+is_of_process (Some Declaration) = false
+is_of_process (Some Call) = true
+is_of_process (Some Return) = true
+is_of_process (Some Fail) = true
+is_of_process (Some Info) = true
 
-abbrev pub is_call : Data → Bool
-is_call d = is_event_kind Call (event_kind_in d)
-
-abbrev pub is_return : Data → Bool
-is_return d = is_event_kind Return (event_kind_in d)
-
--- The causes of a line that is this JSON value, in order, each with whether it holds. `known` tells the kind of each
--- object that is declared before.
-abbrev pub conditions_in : (List ℕ → Option Kind) → Data → List (Bool × Cause)
-conditions_in known d =
+-- The causes of a JSON value that is this kind of event, in order, each with whether it holds. `known` tells the kind of
+-- each object that is declared before.
+abbrev pub conditions_as : Option EventKind → (List ℕ → Option Kind) → Data → List (Bool × Cause)
+conditions_as kind known d =
     (is_none (as_object d), NotObject)
-    ∷ (is_none (event_kind_in d), BadEvent)
-    ∷ ((is_call d || is_return d) && is_none (process_in d), BadProcess)
-    ∷ (is_none (name_in d), BadObject)
-    ∷ ((is_call d || is_return d) && is_none (declared_kind known d), UnknownObject)
-    ∷ (is_declaration d && is_none (kind_in d), BadKind)
-    ∷ (is_declaration d && is_none (start_in d), BadStart)
-    ∷ (is_call d && is_none (maker_in known d), causes.BadOp)
-    ∷ (is_call d && is_none (op_in known d), causes.BadArgs)
-    ∷ (is_return d && is_none (reply_in d), BadResult)
+    ∷ (is_kind Header kind && not (states_two d), BadFormat)
+    ∷ (is_none kind, BadEvent)
+    ∷ (is_of_process kind && is_none (process_in d), BadProcess)
+    ∷ (not (is_kind Header kind) && is_none (name_in d), BadObject)
+    ∷ (is_of_process kind && is_none (declared_kind known d), UnknownObject)
+    ∷ (is_kind Declaration kind && is_none (kind_in d), BadKind)
+    ∷ (is_kind Declaration kind && is_none (start_in d), BadStart)
+    ∷ (is_kind Call kind && is_none (maker_in known d), causes.BadOp)
+    ∷ (is_kind Call kind && is_none (op_in known d), causes.BadArgs)
+    ∷ (is_kind Return kind && is_none (reply_in d), BadResult)
     ∷ []
 
+-- The causes of a line that is this JSON value, in a text of this format.
+abbrev pub conditions_in : Format → (List ℕ → Option Kind) → Data → List (Bool × Cause)
+conditions_in format known d = conditions_as (event_kind_in format d) known d
+
 -- The causes of a line that has this JSON value, if it has one.
-abbrev pub conditions_at : (List ℕ → Option Kind) → Option Data → List (Bool × Cause)
-conditions_at known None = []
-conditions_at known (Some d) = conditions_in known d
+abbrev pub conditions_at : Format → (List ℕ → Option Kind) → Option Data → List (Bool × Cause)
+conditions_at format known None = []
+conditions_at format known (Some d) = conditions_in format known d
 
 -- The causes of a line, in order: first that it is no JSON, then those of its value.
-abbrev pub conditions : (List ℕ → Option Kind) → List ℕ → List (Bool × Cause)
-conditions known bytes = (is_none (json bytes), NotJson) ∷ conditions_at known (json bytes)
+abbrev pub conditions : Format → (List ℕ → Option Kind) → List ℕ → List (Bool × Cause)
+conditions format known bytes = (is_none (json bytes), NotJson) ∷ conditions_at format known (json bytes)
 
 -- ---- the event
 
@@ -79,30 +90,36 @@ made f a b = option_and_then (λ x. option_map (f x) b) a
 
 -- The event of a line of this kind: its parts, where all of them are there.
 abbrev pub event_as : (List ℕ → Option Kind) → Data → EventKind → Option LineEvent
+event_as known d Header = Some states
 event_as known d Declaration = option_and_then (λ name. made (declares name) (kind_in d) (start_in d)) (name_in d)
 event_as known d Call = option_and_then (λ process. made (calls process) (name_in d) (op_in known d)) (process_in d)
 event_as known d Return = option_and_then (λ process. made (returns_ process) (name_in d) (reply_in d)) (process_in d)
+event_as known d Fail = option_and_then (λ process. option_map (fails process) (name_in d)) (process_in d)
+event_as known d Info = option_and_then (λ process. option_map (ends process) (name_in d)) (process_in d)
 
--- The event of a line, where its kind and all its parts are there.
-abbrev pub event_in : (List ℕ → Option Kind) → Data → Option LineEvent
-event_in known d = option_and_then (event_as known d) (event_kind_in d)
+-- The event of a line in a text of this format, where its kind and all its parts are there.
+abbrev pub event_in : Format → (List ℕ → Option Kind) → Data → Option LineEvent
+event_in format known d = option_and_then (event_as known d) (event_kind_in format d)
 
 -- The value is this event, and no cause holds.
-pub record IsLineEventIn (known : List ℕ → Option Kind) (d : Data) (event : LineEvent) : Type 0 where
-  pub sound : first_that_holds (conditions_in known d) ≡ None
-  pub read_as : event_in known d ≡ Some event
+pub record IsLineEventIn (format : Format) (known : List ℕ → Option Kind) (d : Data) (event : LineEvent) : Type 0 where
+  pub sound : first_that_holds (conditions_in format known d) ≡ None
+  pub read_as : event_in format known d ≡ Some event
 
 -- The event, as the code has read it.
 abbrev pub seen : Line → LineEvent
+seen lines.Header = states
 seen (lines.Declare name kind start) = declares name.now kind start
 seen (lines.Call process name op) = calls process name.now op
 seen (lines.Return process name reply) = returns_ process name.now reply
+seen (lines.Fail process name) = fails process name.now
+seen (lines.Info process name) = ends process name.now
 
 -- The cause is the first that holds of the value, unless memory ran out.
-abbrev pub Fails : (List ℕ → Option Kind) → Data → Cause → Type 0
-Fails known d cause = (cause ≡ causes.OutOfMemory → ⊥) → first_that_holds (conditions_in known d) ≡ Some cause
+abbrev pub Fails : Format → (List ℕ → Option Kind) → Data → Cause → Type 0
+Fails format known d cause = (cause ≡ causes.OutOfMemory → ⊥) → first_that_holds (conditions_in format known d) ≡ Some cause
 
 -- What the code answers of a value: its event, or the first cause.
-abbrev pub Tells : (List ℕ → Option Kind) → Data → Result Line Cause → Type 0
-Tells known d (Ok line) = IsLineEventIn known d (seen line)
-Tells known d (Err cause) = Fails known d cause
+abbrev pub Tells : Format → (List ℕ → Option Kind) → Data → Result Line Cause → Type 0
+Tells format known d (Ok line) = IsLineEventIn format known d (seen line)
+Tells format known d (Err cause) = Fails format known d cause

@@ -6,10 +6,12 @@ use Rattle.lin_text.specs.declared.cause.Cause.{Cause}
 use Rattle.lin_text.specs.declared.cause.Cause.TheVariants.{LineTooLong, InputTooLong}
 use Rattle.lin_history.specs.Refusals.{first_that_holds}
 use Rattle.lin_history.specs.declared.recorder.fault.BuildFault.{BuildFault}
-use Rattle.lin_history.specs.Recorder.RecordedHistory.{RecordedHistory, kind_named, declaration_refusals, call_refusals, return_refusals}
+use Rattle.lin_history.specs.Recorder.RecordedHistory.{RecordedHistory}
+use Rattle.lin_history.specs.Recorder.Recording.{Recording, kind_named, declaration_refusals, call_refusals, end_refusals}
+use Rattle.lin_text.specs.declared.line.Format.{Format}
 use Rattle.lin_text.specs.Causes.{cause_of}
-use Rattle.lin_text.specs.Events.{TextEvents, nothing_told, told_after, history_of, IsHistoryTold}
-use Rattle.lin_text.specs.Line.{LineEvent, declares, calls, returns_, json, conditions, event_in}
+use Rattle.lin_text.specs.Events.{TextEvents, nothing_told, told_after, recording_of, IsTold, IsHistoryTold}
+use Rattle.lin_text.specs.Line.{LineEvent, states, declares, calls, returns_, fails, ends, json, conditions, event_in}
 
 -- ---- lines
 
@@ -35,41 +37,45 @@ is_blank_byte b = (b == 32) || (b == 9) || (b == 13)
 abbrev pub is_blank : List ℕ → Bool
 is_blank line = list_all is_blank_byte line
 
--- ---- one line, after the events of the lines before it. What a line may not say is told by the history of those events
+-- ---- one line, after the events of the lines before it. What a line may not say is told by the text's format and by the
+-- recording of those events
 
--- The event of a line that stands after the events of the history so far.
-unfoldable pub event_at : RecordedHistory → List ℕ → Option LineEvent
-event_at h line = option_and_then (event_in (kind_named h)) (json line)
+-- The event of a line that stands after what is recorded so far, in a text of this format.
+unfoldable pub event_at : Format → Recording → List ℕ → Option LineEvent
+event_at format r line = option_and_then (event_in format (kind_named r)) (json line)
 
 -- A condition of the builder, as one of a text.
 abbrev pub as_cause : Bool × BuildFault → Bool × Cause
-as_cause r = (r.0, cause_of r.1)
+as_cause c = (c.0, cause_of c.1)
 
--- Why the history so far refuses the event.
-abbrev pub refusals : RecordedHistory → LineEvent → List (Bool × BuildFault)
-refusals h (declares name kind start) = declaration_refusals h name
-refusals h (calls process name op) = call_refusals h process name
-refusals h (returns_ process name reply) = return_refusals h process name
+-- Why what is recorded so far refuses the event.
+abbrev pub refusals : Recording → LineEvent → List (Bool × BuildFault)
+refusals r states = []
+refusals r (declares name kind start) = declaration_refusals r name
+refusals r (calls process name op) = call_refusals r process name
+refusals r (returns_ process name reply) = end_refusals r process name
+refusals r (fails process name) = end_refusals r process name
+refusals r (ends process name) = end_refusals r process name
 
--- Why the history so far refuses the event of a line, as causes of the text.
-abbrev pub refusals_at : RecordedHistory → Option LineEvent → List (Bool × Cause)
-refusals_at h None = []
-refusals_at h (Some event) = map as_cause (refusals h event)
+-- Why what is recorded so far refuses the event of a line, as causes of the text.
+abbrev pub refusals_at : Recording → Option LineEvent → List (Bool × Cause)
+refusals_at r None = []
+refusals_at r (Some event) = map as_cause (refusals r event)
 
 -- The causes that a line can have, in order, each with whether it holds.
-abbrev pub causes_of : RecordedHistory → List ℕ → List (Bool × Cause)
-causes_of h line =
+abbrev pub causes_of : Format → Recording → List ℕ → List (Bool × Cause)
+causes_of format r line =
     (nat_lt MAX_LINE_BYTES (length line), LineTooLong)
-    ∷ (if is_blank line then [] else conditions (kind_named h) line ++ refusals_at h (event_at h line))
+    ∷ (if is_blank line then [] else conditions format (kind_named r) line ++ refusals_at r (event_at format r line))
 
 -- This is the first cause that holds of the line.
-abbrev pub HasCause : RecordedHistory → List ℕ → Cause → Type 0
-HasCause h line cause = first_that_holds (causes_of h line) ≡ Some cause
+abbrev pub HasCause : Format → Recording → List ℕ → Cause → Type 0
+HasCause format r line cause = first_that_holds (causes_of format r line) ≡ Some cause
 
 -- After what is told before, the line has no cause, and with its event, if it is not blank, this is told.
 pub record IsToldBy (told : TextEvents) (line : List ℕ) (more : TextEvents) : Type 0 where
-  pub sound : first_that_holds (causes_of (history_of told) line) ≡ None
-  pub after : more ≡ (if is_blank line then told else told_after told (event_at (history_of told) line))
+  pub sound : first_that_holds (causes_of told.format (recording_of told) line) ≡ None
+  pub after : more ≡ (if is_blank line then told else told_after told (event_at told.format (recording_of told) line))
 
 -- ---- all lines
 
@@ -86,6 +92,14 @@ pub record MeansHistory (text : List ℕ) (h : RecordedHistory) : Type 0 where
   pub lines_tell : AreToldBy nothing_told (lines text) told
   pub history : IsHistoryTold told h
 
+-- The text is recorded so: it is not too long, no line has a cause, and it is the recording of the events that its lines
+-- tell.
+pub record MeansRecording (text : List ℕ) (r : Recording) : Type 0 where
+  pub short : length text ≤ MAX_INPUT_BYTES
+  pub told : TextEvents
+  pub lines_tell : AreToldBy nothing_told (lines text) told
+  pub recording : IsTold told told.format r
+
 -- The lines before this one, which is the number-th, have no cause, and this is what they tell.
 pub record IsReached (text : List ℕ) (number : ℕ) (line : List ℕ) (told : TextEvents) : Type 0 where
   pub short : length text ≤ MAX_INPUT_BYTES
@@ -97,7 +111,7 @@ pub record IsReached (text : List ℕ) (number : ℕ) (line : List ℕ) (told : 
 
 -- The line of this number is the first with a cause, and this is its first cause.
 abbrev pub HasFaultyLine : List ℕ → ℕ → Cause → Type 0
-HasFaultyLine text number cause = (line : List ℕ) × (told : TextEvents) × IsReached text number line told × HasCause (history_of told) line cause
+HasFaultyLine text number cause = (line : List ℕ) × (told : TextEvents) × IsReached text number line told × HasCause told.format (recording_of told) line cause
 
 -- The text is too long, which is told of line 0.
 abbrev pub IsTooLong : List ℕ → ℕ → Cause → Type 0

@@ -1,7 +1,6 @@
 //! The causes for which a text is refused, and the line that tells a fault.
 
 ghost use Rattle.std.specs.Prelude.{◌≡◌, ◌≢◌, ◌++◌, OnOk, OnErr};
-ghost use Rattle.std.specs.Result.{result_map_both};
 ghost use Rattle.lin_text.specs.Causes.{cause_of};
 ghost use Rattle.lin_text.specs.Words.{fault_line};
 
@@ -22,7 +21,9 @@ pub enum Cause {
     NotJson,
     /// The line is another JSON value than an object.
     NotObject,
-    /// `event` is absent, no string, or no event of the table.
+    /// The line is a header that does not state format 2.
+    BadFormat,
+    /// `event` is absent, no string, or no event of the text's format.
     BadEvent,
     /// `process` is absent or no whole number from 0 to 4,294,967,295.
     BadProcess,
@@ -42,6 +43,8 @@ pub enum Cause {
     BadResult,
     /// The name is declared already.
     Declared,
+    /// The process has ended.
+    ProcessEnded(u32),
     /// The process has a pending call.
     Busy(u32),
     /// The process has no pending call.
@@ -68,6 +71,7 @@ impl fmt::Display for Cause {
             Cause::LineTooLong => write!(f, "line is longer than {MAX_LINE_BYTES} bytes"),
             Cause::NotJson => write!(f, "not JSON"),
             Cause::NotObject => write!(f, "not a JSON object"),
+            Cause::BadFormat => write!(f, "bad format"),
             Cause::BadEvent => write!(f, "bad event"),
             Cause::BadProcess => write!(f, "bad process"),
             Cause::BadObject => write!(f, "bad object name"),
@@ -78,6 +82,7 @@ impl fmt::Display for Cause {
             Cause::BadArgs => write!(f, "bad arguments"),
             Cause::BadResult => write!(f, "bad result"),
             Cause::Declared => write!(f, "object is declared already"),
+            Cause::ProcessEnded(process) => write!(f, "process {process} has ended"),
             Cause::Busy(process) => write!(f, "process {process} has a pending call"),
             Cause::NoCall(process) => write!(f, "process {process} has no pending call"),
             Cause::OtherObject(process) => write!(
@@ -102,30 +107,21 @@ pub struct TextFault {
     pub cause: Cause,
 }
 
-// What a refusal of the builder says of a text.
-fn cause_of(fault: BuildFault) -> Cause
+/// What a refusal of the builder says of a text.
+pub(crate) fn cause_of(fault: BuildFault) -> Cause
     ensures { result ≡ cause_of fault }
 {
     match fault {
         BuildFault::BadName => Cause::BadObject,
         BuildFault::Declared => Cause::Declared,
         BuildFault::UnknownObject => Cause::UnknownObject,
+        BuildFault::ProcessEnded(process) => Cause::ProcessEnded(process),
         BuildFault::Busy(process) => Cause::Busy(process),
         BuildFault::NoCall(process) => Cause::NoCall(process),
         BuildFault::OtherObject(process) => Cause::OtherObject(process),
         BuildFault::TooManyObjects => Cause::TooManyObjects,
         BuildFault::TooManyCalls => Cause::TooManyCalls,
         BuildFault::OutOfMemory => Cause::OutOfMemory,
-    }
-}
-
-/// What a text is answered where the builder answers so.
-pub(crate) fn answer_of(taken: Result<(), BuildFault>) -> Result<(), Cause>
-    ensures { result ≡ result_map_both (λ done. done) cause_of taken }
-{
-    match taken {
-        Ok(()) => Ok(()),
-        Err(fault) => Err(cause_of(fault)),
     }
 }
 

@@ -2,26 +2,80 @@
 
 ghost use Rattle.std.specs.Prelude.{◌≡◌, ◌≢◌, option_map, IfOk, IfErr, Ok, Err};
 ghost use Rattle.serde_json.specs.View.{view, items_view};
-ghost use Rattle.lin_text.specs.Fields.{event_kind_in, process_in, name_in, kind_in, start_at, reply_in, arguments_in, op_at, wholes};
+ghost use Rattle.lin_text.specs.Fields.{is_header, kind_by_word, has_kind, event_kind_in, states_two, process_in, name_in, kind_in, start_at, reply_in, arguments_in, op_at, wholes};
 
 use crate::cause::Cause;
-use crate::line::EventKind;
+use crate::line::{EventKind, Format};
 use lin_history::is_name;
 use lin_object::{Kind, Op, OpFault, Reply, is_op, kind_of_name, read_op};
 use serde_json::Value;
 use std::alloc::{AllocError, Global};
 
-/// Which kind of event the line is.
-#[tactic(auto, unfolding(crate::specs::Fields::event_kind_in))]
-pub(crate) fn event_kind_of(value: &Value) -> Option<EventKind>
-    ensures { result ≡ event_kind_in (view value.now) }
+// Whether the line is a header: the first of its text, with a format and with no event.
+#[tactic(auto, unfolding(crate::specs::Fields::is_header))]
+fn is_header(format: Format, value: &Value) -> bool
+    ensures { result ≡ is_header format (view value.now) }
+{
+    match format {
+        Format::Unstated => value.get("format").is_some() && value.get("event").is_none(),
+        Format::One | Format::Two => false,
+    }
+}
+
+// The kind of event by its word.
+#[tactic(auto, unfolding(crate::specs::Fields::kind_by_word))]
+fn kind_by_word(value: &Value) -> Option<EventKind>
+    ensures { result ≡ kind_by_word (view value.now) }
 {
     let word = value.get("event").and_then(Value::as_str)?;
     match word {
         "object" => Some(EventKind::Declaration),
         "call" => Some(EventKind::Call),
         "return" => Some(EventKind::Return),
+        "fail" => Some(EventKind::Fail),
+        "info" => Some(EventKind::Info),
         _ => None,
+    }
+}
+
+// Whether a text of this format may have events of this kind.
+fn has_kind(format: Format, kind: EventKind) -> bool
+    ensures { result ≡ has_kind format kind }
+{
+    match kind {
+        EventKind::Fail | EventKind::Info => matches!(format, Format::Two),
+        EventKind::Header | EventKind::Declaration | EventKind::Call | EventKind::Return => true,
+    }
+}
+
+/// Which kind of event the line is, in a text of this format, or that it is the header.
+#[tactic(auto, unfolding(crate::specs::Fields::event_kind_in))]
+pub(crate) fn event_kind_of(format: Format, value: &Value) -> Option<EventKind>
+    ensures { result ≡ event_kind_in format (view value.now) }
+{
+    if is_header(format, value) {
+        return Some(EventKind::Header);
+    }
+    match kind_by_word(value) {
+        Some(kind) => {
+            if has_kind(format, kind) {
+                Some(kind)
+            } else {
+                None
+            }
+        }
+        None => None,
+    }
+}
+
+/// Whether the format of a header is 2.
+#[tactic(auto, unfolding(crate::specs::Fields::states_two))]
+pub(crate) fn states_two(value: &Value) -> bool
+    ensures { result ≡ states_two (view value.now) }
+{
+    match value.get("format").and_then(Value::as_i64) {
+        Some(number) => number == 2,
+        None => false,
     }
 }
 

@@ -2,18 +2,35 @@
 
 use lin_object::{Kind, Op, Reply};
 
-/// Which of the three events a line is.
+/// Which format a text has. Its first line that is not skipped tells.
+#[derive(Clone, Copy, PartialEq, Eq, Debug)]
+pub(crate) enum Format {
+    /// No line has told yet.
+    Unstated,
+    /// Its first line was no header.
+    One,
+    /// A header states it.
+    Two,
+}
+
+/// Which kind of event a line is, or that it is the header.
 #[derive(Clone, Copy, PartialEq, Eq, Debug)]
 pub(crate) enum EventKind {
+    Header,
     Declaration,
     Call,
     Return,
+    Fail,
+    Info,
 }
 
-/// An event as it stands in a line.
+/// An event as it stands in a line, or the header.
 #[derive(Clone, Copy, Debug)]
 pub(crate) enum Line<'v> {
+    Header,
     Declare(&'v str, Kind, i64),
     Call(u32, &'v str, Op),
     Return(u32, &'v str, Reply),
+    Fail(u32, &'v str),
+    Info(u32, &'v str),
 }

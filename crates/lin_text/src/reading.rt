@@ -3,22 +3,28 @@
 ghost use Rattle.std.specs.Prelude.{◌≡◌, is_some, true, Some, Ok, Err};
 ghost use Rattle.serde_json.specs.Find.{as_object};
 ghost use Rattle.serde_json.specs.View.{view};
-ghost use Rattle.lin_history.specs.Recorder.RecordedHistory.{kind_named};
+ghost use Rattle.lin_history.specs.Recorder.Recording.{kind_named};
 ghost use Rattle.lin_text.specs.Fields.{event_kind_in};
 ghost use Rattle.lin_text.specs.Line.{Tells};
 
 use crate::cause::Cause;
-use crate::fields::{event_kind_of, kind_of, name_of, op_of, process_of, reply_of, start_of};
-use crate::line::{EventKind, Line};
+use crate::fields::{
+    event_kind_of, kind_of, name_of, op_of, process_of, reply_of, start_of, states_two,
+};
+use crate::line::{EventKind, Format, Line};
 use lin_history::Builder;
 use serde_json::Value;
 use std::alloc::Global;
 
 // The declaration that a value is, or its first cause.
-fn declaration_of<'v>(builder: &Builder, value: &'v Value) -> Result<Line<'v>, Cause>
+fn declaration_of<'v>(
+    format: Format,
+    builder: &Builder,
+    value: &'v Value,
+) -> Result<Line<'v>, Cause>
     requires object { is_some (as_object (view value.now)) ≡ true }
-    requires kind { event_kind_in (view value.now) ≡ Some EventKind.Declaration }
-    ensures { Tells (kind_named builder.now) (view value.now) result }
+    requires kind { event_kind_in format (view value.now) ≡ Some EventKind.Declaration }
+    ensures { Tells format (kind_named builder.now) (view value.now) result }
 {
     let Some(name) = name_of(value) else {
         return Err(Cause::BadObject);
@@ -33,10 +39,15 @@ fn declaration_of<'v>(builder: &Builder, value: &'v Value) -> Result<Line<'v>, C
 }
 
 // The call that a value is, or its first cause.
-fn call_of<'v>(alloc: Global, builder: &Builder, value: &'v Value) -> Result<Line<'v>, Cause>
+fn call_of<'v>(
+    alloc: Global,
+    format: Format,
+    builder: &Builder,
+    value: &'v Value,
+) -> Result<Line<'v>, Cause>
     requires object { is_some (as_object (view value.now)) ≡ true }
-    requires kind { event_kind_in (view value.now) ≡ Some EventKind.Call }
-    ensures { Tells (kind_named builder.now) (view value.now) result }
+    requires kind { event_kind_in format (view value.now) ≡ Some EventKind.Call }
+    ensures { Tells format (kind_named builder.now) (view value.now) result }
 {
     let Some(process) = process_of(value) else {
         return Err(Cause::BadProcess);
@@ -54,10 +65,10 @@ fn call_of<'v>(alloc: Global, builder: &Builder, value: &'v Value) -> Result<Lin
 }
 
 // The return that a value is, or its first cause.
-fn return_of<'v>(builder: &Builder, value: &'v Value) -> Result<Line<'v>, Cause>
+fn return_of<'v>(format: Format, builder: &Builder, value: &'v Value) -> Result<Line<'v>, Cause>
     requires object { is_some (as_object (view value.now)) ≡ true }
-    requires kind { event_kind_in (view value.now) ≡ Some EventKind.Return }
-    ensures { Tells (kind_named builder.now) (view value.now) result }
+    requires kind { event_kind_in format (view value.now) ≡ Some EventKind.Return }
+    ensures { Tells format (kind_named builder.now) (view value.now) result }
 {
     let Some(process) = process_of(value) else {
         return Err(Cause::BadProcess);
@@ -74,19 +85,76 @@ fn return_of<'v>(builder: &Builder, value: &'v Value) -> Result<Line<'v>, Cause>
     Ok(Line::Return(process, name, reply))
 }
 
-/// The event that a value is, or the first cause that it has.
-pub fn read_value<'v>(alloc: Global, builder: &Builder, value: &'v Value) -> Result<Line<'v>, Cause>
-    ensures { Tells (kind_named builder.now) (view value.now) result }
+// The failure of a call that a value is, or its first cause.
+fn fail_of<'v>(format: Format, builder: &Builder, value: &'v Value) -> Result<Line<'v>, Cause>
+    requires object { is_some (as_object (view value.now)) ≡ true }
+    requires kind { event_kind_in format (view value.now) ≡ Some EventKind.Fail }
+    ensures { Tells format (kind_named builder.now) (view value.now) result }
+{
+    let Some(process) = process_of(value) else {
+        return Err(Cause::BadProcess);
+    };
+    let Some(name) = name_of(value) else {
+        return Err(Cause::BadObject);
+    };
+    if builder.kind_of(name).is_none() {
+        return Err(Cause::UnknownObject);
+    }
+    Ok(Line::Fail(process, name))
+}
+
+// The end of a process that a value is, or its first cause.
+fn info_of<'v>(format: Format, builder: &Builder, value: &'v Value) -> Result<Line<'v>, Cause>
+    requires object { is_some (as_object (view value.now)) ≡ true }
+    requires kind { event_kind_in format (view value.now) ≡ Some EventKind.Info }
+    ensures { Tells format (kind_named builder.now) (view value.now) result }
+{
+    let Some(process) = process_of(value) else {
+        return Err(Cause::BadProcess);
+    };
+    let Some(name) = name_of(value) else {
+        return Err(Cause::BadObject);
+    };
+    if builder.kind_of(name).is_none() {
+        return Err(Cause::UnknownObject);
+    }
+    Ok(Line::Info(process, name))
+}
+
+// The header that a value is, or its first cause.
+fn header_of<'v>(format: Format, builder: &Builder, value: &'v Value) -> Result<Line<'v>, Cause>
+    requires object { is_some (as_object (view value.now)) ≡ true }
+    requires kind { event_kind_in format (view value.now) ≡ Some EventKind.Header }
+    ensures { Tells format (kind_named builder.now) (view value.now) result }
+{
+    if states_two(value) {
+        Ok(Line::Header)
+    } else {
+        Err(Cause::BadFormat)
+    }
+}
+
+/// The event that a value is in a text of this format, or the header, or the first cause that it has.
+pub(crate) fn read_value<'v>(
+    alloc: Global,
+    format: Format,
+    builder: &Builder,
+    value: &'v Value,
+) -> Result<Line<'v>, Cause>
+    ensures { Tells format (kind_named builder.now) (view value.now) result }
 {
     if !value.is_object() {
         return Err(Cause::NotObject);
     }
-    let Some(kind) = event_kind_of(value) else {
+    let Some(kind) = event_kind_of(format, value) else {
         return Err(Cause::BadEvent);
     };
     match kind {
-        EventKind::Declaration => declaration_of(builder, value),
-        EventKind::Call => call_of(alloc, builder, value),
-        EventKind::Return => return_of(builder, value),
+        EventKind::Header => header_of(format, builder, value),
+        EventKind::Declaration => declaration_of(format, builder, value),
+        EventKind::Call => call_of(alloc, format, builder, value),
+        EventKind::Return => return_of(format, builder, value),
+        EventKind::Fail => fail_of(format, builder, value),
+        EventKind::Info => info_of(format, builder, value),
     }
 }

@@ -3,13 +3,13 @@
 ghost use Rattle.std.specs.Prelude.{position, IfSome, ◌≡◌, ◌≢◌, ◌<◌, ◌≤◌, ◌∷◌, length, Some, None, Ok, Err, IfOk, IfErr, OnOk, OnErr};
 ghost use Rattle.serde_json.specs.View.{view};
 ghost use Rattle.lin_text.specs.Line.{json, seen};
-ghost use Rattle.lin_history.specs.Recorder.RecordedHistory.{no_event};
-ghost use Rattle.lin_text.specs.Events.{TextEvents, IsHistoryTold, told_with};
-ghost use Rattle.lin_text.specs.Text.{is_newline, lines, is_blank, refusals, HasCause, IsToldBy, MeansHistory, MeansFault, RanOutAt};
+ghost use Rattle.lin_history.specs.Recorder.Recording.{no_event};
+ghost use Rattle.lin_text.specs.Events.{TextEvents, IsTold, format_after, told_with};
+ghost use Rattle.lin_text.specs.Text.{is_newline, lines, is_blank, refusals, HasCause, IsToldBy, MeansHistory, MeansRecording, MeansFault, RanOutAt};
 ghost use Rattle.lin_history.specs.Refusals.{first_that_holds};
 
-use crate::cause::{Cause, TextFault, answer_of};
-use crate::line::Line;
+use crate::cause::{Cause, TextFault, cause_of};
+use crate::line::{Format, Line};
 use crate::reading::read_value;
 use lin_history::{BuildFault, Builder, History};
 use serde_json::{Category, Value};
@@ -49,25 +49,51 @@ fn json_of(alloc: Global, line: &[u8]) -> Result<Value, Cause>
 fn take_event(alloc: Global, builder: &mut Builder, event: Line<'_>) -> Result<(), BuildFault>
     ensures sound { OnOk result (first_that_holds (refusals builder.old (seen event.entry))
         ≡ None) }
-    ensures history { OnOk result ((told : TextEvents) → IsHistoryTold told builder.old
-        → IsHistoryTold (told_with told (seen event.entry)) builder.new) }
+    ensures history { OnOk result ((told : TextEvents) → (format : _)
+        → IsTold told format builder.old → IsTold (told_with told (seen event.entry))
+        (format_after format (seen event.entry)) builder.new) }
     ensures err { IfErr result (λ fault. fault ≢ BuildFault.OutOfMemory
         → first_that_holds (refusals builder.old (seen event.entry)) ≡ Some fault) }
     ensures same { OnErr result (builder.new ≡ builder.old) }
 {
     match event {
+        Line::Header => Ok(()),
         Line::Declare(name, kind, start) => builder.declare(alloc, name, kind, start),
         Line::Call(process, name, op) => builder.call(process, name, op),
         Line::Return(process, name, reply) => builder.ret(process, name, reply),
+        Line::Fail(process, name) => builder.fail(process, name),
+        Line::Info(process, name) => builder.info(process, name),
     }
 }
 
-// Takes the event of a line. An `Err` changes nothing.
-fn take_line(alloc: Global, builder: &mut Builder, line: &[u8]) -> Result<(), Cause>
-    ensures ok { OnOk result ((told : TextEvents) → IsHistoryTold told builder.old
-        → (more : TextEvents) × IsToldBy told line.now more × IsHistoryTold more builder.new) }
+// The format of a text after this line.
+fn format_after(format: Format, event: &Line<'_>) -> Format
+    ensures { result ≡ format_after format (seen event.now) }
+{
+    match event {
+        Line::Header => Format::Two,
+        Line::Declare(_, _, _)
+        | Line::Call(_, _, _)
+        | Line::Return(_, _, _)
+        | Line::Fail(_, _)
+        | Line::Info(_, _) => match format {
+            Format::Two => Format::Two,
+            Format::Unstated | Format::One => Format::One,
+        },
+    }
+}
+
+// Takes the event of a line, and tells the format after it. An `Err` changes nothing.
+fn take_line(
+    alloc: Global,
+    format: Format,
+    builder: &mut Builder,
+    line: &[u8],
+) -> Result<Format, Cause>
+    ensures ok { IfOk result (λ after. (told : TextEvents) → IsTold told format builder.old
+        → (more : TextEvents) × IsToldBy told line.now more × IsTold more after builder.new) }
     ensures err { IfErr result (λ cause. cause ≢ Cause.OutOfMemory
-        → HasCause builder.old line.now cause) }
+        → HasCause format builder.old line.now cause) }
     ensures memory { IfErr result (λ cause. cause ≡ Cause.OutOfMemory
         → length line.now ≤ MAX_LINE_BYTES) }
     ensures same { OnErr result (builder.new ≡ builder.old) }
@@ -76,17 +102,21 @@ fn take_line(alloc: Global, builder: &mut Builder, line: &[u8]) -> Result<(), Ca
         return Err(Cause::LineTooLong);
     }
     if is_blank(line) {
-        return Ok(());
+        return Ok(format);
     }
     let value = match json_of(alloc, line) {
         Ok(value) => value,
         Err(cause) => return Err(cause),
     };
-    let event = match read_value(alloc, builder, &value) {
+    let event = match read_value(alloc, format, builder, &value) {
         Ok(event) => event,
         Err(cause) => return Err(cause),
     };
-    answer_of(take_event(alloc, builder, event))
+    let after = format_after(format, &event);
+    match take_event(alloc, builder, event) {
+        Ok(()) => Ok(after),
+        Err(fault) => Err(cause_of(fault)),
+    }
 }
 
 // Where the first line feed is.
@@ -113,7 +143,7 @@ fn first_line(text: &[u8]) -> (&[u8], &[u8])
 fn read_lines(alloc: Global, builder: &mut Builder, text: &[u8]) -> Result<(), TextFault>
     requires start { builder.old ≡ no_event }
     requires short { length text.now ≤ MAX_INPUT_BYTES }
-    ensures history { OnOk result (MeansHistory text.now builder.new) }
+    ensures history { OnOk result (MeansRecording text.now builder.new) }
     ensures fault { IfErr result (λ fault. fault.cause ≢ Cause.OutOfMemory
         → MeansFault text.now fault.line fault.cause) }
     ensures memory { IfErr result (λ fault. fault.cause ≡ Cause.OutOfMemory
@@ -121,14 +151,18 @@ fn read_lines(alloc: Global, builder: &mut Builder, text: &[u8]) -> Result<(), T
 {
     let mut rest = text;
     let mut number = 0u64;
+    let mut format = Format::Unstated;
     'lines: while !rest.is_empty() {
         let (line, more) = first_line(rest);
         number += 1;
-        if let Err(cause) = take_line(alloc, builder, line) {
-            return Err(TextFault {
-                line: number,
-                cause,
-            });
+        match take_line(alloc, format, builder, line) {
+            Ok(after) => format = after,
+            Err(cause) => {
+                return Err(TextFault {
+                    line: number,
+                    cause,
+                });
+            }
         }
         rest = more;
     }

@@ -6,8 +6,9 @@ use Rattle.std.proofs.lemmas.Option.{slice_get_cases}
 use Rattle.lin_history.specs.declared.limits.TheConstants.{MAX_CALLS_ON_OBJECT}
 use Rattle.lin_history.specs.declared.problems.problem.ProblemCall.{ProblemCall}
 use Rattle.lin_history.specs.Problems.ProblemParts.{number_of, greatest_number, AreTimed, returned_in}
-use Rattle.lin_history.specs.Recorder.Events.{Event, calls, returns_, Call, first_return, calls_from}
+use Rattle.lin_history.specs.Recorder.Events.{Event, calls, returns_, fails, ends, Call, Made, Outcome, unknown, failed, replied, outcome_after, made_from, is_kept, return_in, call_of, calls_of, calls_from}
 use Rattle.lin_history.specs.Recorder.Parts.{problem_call}
+use Rattle.lin_history.proofs.ListLemmas.{slice_get-mapped}
 use Rattle.lin_history.proofs.ProblemLemmas.NumberLemmas.{called_within, greatest_number-pushed, greatest_number-set}
 
 module _ {A : Type 0} where
@@ -188,81 +189,113 @@ module _ {A : Type 0} (test : A → Bool) where
   filtered_by x l false i y rest e = let q = rest i e in (suc q.0, q.1)
 
   -- what passes a test is in the list
-  filtered : (l : List A) (i : ℕ) (y : A) → slice_get (filter test l) i ≡ Some y → (j : ℕ) × (slice_get l j ≡ Some y)
+  pub filtered : (l : List A) (i : ℕ) (y : A) → slice_get (filter test l) i ≡ Some y → (j : ℕ) × (slice_get l j ≡ Some y)
   filtered [] i y e = absurd (cc)
   filtered (x ∷ l) i y e = filtered_by x l (test x) i y (λ k f. filtered l k y f) e
 
-return_by : {Reply : Type 0} (b : Bool) (n : ℕ) (r : Reply) (s : ℕ × Reply) (o : Option (ℕ × Reply)) → (if b then Some (n, r) else o) ≡ Some s → (s.0 ≡ n) ⊎ (o ≡ Some s)
+return_by : {Reply : Type 0} (b : Bool) (n : ℕ) (r : Reply) (s : ℕ × Reply) (o : Outcome Reply) → return_in (if b then replied n r else o) ≡ Some s → (s.0 ≡ n) ⊎ (return_in o ≡ Some s)
 return_by {Reply = Reply} true n r s o e = let same : (n, r) ≡ s = cc in inl (ap (λ (z : ℕ × Reply). z.0) (sym same))
 return_by false n r s o e = inr e
 
-module _ {Op Reply : Type 0} where
-  abbrev called_of : Call Op Reply → ℕ
-  called_of c = c.called
+-- what is no reply tells no return
+no_reply_by : {Reply : Type 0} (b : Bool) (x o : Outcome Reply) (s : ℕ × Reply) → return_in x ≡ None → return_in (if b then x else o) ≡ Some s → return_in o ≡ Some s
+no_reply_by true x o s none e = absurd (cc)
+no_reply_by false x o s none e = e
 
-  rises_events : (n : ℕ) (es : List (Event Op Reply)) → Rises called_of n (calls_from n es)
+module _ {Op Reply : Type 0} where
+  abbrev called_of : Made Op Reply → ℕ
+  called_of m = m.called
+
+  rises_events : (n : ℕ) (es : List (Event Op Reply)) → Rises called_of n (made_from n es)
   rises_events n [] = tt
   rises_events n (calls p o op ∷ es) = (omega arith, rises_events (n + 1) es)
-  rises_events n (returns_ p o r ∷ es) = rises_more called_of n (n + 1) (calls_from (n + 1) es) (omega arith) (rises_events (n + 1) es)
+  rises_events n (returns_ p o r ∷ es) = rises_more called_of n (n + 1) (made_from (n + 1) es) (omega arith) (rises_events (n + 1) es)
+  rises_events n (fails p o ∷ es) = rises_events n es
+  rises_events n (ends p o ∷ es) = rises_events n es
 
-  return_late : (p n : ℕ) (es : List (Event Op Reply)) (s : ℕ × Reply) → first_return p n es ≡ Some s → n ≤ s.0
+  return_late : (p n : ℕ) (es : List (Event Op Reply)) (s : ℕ × Reply) → return_in (outcome_after p n es) ≡ Some s → n ≤ s.0
   return_late p n [] s e = absurd (cc)
   return_late p n (calls q o op ∷ es) s e = let rest = return_late p (n + 1) es s e in omega (arith, rest)
-  return_late p n (returns_ q o r ∷ es) s e = elim (return_by (q == p) n r s (first_return p (n + 1) es) e) [
+  return_late p n (returns_ q o r ∷ es) s e = elim (return_by (q == p) n r s (outcome_after p (n + 1) es) e) [
     | inl k ↦ omega (arith, k)
     | inr k ↦ (let rest = return_late p (n + 1) es s k in omega (arith, rest))
   ]
+  return_late p n (fails q o ∷ es) s e = return_late p n es s (no_reply_by (q == p) failed (outcome_after p n es) s refl e)
+  return_late p n (ends q o ∷ es) s e = return_late p n es s (no_reply_by (q == p) unknown (outcome_after p n es) s refl e)
 
-  called_low : (n : ℕ) (es : List (Event Op Reply)) (i : ℕ) (x : Call Op Reply) → slice_get (calls_from n es) i ≡ Some x → n ≤ x.called
-  called_low n es i x e = rises_low called_of n (calls_from n es) i x (rises_events n es) e
+  called_low : (n : ℕ) (es : List (Event Op Reply)) (i : ℕ) (x : Made Op Reply) → slice_get (made_from n es) i ≡ Some x → n ≤ x.called
+  called_low n es i x e = rises_low called_of n (made_from n es) i x (rises_events n es) e
 
   -- each call returns after it was called
-  after_call : (n : ℕ) (es : List (Event Op Reply)) (i : ℕ) (x : Call Op Reply) (s : ℕ × Reply) → slice_get (calls_from n es) i ≡ Some x → x.returned ≡ Some s → x.called < s.0
+  after_call : (n : ℕ) (es : List (Event Op Reply)) (i : ℕ) (x : Made Op Reply) (s : ℕ × Reply) → slice_get (made_from n es) i ≡ Some x → return_in x.outcome ≡ Some s → x.called < s.0
   after_call n [] i x s e f = absurd (cc)
   after_call n (returns_ p o r ∷ es) i x s e f = after_call (n + 1) es i x s e f
+  after_call n (fails p o ∷ es) i x s e f = after_call n es i x s e f
+  after_call n (ends p o ∷ es) i x s e f = after_call n es i x s e f
   after_call n (calls p o op ∷ es) (suc i) x s e f = after_call (n + 1) es i x s e f
   after_call n (calls p o op ∷ es) zero x s e f =
-      let c : Call Op Reply = record { process = p; object = o; op = op; called = n; returned = first_return p (n + 1) es } in
+      let c : Made Op Reply = record { process = p; object = o; op = op; called = n; outcome = outcome_after p (n + 1) es } in
       let same : c ≡ x = cc in
-      let late = return_late p (n + 1) es s (ap (λ (z : Call Op Reply). z.returned) same ∙ f) in
-      let m : n ≡ x.called = ap (λ (z : Call Op Reply). z.called) same in
+      let late = return_late p (n + 1) es s (ap (λ (z : Made Op Reply). return_in z.outcome) same ∙ f) in
+      let m : n ≡ x.called = ap (λ (z : Made Op Reply). z.called) same in
       omega (arith, late, m)
 
   -- the return of a process is no call event
-  no_call : (p n : ℕ) (es : List (Event Op Reply)) (i : ℕ) (x : Call Op Reply) (s : ℕ × Reply) → first_return p n es ≡ Some s → slice_get (calls_from n es) i ≡ Some x → s.0 ≢ x.called
+  no_call : (p n : ℕ) (es : List (Event Op Reply)) (i : ℕ) (x : Made Op Reply) (s : ℕ × Reply) → return_in (outcome_after p n es) ≡ Some s → slice_get (made_from n es) i ≡ Some x → s.0 ≢ x.called
   no_call p n [] i x s e f = absurd (cc)
   no_call p n (calls q o op ∷ es) zero x s e f = λ k.
-      let c : Call Op Reply = record { process = q; object = o; op = op; called = n; returned = first_return q (n + 1) es } in
+      let c : Made Op Reply = record { process = q; object = o; op = op; called = n; outcome = outcome_after q (n + 1) es } in
       let same : c ≡ x = cc in
-      let m : n ≡ x.called = ap (λ (z : Call Op Reply). z.called) same in
+      let m : n ≡ x.called = ap (λ (z : Made Op Reply). z.called) same in
       let late = return_late p (n + 1) es s e in
       omega (arith, late, m, k)
   no_call p n (calls q o op ∷ es) (suc i) x s e f = no_call p (n + 1) es i x s e f
-  no_call p n (returns_ q o r ∷ es) i x s e f = elim (return_by (q == p) n r s (first_return p (n + 1) es) e) [
+  no_call p n (returns_ q o r ∷ es) i x s e f = elim (return_by (q == p) n r s (outcome_after p (n + 1) es) e) [
     | inl k ↦ (λ m. let low = called_low (n + 1) es i x f in omega (arith, k, m, low))
     | inr k ↦ no_call p (n + 1) es i x s k f
   ]
+  no_call p n (fails q o ∷ es) i x s e f = no_call p n es i x s (no_reply_by (q == p) failed (outcome_after p n es) s refl e) f
+  no_call p n (ends q o ∷ es) i x s e f = no_call p n es i x s (no_reply_by (q == p) unknown (outcome_after p n es) s refl e) f
 
-  events_apart : (n : ℕ) (es : List (Event Op Reply)) (i j : ℕ) (x y : Call Op Reply) (s : ℕ × Reply) → slice_get (calls_from n es) i ≡ Some x → slice_get (calls_from n es) j ≡ Some y → x.returned ≡ Some s → s.0 ≢ y.called
+  events_apart : (n : ℕ) (es : List (Event Op Reply)) (i j : ℕ) (x y : Made Op Reply) (s : ℕ × Reply) → slice_get (made_from n es) i ≡ Some x → slice_get (made_from n es) j ≡ Some y → return_in x.outcome ≡ Some s → s.0 ≢ y.called
   events_apart n [] i j x y s e f g = absurd (cc)
   events_apart n (returns_ p o r ∷ es) i j x y s e f g = events_apart (n + 1) es i j x y s e f g
+  events_apart n (fails p o ∷ es) i j x y s e f g = events_apart n es i j x y s e f g
+  events_apart n (ends p o ∷ es) i j x y s e f g = events_apart n es i j x y s e f g
   events_apart n (calls p o op ∷ es) zero zero x y s e f g = λ k.
       let low = after_call n (calls p o op ∷ es) zero x s e g in
       let same : x ≡ y = cc in
-      let m = ap (λ (z : Call Op Reply). z.called) same in
+      let m = ap (λ (z : Made Op Reply). z.called) same in
       omega (arith, low, k, m)
   events_apart n (calls p o op ∷ es) zero (suc j) x y s e f g =
-      let c : Call Op Reply = record { process = p; object = o; op = op; called = n; returned = first_return p (n + 1) es } in
+      let c : Made Op Reply = record { process = p; object = o; op = op; called = n; outcome = outcome_after p (n + 1) es } in
       let same : c ≡ x = cc in
-      no_call p (n + 1) es j y s (ap (λ (z : Call Op Reply). z.returned) same ∙ g) f
+      no_call p (n + 1) es j y s (ap (λ (z : Made Op Reply). return_in z.outcome) same ∙ g) f
   events_apart n (calls p o op ∷ es) (suc i) zero x y s e f g = λ k.
-      let c : Call Op Reply = record { process = p; object = o; op = op; called = n; returned = first_return p (n + 1) es } in
+      let c : Made Op Reply = record { process = p; object = o; op = op; called = n; outcome = outcome_after p (n + 1) es } in
       let same : c ≡ y = cc in
-      let m : n ≡ y.called = ap (λ (z : Call Op Reply). z.called) same in
+      let m : n ≡ y.called = ap (λ (z : Made Op Reply). z.called) same in
       let low = called_low (n + 1) es i x e in
       let late = after_call (n + 1) es i x s e g in
       omega (arith, low, late, m, k)
   events_apart n (calls p o op ∷ es) (suc i) (suc j) x y s e f g = events_apart (n + 1) es i j x y s e f g
+
+  -- a call of the history was made
+  pub was_made : (made : List (Made Op Reply)) (i : ℕ) (c : Call Op Reply) → slice_get (calls_of made) i ≡ Some c → (j : ℕ) × (m : Made Op Reply) × (slice_get made j ≡ Some m) × (call_of m ≡ c)
+  was_made made i c e =
+      let m = slice_get-mapped call_of (filter is_kept made) i c e in
+      let f = filtered is_kept made i m.0 m.1 in
+      (f.0, m.0, f.1, m.2)
+
+  abbrev called_in : Call Op Reply → ℕ
+  called_in c = c.called
+
+  rises_mapped : (n : ℕ) (made : List (Made Op Reply)) → Rises called_of n made → Rises called_in n (map call_of made)
+  rises_mapped n [] r = tt
+  rises_mapped n (m ∷ made) r = (r.0, rises_mapped (m.called + 1) made r.1)
+
+  rises_calls : (n : ℕ) (es : List (Event Op Reply)) → Rises called_in n (calls_from n es)
+  rises_calls n es = rises_mapped n (filter is_kept (made_from n es)) (rises_filter called_of is_kept n (made_from n es) (rises_events n es))
 
   mapped : (l : List (Call Op Reply)) (i : ℕ) (x : ProblemCall Op Reply) → slice_get (map problem_call l) i ≡ Some x → (c : Call Op Reply) × (slice_get l i ≡ Some c) × (x.called ≡ c.called) × (x.returned ≡ c.returned)
   mapped [] i x e = absurd (cc)
@@ -277,22 +310,42 @@ module _ {Op Reply : Type 0} where
     kept : (i : ℕ) (x : ProblemCall Op Reply) → slice_get (map problem_call (filter test (calls_from n es))) i ≡ Some x → Kept i x
     kept i x e = mapped (filter test (calls_from n es)) i x e
 
+    -- what was made of it
+    pub record Origin (x : ProblemCall Op Reply) : Type 0 where
+      pub place : ℕ
+      pub made : Made Op Reply
+      pub there : slice_get (made_from n es) place ≡ Some made
+      pub called : x.called ≡ made.called
+      pub returned : x.returned ≡ return_in made.outcome
+
+    origin : (i : ℕ) (x : ProblemCall Op Reply) → Kept i x → Origin x
+    origin i x k =
+        let f = filtered test (calls_from n es) i k.0 k.1 in
+        let m = was_made (made_from n es) f.0 k.0 f.1 in
+        record {
+          place = m.0;
+          made = m.1;
+          there = m.2;
+          called = k.2 ∙ ap (λ (z : Call Op Reply). z.called) (sym m.3);
+          returned = k.3 ∙ ap (λ (z : Call Op Reply). z.returned) (sym m.3);
+        }
+
     kept_called : (a b : ℕ) (x y : ProblemCall Op Reply) → a < b → Kept a x → Kept b y → x.called < y.called
     kept_called a b x y h p q =
-        let low = rises_apart called_of n (filter test (calls_from n es)) a b p.0 q.0 h (rises_filter called_of test n (calls_from n es) (rises_events n es)) p.1 q.1 in
+        let low = rises_apart called_in n (filter test (calls_from n es)) a b p.0 q.0 h (rises_filter called_in test n (calls_from n es) (rises_calls n es)) p.1 q.1 in
         let m = p.2 in let k = q.2 in omega (arith, low, m, k)
 
     kept_returned : (a : ℕ) (x : ProblemCall Op Reply) (r : ℕ × Reply) → Kept a x → x.returned ≡ Some r → x.called < r.0
     kept_returned a x r p e =
-        let f = filtered test (calls_from n es) a p.0 p.1 in
-        let low = after_call n es f.0 p.0 r f.1 (sym p.3 ∙ e) in
-        let m = p.2 in omega (arith, low, m)
+        let o = origin a x p in
+        let low = after_call n es o.place o.made r o.there (sym o.returned ∙ e) in
+        let m = o.called in omega (arith, low, m)
 
     kept_apart : (a b : ℕ) (x y : ProblemCall Op Reply) (r : ℕ × Reply) → Kept a x → Kept b y → x.returned ≡ Some r → r.0 ≢ y.called
     kept_apart a b x y r p q e = λ k.
-        let f = filtered test (calls_from n es) a p.0 p.1 in
-        let g = filtered test (calls_from n es) b q.0 q.1 in
-        events_apart n es f.0 g.0 p.0 q.0 r f.1 g.1 (sym p.3 ∙ e) (k ∙ q.2)
+        let o = origin a x p in
+        let u = origin b y q in
+        events_apart n es o.place u.place o.made u.made r o.there u.there (sym o.returned ∙ e) (k ∙ u.called)
 
     pub timed_events : AreTimed (map problem_call (filter test (calls_from n es)))
     timed_events = record {

@@ -15,7 +15,7 @@ use Rattle.lin_object.specs.Kinds.{after}
 use Rattle.lin_history.specs.declared.locality.placed.Placed.{Placed}
 use Rattle.lin_history.specs.declared.problems.problem.ProblemCall.{ProblemCall}
 use Rattle.lin_history.specs.Problems.Lists.{In, IsUpTo, IsLeast}
-use Rattle.lin_history.specs.Recorder.Events.{Event, calls, returns_, Call, events_of, IsSequential, IsWellFormed, calls_from}
+use Rattle.lin_history.specs.Recorder.Events.{Event, calls, returns_, fails, ends, Call, events_of, IsSequential, IsWellFormed, calls_from}
 use Rattle.lin_history.specs.Recorder.RecordedHistory.{RecordedHistory, IsHistoryOf}
 use Rattle.lin_history.specs.Problems.Problem.{Problem}
 use Rattle.lin_history.specs.Problems.Precedence.{Before, IsCompleted}
@@ -105,6 +105,52 @@ no_call_before = returns_ 1 0 Okay ∷ []
 -- A return with no call before it is not well-formed.
 pub return_of_no_call : IsWellFormed no_call_before → ⊥
 return_of_no_call w = w 1
+
+abbrev failed_first : List (Event Op Reply)
+failed_first = calls 1 0 (Write (pos 1)) ∷ fails 1 0 ∷ calls 1 0 Read ∷ returns_ 1 0 (Int (pos 0)) ∷ []
+
+-- A call that failed is no call of the history; a later return of its process belongs to the call after it.
+pub failed_call : calls_from 1 failed_first ≡ (record { process = 1; object = 0; op = Read; called = 2; returned = Some (3, Int (pos 0)) }) ∷ []
+failed_call = refl
+
+-- A process may call again after its call failed.
+pub call_after_failure : IsSequential (events_of 1 failed_first)
+call_after_failure = (refl, (refl, tt))
+
+-- Where a process ended, its call stays pending, and the end has no number.
+pub unknown_call : calls_from 1 (calls 1 0 (Write (pos 1)) ∷ ends 1 0 ∷ calls 2 0 Read ∷ returns_ 2 0 (Int (pos 1)) ∷ []) ≡
+    (record { process = 1; object = 0; op = Write (pos 1); called = 1; returned = None })
+    ∷ (record { process = 2; object = 0; op = Read; called = 2; returned = Some (3, Int (pos 1)) })
+    ∷ []
+unknown_call = refl
+
+abbrev after_end : List (Event Op Reply)
+after_end = calls 1 0 (Write (pos 1)) ∷ ends 1 0 ∷ calls 1 0 Read ∷ []
+
+-- A process that has ended has no event more.
+pub call_after_end : IsWellFormed after_end → ⊥
+call_after_end w = w 1
+
+abbrev fails_elsewhere : List (Event Op Reply)
+fails_elsewhere = calls 1 0 (Write (pos 1)) ∷ fails 1 1 ∷ []
+
+-- A failure on another object than the one called is not well-formed.
+pub failure_elsewhere : IsWellFormed fails_elsewhere → ⊥
+failure_elsewhere w = absurd (let e = (w 1).0 in cc)
+
+abbrev fails_alone : List (Event Op Reply)
+fails_alone = fails 1 0 ∷ []
+
+-- A failure with no call before it is not well-formed.
+pub failure_of_no_call : IsWellFormed fails_alone → ⊥
+failure_of_no_call w = w 1
+
+abbrev fails_twice : List (Event Op Reply)
+fails_twice = calls 1 0 (Write (pos 1)) ∷ fails 1 0 ∷ returns_ 1 0 Okay ∷ []
+
+-- A call that failed returns no more.
+pub return_after_failure : IsWellFormed fails_twice → ⊥
+return_after_failure w = (w 1).1
 
 -- A problem of one register that starts at 0, with these calls.
 abbrev pub register_of : List (ProblemCall Op Reply) → Problem ObjState Op Reply

@@ -1,41 +1,73 @@
--- What a builder keeps beside the history so far.
-use Rattle.std.specs.Prelude.{◌≡◌, ℕ, ◌+◌, ◌≤◌, Bool, not, Option, Some, None, is_none, List, [], ◌∷◌, map, length, slice_get, filter}
-use Rattle.lin_history.specs.declared.limits.TheConstants.{MAX_CALLS}
+-- What a builder keeps beside what is recorded so far.
+use Rattle.std.specs.Prelude.{◌≡◌, ℕ, ◌+◌, ◌≤◌, ◌||◌, Bool, true, not, Option, Some, None, is_none, is_some, List, [], ◌∷◌, map, length, slice_get, filter}
+use Rattle.lin_object.specs.declared.op.Op.{Op}
+use Rattle.lin_object.specs.declared.reply.Reply.{Reply}
+use Rattle.lin_history.specs.declared.limits.TheConstants.{MAX_CALLS, MAX_CALLS_ON_OBJECT}
 use Rattle.lin_history.specs.declared.recorder.history.CallInfo.{CallInfo}
+use Rattle.lin_history.specs.declared.recorder.history.Mark.{Mark}
+use Rattle.lin_history.specs.declared.recorder.history.Mark.TheVariants.{Unmarked, Failed, Ended}
 use Rattle.lin_history.specs.declared.recorder.fault.BuildFault.{BuildFault}
-use Rattle.lin_history.specs.declared.recorder.fault.BuildFault.TheVariants.{BadName, UnknownObject}
+use Rattle.lin_history.specs.declared.recorder.fault.BuildFault.TheVariants.{BadName, UnknownObject, ProcessEnded, Busy}
 use Rattle.lin_history.specs.Recorder.Names.{is_name}
-use Rattle.lin_history.specs.Recorder.RecordedHistory.{DeclaredObject, RecordedHistory, IsHistory, index_named}
-use Rattle.lin_history.specs.Recorder.Views.{call_view, count_on, AreNumbered, AreWithinLimit}
+use Rattle.lin_history.specs.Recorder.Events.{Outcome, pending, unknown, failed, replied, Made}
+use Rattle.lin_history.specs.Recorder.RecordedHistory.{DeclaredObject}
+use Rattle.lin_history.specs.Recorder.Recording.{Recording, IsRecording, index_named, is_pending_of, is_last_of, last_call, has_ended, count_made_on}
+
+-- How a call went on, by its mark and its return.
+abbrev pub outcome_by : Mark → Option (ℕ × Reply) → Outcome Reply
+outcome_by Unmarked None = pending
+outcome_by Failed None = failed
+outcome_by Ended None = unknown
+outcome_by mark (Some r) = replied r.0 r.1
+
+-- A call that was made, as a builder keeps it.
+abbrev pub made_view : CallInfo → Made Op Reply
+made_view c = record { process = c.process; object = c.object; op = c.op; called = c.called; outcome = outcome_by c.mark c.returned }
 
 -- The call has not returned.
-abbrev pub is_open : CallInfo → Bool
-is_open c = is_none c.returned
+abbrev pub has_no_reply : CallInfo → Bool
+has_no_reply c = is_none c.returned
 
--- The history so far, by the objects, calls and number of events that a builder keeps.
-abbrev pub recorded : List DeclaredObject → List CallInfo → ℕ → RecordedHistory
-recorded objects calls events = record { objects = objects; calls = map call_view calls; events = events }
+-- What is recorded so far, by the objects, calls and number of events that a builder keeps.
+abbrev pub recorded : List DeclaredObject → List CallInfo → ℕ → Recording
+recorded objects calls events = record { objects = objects; made = map made_view calls; events = events }
 
 -- Why an event on the object of this name is refused before its process counts, in order.
-abbrev pub name_refusals : RecordedHistory → List ℕ → List (Bool × BuildFault)
-name_refusals h name = (not (is_name name), BadName) ∷ (is_none (index_named h name), UnknownObject) ∷ []
+abbrev pub name_refusals : Recording → List ℕ → List (Bool × BuildFault)
+name_refusals r name = (not (is_name name), BadName) ∷ (is_none (index_named r name), UnknownObject) ∷ []
 
--- Where a call is pending, its process has it as its last call.
-abbrev pub KnowsPending : (ℕ → Option ℕ) → List CallInfo → Type 0
-KnowsPending last calls = (i : ℕ) (c : CallInfo) → slice_get calls i ≡ Some c → c.returned ≡ None → last c.process ≡ Some i
+-- Why a process that has this as its last call may not call, in order.
+abbrev pub process_refusals : Option (Made Op Reply) → ℕ → List (Bool × BuildFault)
+process_refusals last process = (has_ended last, ProcessEnded process) ∷ (is_some last, Busy process) ∷ []
 
--- Each object has as its count how many calls are on it.
+-- A call that has neither returned nor failed is the last call of its process.
+abbrev pub KnowsLast : (ℕ → Option ℕ) → List CallInfo → Type 0
+KnowsLast last calls = (i : ℕ) (c : CallInfo) → slice_get calls i ≡ Some c → is_last_of c.process (made_view c) ≡ true → last c.process ≡ Some i
+
+-- Each object has as its count how many calls were made on it.
 abbrev pub AreCounts : List ℕ → List CallInfo → Type 0
-AreCounts counts calls = (object : ℕ) (n : ℕ) → slice_get counts object ≡ Some n → n ≡ count_on object (map call_view calls)
+AreCounts counts calls = (object : ℕ) (n : ℕ) → slice_get counts object ≡ Some n → n ≡ count_made_on object (map made_view calls)
 
--- What holds of all that a builder keeps: the last call of each process, and how many calls each object has.
+-- On no object more calls were made than are allowed on one.
+abbrev pub AreMadeWithinLimit : List CallInfo → Type 0
+AreMadeWithinLimit calls = (object : ℕ) → count_made_on object (map made_view calls) ≤ MAX_CALLS_ON_OBJECT
+
+-- What holds of all that a builder keeps: the last call of each process, and how many calls were made on each object.
 pub record IsBuilderState (objects : List DeclaredObject) (calls : List CallInfo) (events : ℕ) (last : ℕ → Option ℕ) (counts : List ℕ) : Type 0 where
-  pub history : IsHistory (recorded objects calls events)
-  pub numbered : AreNumbered calls
-  pub pending : KnowsPending last calls
+  pub recording : IsRecording (recorded objects calls events)
+  pub last_known : KnowsLast last calls
   pub counted : AreCounts counts calls
   pub each : length counts ≡ length objects
   pub few : length calls ≤ MAX_CALLS
-  pub limited : AreWithinLimit (map call_view calls)
+  pub limited : AreMadeWithinLimit calls
   -- each call has an event, and one more where it has returned
-  pub events_are : events + length (filter is_open calls) ≡ length calls + length calls
+  pub events_are : events + length (filter has_no_reply calls) ≡ length calls + length calls
+
+-- The call of this index is the pending one of the process, on the object of this name.
+pub record IsPendingAt (objects : List DeclaredObject) (calls : List CallInfo) (process : ℕ) (name : List ℕ) (i : ℕ) : Type 0 where
+  pub call : CallInfo
+  pub there : slice_get calls i ≡ Some call
+  pub pends : is_pending_of process (made_view call) ≡ true
+  pub valid : is_name name ≡ true
+  pub named : index_named (recorded objects calls 0) name ≡ Some call.object
+  pub found : last_call (recorded objects calls 0) process ≡ Some (made_view call)

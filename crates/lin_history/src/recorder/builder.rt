@@ -1,17 +1,17 @@
 //! The builder: it accepts exactly the events with which a history stays well-formed.
 
-ghost use Rattle.std.specs.Prelude.{◌≡◌, ◌≢◌, ℕ, ◌<◌, ◌+◌, ◌^◌, ◌++◌, ◌∷◌, [], ◌||◌, nat_le, Some, None, nat_eq, length, map, option_map, option_and_then, find, position, bytes_eq, slice_get, slice_set, is_some, true, false, OnOk, OnErr, IfOk, IfErr, IfSome, IfNone, IsTrue, IsFalse, IsSomeAnd};
+ghost use Rattle.std.specs.Prelude.{◌≡◌, ◌≢◌, ℕ, ◌<◌, ◌+◌, ◌^◌, ◌++◌, ◌∷◌, [], ◌||◌, nat_le, Some, None, nat_eq, length, map, option_map, option_and_then, filter, find, position, bytes_eq, slice_get, slice_set, is_some, true, false, OnOk, OnErr, IfOk, IfErr, IfSome, IfNone, IsTrue, IsFalse, IsSomeAnd};
 ghost use Rattle.indexmap.specs.IndexMap.{get};
 ghost use Rattle.lin_history.specs.Refusals.{first_that_holds};
-ghost use Rattle.lin_history.specs.Recorder.Events.{calls, returns_};
+ghost use Rattle.lin_history.specs.Recorder.Events.{calls, returns_, fails, ends, is_kept, calls_of};
 ghost use Rattle.lin_history.specs.Recorder.Names.{is_name};
-ghost use Rattle.lin_history.specs.Recorder.RecordedHistory.{is_pending_of, index_named, kind_named, declaration_refusals};
-ghost use Rattle.lin_history.specs.Recorder.Views.{object_view, call_view, count_on};
-ghost use Rattle.lin_history.specs.Recorder.BuilderState.{recorded, name_refusals, KnowsPending, AreCounts};
+ghost use Rattle.lin_history.specs.Recorder.Recording.{is_pending, is_unknown, is_last_of, count_made_on, index_named, kind_named, declaration_refusals, end_refusals};
+ghost use Rattle.lin_history.specs.Recorder.Views.{object_view, call_view, AreNumbered};
+ghost use Rattle.lin_history.specs.Recorder.BuilderState.{recorded, made_view, name_refusals, process_refusals, KnowsLast, AreCounts, IsPendingAt};
 
 use crate::limits::{MAX_CALLS, MAX_CALLS_ON_OBJECT, MAX_OBJECTS};
 use crate::recorder::fault::BuildFault;
-use crate::recorder::history::{CallInfo, Declaration, History};
+use crate::recorder::history::{CallInfo, Declaration, History, Mark};
 use crate::recorder::name::is_name;
 use indexmap::IndexMap;
 use lin_object::{Kind, Op, Reply};
@@ -19,30 +19,32 @@ use std::alloc::{AllocError, Global};
 use std::marker::Model;
 
 /// Builds a history from its events, one after another. It accepts exactly the events with which the
-/// history stays well-formed, as long as there is room: a process has at most one pending call, and
-/// a return is of the pending call of its process, on the same object.
+/// history stays well-formed, as long as there is room: a process has at most one pending call; a
+/// return, a failure or the end of a process is of the pending call of its process, on the same
+/// object; and a process that has ended has no event more.
 #[derive(Drop)]
 pub struct Builder {
     objects: IndexMap<String, Declaration>,
+    // the calls that were made, also those that failed
     calls: Vec<CallInfo>,
     // how many calls and returns were accepted
     events: u32,
-    // how many calls each object has
+    // how many calls were made on each object
     counts: Vec<usize>,
-    // the index of the last call of each process: where a call of it is pending, it is this one
+    // the index of the last call of each process: where one of its calls has neither returned nor failed, it is this one
     last: IndexMap<u32, usize>,
 }
 
-// Contracts see the history so far; the rest says which call of a process is pending, and how many calls
-// each object has.
+// Contracts see what is recorded so far; the rest says which call of a process is its last, and how many calls were
+// made on each object.
 impl Model for Builder {
     ghost use Rattle.std.specs.Prelude.{map, nat_eq};
     ghost use Rattle.indexmap.specs.IndexMap.{get};
-    ghost use Rattle.lin_history.specs.Recorder.RecordedHistory.{RecordedHistory};
+    ghost use Rattle.lin_history.specs.Recorder.Recording.{Recording};
     ghost use Rattle.lin_history.specs.Recorder.Views.{object_view};
     ghost use Rattle.lin_history.specs.Recorder.BuilderState.{IsBuilderState, recorded};
 
-    ghost Value = { RecordedHistory };
+    ghost Value = { Recording };
 
     ghost view = { λ b. recorded (map object_view b.objects.entries) b.calls.items b.events };
 
@@ -104,43 +106,128 @@ fn kind_in(objects: &IndexMap<String, Declaration>, name: &str) -> Option<Kind>
     }
 }
 
-// Whether the call of this index is there, is the process's, and is pending.
-fn is_pending_at(calls: &[CallInfo], call: usize, process: u32) -> bool
-    ensures pending { IsTrue result → IsSomeAnd (slice_get calls.now call)
-        (λ c. is_pending_of process (call_view c) ≡ true) }
-    ensures not_pending { IsFalse result → IfSome (slice_get calls.now call)
-        (λ c. is_pending_of process (call_view c) ≡ false) }
+// Whether the process has ended with the call.
+fn has_ended(call: &CallInfo) -> bool
+    ensures { result ≡ is_unknown (made_view call.now).outcome }
+{
+    match call.returned {
+        None => matches!(call.mark, Mark::Ended),
+        Some(_) => false,
+    }
+}
+
+// Whether the call is one of the history: it did not fail.
+fn is_kept(call: &CallInfo) -> bool
+    ensures { result ≡ is_kept (made_view call.now) }
+{
+    match call.returned {
+        None => !matches!(call.mark, Mark::Failed),
+        Some(_) => true,
+    }
+}
+
+// Whether the call has neither returned nor failed.
+fn is_open(call: &CallInfo) -> bool
+    ensures { result ≡ (is_pending (made_view call.now).outcome || is_unknown (made_view call.now).outcome) }
+{
+    match call.returned {
+        None => !matches!(call.mark, Mark::Failed),
+        Some(_) => false,
+    }
+}
+
+// Whether the call of this index is there, is the process's, and has neither returned nor failed.
+fn is_last_at(calls: &[CallInfo], call: usize, process: u32) -> bool
+    ensures last { IsTrue result → IsSomeAnd (slice_get calls.now call)
+        (λ c. is_last_of process (made_view c) ≡ true) }
+    ensures not_last { IsFalse result → IfSome (slice_get calls.now call)
+        (λ c. is_last_of process (made_view c) ≡ false) }
 {
     match calls.get(call) {
-        Some(call) => call.process == process && call.returned.is_none(),
+        Some(call) => call.process == process && is_open(call),
         None => false,
     }
 }
 
-// The index of the pending call of the process.
-fn pending_in(calls: &[CallInfo], last: &IndexMap<u32, usize>, process: u32) -> Option<usize>
-    requires { KnowsPending (get nat_eq last.now) calls.now }
-    ensures none { IfNone result (find (is_pending_of process) (map call_view calls.now) ≡ None) }
+// The index of the call of the process that has neither returned nor failed.
+fn last_in(calls: &[CallInfo], last: &IndexMap<u32, usize>, process: u32) -> Option<usize>
+    requires { KnowsLast (get nat_eq last.now) calls.now }
+    ensures none { IfNone result (find (is_last_of process) (map made_view calls.now) ≡ None) }
     ensures some { IfSome result (λ call. IsSomeAnd (slice_get calls.now call)
-        (λ c. is_pending_of process (call_view c) ≡ true)) }
+        (λ c. is_last_of process (made_view c) ≡ true)) }
     ensures within { IfSome result (λ call. call < length calls.now) }
-    ensures busy { is_some result ≡ is_some (find (is_pending_of process)
-        (map call_view calls.now)) }
-    ensures found { IfSome result (λ call. find (is_pending_of process) (map call_view calls.now)
-        ≡ option_map call_view (slice_get calls.now call)) }
+    ensures found { IfSome result (λ call. find (is_last_of process) (map made_view calls.now)
+        ≡ option_map made_view (slice_get calls.now call)) }
 {
     match last.get(&process) {
-        Some(call) if is_pending_at(calls, *call, process) => Some(*call),
+        Some(call) if is_last_at(calls, *call, process) => Some(*call),
         _ => None,
     }
+}
+
+// Why the process may not call.
+fn process_fault(
+    calls: &[CallInfo],
+    last: &IndexMap<u32, usize>,
+    process: u32,
+) -> Option<BuildFault>
+    requires { KnowsLast (get nat_eq last.now) calls.now }
+    ensures fault { result ≡ first_that_holds (process_refusals
+        (find (is_last_of process) (map made_view calls.now)) process) }
+    ensures idle { IfNone result (find (is_last_of process) (map made_view calls.now) ≡ None) }
+    ensures busy { IfSome result (λ _. is_some (find (is_last_of process)
+        (map made_view calls.now)) ≡ true) }
+{
+    match last_in(calls, last, process) {
+        Some(call) => {
+            if has_ended(&calls[call]) {
+                Some(BuildFault::ProcessEnded(process))
+            } else {
+                Some(BuildFault::Busy(process))
+            }
+        }
+        None => None,
+    }
+}
+
+// The index of the pending call of the process on the object of this name, or why it has none there.
+fn find_pending(
+    objects: &IndexMap<String, Declaration>,
+    calls: &[CallInfo],
+    last: &IndexMap<u32, usize>,
+    process: u32,
+    name: &str,
+) -> Result<usize, BuildFault>
+    requires { KnowsLast (get nat_eq last.now) calls.now }
+    ensures ok { IfOk result (IsPendingAt (map object_view objects.now.entries) calls.now process
+        name.now) }
+    ensures within { IfOk result (λ call. call < length calls.now) }
+    ensures err { IfErr result (λ fault. first_that_holds (end_refusals
+        (recorded (map object_view objects.now.entries) calls.now 0) process name.now)
+        ≡ Some fault) }
+{
+    let object = match find_object(objects, name) {
+        Ok(object) => object,
+        Err(fault) => return Err(fault),
+    };
+    let Some(call) = last_in(calls, last, process) else {
+        return Err(BuildFault::NoCall(process));
+    };
+    if has_ended(&calls[call]) {
+        return Err(BuildFault::ProcessEnded(process));
+    }
+    if calls[call].object != object {
+        return Err(BuildFault::OtherObject(process));
+    }
+    Ok(call)
 }
 
 // Whether there is no room for one call more on the object.
 fn is_full(calls: &[CallInfo], counts: &[usize], object: usize) -> bool
     requires within { object < length counts.now }
     requires counted { AreCounts counts.now calls.now }
-    ensures full { result ≡ (nat_le MAX_CALLS (length (map call_view calls.now)) || nat_le
-        MAX_CALLS_ON_OBJECT (count_on object (map call_view calls.now))) }
+    ensures full { result ≡ (nat_le MAX_CALLS (length (map made_view calls.now)) || nat_le
+        MAX_CALLS_ON_OBJECT (count_made_on object (map made_view calls.now))) }
     ensures room { IsFalse result → length calls.now < MAX_CALLS }
     ensures room_on { IsFalse result → IfSome (slice_get counts.now object)
         (λ count. count < MAX_CALLS_ON_OBJECT) }
@@ -185,6 +272,7 @@ fn next_call(counts: &[usize], events: u32, process: u32, object: usize, op: Op)
       op = op;
       called = events + 1;
       returned = None;
+      mark = Mark.Unmarked;
     } }
 {
     let number = counts[object];
@@ -195,6 +283,7 @@ fn next_call(counts: &[usize], events: u32, process: u32, object: usize, op: Op)
         op,
         called: events + 1,
         returned: None,
+        mark: Mark::Unmarked,
     }
 }
 
@@ -242,8 +331,78 @@ fn complete(calls: &mut Vec<CallInfo>, events: &mut u32, call: usize, reply: Rep
     *events = number;
 }
 
+// Marks the call of this index.
+fn mark_call(calls: &mut Vec<CallInfo>, call: usize, mark: Mark)
+    requires { call < length calls.old.items }
+    ensures { IfSome (slice_get calls.old.items call)
+        (λ c. calls.new.items ≡ slice_set calls.old.items call (record c { mark = mark })) }
+{
+    calls[call].mark = mark;
+}
+
+// Sets each count to 0.
+fn clear(counts: &mut [usize])
+    ensures count { length counts.new ≡ length counts.old }
+    ensures zero { (object : ℕ) (n : ℕ) → slice_get counts.new object ≡ Some n → n ≡ 0 }
+{
+    for index in 0..counts.len() {
+        counts[index] = 0;
+    }
+}
+
+// Gives the call of this index its number, which is the count of its object, and counts it.
+fn number_call(calls: &mut [CallInfo], counts: &mut [usize], call: usize)
+    requires within { IsSomeAnd (slice_get calls.old call) (λ c. c.object < length counts.old) }
+    requires few { (object : ℕ) (n : ℕ) → slice_get counts.old object ≡ Some n
+        → n < length calls.old }
+    ensures { IfSome (slice_get calls.old call) (λ c. IfSome (slice_get counts.old c.object)
+        (λ n. (calls.new ≡ slice_set calls.old call (record c { number = n }))
+        × (counts.new ≡ slice_set counts.old c.object (n + 1)))) }
+{
+    let object = calls[call].object;
+    let number = counts[object];
+    calls[call].number = number;
+    counts[object] = number + 1;
+}
+
+// Numbers the calls on each object from 0. The counts have room for it, and are lost.
+fn number_calls(calls: &mut [CallInfo], counts: &mut [usize])
+    requires { (i : ℕ) (c : CallInfo) → slice_get calls.old i ≡ Some c
+        → c.object < length counts.old }
+    ensures same { map call_view calls.new ≡ map call_view calls.old }
+    ensures numbered { AreNumbered calls.new }
+{
+    clear(counts);
+    for call in 0..calls.len() {
+        number_call(calls, counts, call);
+    }
+}
+
+// The calls that did not fail.
+fn without_failed(calls: Vec<CallInfo>) -> Vec<CallInfo>
+    ensures { result.items ≡ filter (λ c. is_kept (made_view c)) calls.items }
+{
+    let mut kept = calls;
+    kept.retain(|call| is_kept(call));
+    kept
+}
+
+// The calls that did not fail, with their numbers. It takes no memory.
+fn kept_calls(calls: Vec<CallInfo>, counts: Vec<usize>) -> Vec<CallInfo>
+    requires { (i : ℕ) (c : CallInfo) → slice_get calls.items i ≡ Some c
+        → c.object < length counts.items }
+    ensures kept { map call_view result.items ≡ calls_of (map made_view calls.items) }
+    ensures numbered { AreNumbered result.items }
+{
+    let mut kept = without_failed(calls);
+    let mut counts = counts;
+    number_calls(kept.as_mut_slice(), counts.as_mut_slice());
+    kept
+}
+
 impl Builder {
-    ghost use Rattle.lin_history.specs.Recorder.RecordedHistory.{IsHistory, no_event, declaration_refusals, call_refusals, return_refusals, with_object, with_call, with_return};
+    ghost use Rattle.lin_history.specs.Recorder.RecordedHistory.{IsHistoryOf, IsHistory};
+    ghost use Rattle.lin_history.specs.Recorder.Recording.{IsRecordingOf, history_of, no_event, call_refusals, with_object, with_call, with_return, with_fail, with_end};
     ghost use Rattle.lin_history.specs.Recorder.NextEvents.{Adds, AddsNone, CannotFollow};
 
     /// The builder of the history of no event. It takes no memory.
@@ -299,9 +458,10 @@ impl Builder {
     }
 
     /// Records the call of an operation of the named object by a process. Refusals, in order: `BadName`
-    /// as above, `UnknownObject` where no object of that name is declared, `Busy` where the process has
-    /// a pending call, `TooManyCalls` where 65,536 calls are there or 4,096 on this object,
-    /// `OutOfMemory`. After a refusal nothing has changed.
+    /// as above, `UnknownObject` where no object of that name is declared, `ProcessEnded` where the
+    /// process has ended, `Busy` where it has a pending call, `TooManyCalls` where 65,536 calls were
+    /// made or 4,096 on this object, also those that failed, `OutOfMemory`. After a refusal nothing has
+    /// changed.
     pub fn call(&mut self, process: u32, name: &str, op: Op) -> Result<(), BuildFault>
         ensures sound { OnOk result (first_that_holds (call_refusals self.old process name.now)
             ≡ None) }
@@ -313,13 +473,15 @@ impl Builder {
             → first_that_holds (call_refusals self.old process name.now) ≡ Some fault) }
         ensures memory { IfErr result (λ fault. fault ≡ BuildFault.OutOfMemory
             → first_that_holds (call_refusals self.old process name.now) ≡ None) }
+        ensures ended { IfErr result (λ fault. fault ≡ BuildFault.ProcessEnded process
+            → (object : ℕ) → CannotFollow self.old (calls process object op)) }
         ensures busy { IfErr result (λ fault. fault ≡ BuildFault.Busy process → (object : ℕ)
             → CannotFollow self.old (calls process object op)) }
         ensures same { OnErr result (self.new ≡ self.old) }
     {
         let object = find_object(&self.objects, name)?;
-        if pending_in(self.calls.as_slice(), &self.last, process).is_some() {
-            return Err(BuildFault::Busy(process));
+        if let Some(fault) = process_fault(self.calls.as_slice(), &self.last, process) {
+            return Err(fault);
         }
         if is_full(self.calls.as_slice(), self.counts.as_slice(), object) {
             return Err(BuildFault::TooManyCalls);
@@ -340,17 +502,19 @@ impl Builder {
     }
 
     /// Records the return of the pending call of a process from the named object, with its reply.
-    /// Refusals, in order: `BadName` and `UnknownObject` as above, `NoCall` where the process has no
-    /// pending call, `OtherObject` where its pending call is on another object. After a refusal nothing
-    /// has changed. It takes no memory.
+    /// Refusals, in order: `BadName` and `UnknownObject` as above, `ProcessEnded` where the process has
+    /// ended, `NoCall` where it has no pending call, `OtherObject` where its pending call is on another
+    /// object. After a refusal nothing has changed. It takes no memory.
     pub fn ret(&mut self, process: u32, name: &str, reply: Reply) -> Result<(), BuildFault>
-        ensures sound { OnOk result (first_that_holds (return_refusals self.old process name.now)
+        ensures sound { OnOk result (first_that_holds (end_refusals self.old process name.now)
             ≡ None) }
         ensures ok { OnOk result (self.new ≡ with_return self.old process reply) }
         ensures history { OnOk result (IsSomeAnd (index_named self.old name.now)
             (λ object. Adds self.old (returns_ process object reply) self.new)) }
         ensures err { IfErr result (λ fault. first_that_holds
-            (return_refusals self.old process name.now) ≡ Some fault) }
+            (end_refusals self.old process name.now) ≡ Some fault) }
+        ensures ended { IfErr result (λ fault. fault ≡ BuildFault.ProcessEnded process
+            → (object : ℕ) → CannotFollow self.old (returns_ process object reply)) }
         ensures no_call { IfErr result (λ fault. fault ≡ BuildFault.NoCall process → (object : ℕ)
             → CannotFollow self.old (returns_ process object reply)) }
         ensures other_object { IfErr result (λ fault. fault ≡ BuildFault.OtherObject process
@@ -358,15 +522,89 @@ impl Builder {
             (λ object. CannotFollow self.old (returns_ process object reply))) }
         ensures same { OnErr result (self.new ≡ self.old) }
     {
-        let object = find_object(&self.objects, name)?;
-        let Some(pending) = pending_in(self.calls.as_slice(), &self.last, process) else {
-            return Err(BuildFault::NoCall(process));
-        };
-        if self.calls[pending].object != object {
-            return Err(BuildFault::OtherObject(process));
+        match find_pending(
+            &self.objects,
+            self.calls.as_slice(),
+            &self.last,
+            process,
+            name,
+        ) {
+            Ok(call) => {
+                complete(&mut self.calls, &mut self.events, call, reply);
+                Ok(())
+            }
+            Err(fault) => Err(fault),
         }
-        complete(&mut self.calls, &mut self.events, pending, reply);
-        Ok(())
+    }
+
+    /// Records that the pending call of a process on the named object failed: it was not done and will
+    /// not be. It is no call of the history, and the process may call again; the event has no number.
+    /// Refusals as those of `ret`. After a refusal nothing has changed. It takes no memory.
+    pub fn fail(&mut self, process: u32, name: &str) -> Result<(), BuildFault>
+        ensures sound { OnOk result (first_that_holds (end_refusals self.old process name.now)
+            ≡ None) }
+        ensures ok { OnOk result (self.new ≡ with_fail self.old process) }
+        ensures history { OnOk result (IsSomeAnd (index_named self.old name.now)
+            (λ object. Adds self.old (fails process object) self.new)) }
+        ensures err { IfErr result (λ fault. first_that_holds
+            (end_refusals self.old process name.now) ≡ Some fault) }
+        ensures ended { IfErr result (λ fault. fault ≡ BuildFault.ProcessEnded process
+            → (object : ℕ) → CannotFollow self.old (fails process object)) }
+        ensures no_call { IfErr result (λ fault. fault ≡ BuildFault.NoCall process → (object : ℕ)
+            → CannotFollow self.old (fails process object)) }
+        ensures other_object { IfErr result (λ fault. fault ≡ BuildFault.OtherObject process
+            → IsSomeAnd (index_named self.old name.now)
+            (λ object. CannotFollow self.old (fails process object))) }
+        ensures same { OnErr result (self.new ≡ self.old) }
+    {
+        match find_pending(
+            &self.objects,
+            self.calls.as_slice(),
+            &self.last,
+            process,
+            name,
+        ) {
+            Ok(call) => {
+                mark_call(&mut self.calls, call, Mark::Failed);
+                Ok(())
+            }
+            Err(fault) => Err(fault),
+        }
+    }
+
+    /// Records that nobody will know whether the pending call of a process on the named object was done:
+    /// it stays pending, and the process has no event more; the event has no number. Refusals as those
+    /// of `ret`. After a refusal nothing has changed. It takes no memory.
+    pub fn info(&mut self, process: u32, name: &str) -> Result<(), BuildFault>
+        ensures sound { OnOk result (first_that_holds (end_refusals self.old process name.now)
+            ≡ None) }
+        ensures ok { OnOk result (self.new ≡ with_end self.old process) }
+        ensures history { OnOk result (IsSomeAnd (index_named self.old name.now)
+            (λ object. Adds self.old (ends process object) self.new)) }
+        ensures err { IfErr result (λ fault. first_that_holds
+            (end_refusals self.old process name.now) ≡ Some fault) }
+        ensures ended { IfErr result (λ fault. fault ≡ BuildFault.ProcessEnded process
+            → (object : ℕ) → CannotFollow self.old (ends process object)) }
+        ensures no_call { IfErr result (λ fault. fault ≡ BuildFault.NoCall process → (object : ℕ)
+            → CannotFollow self.old (ends process object)) }
+        ensures other_object { IfErr result (λ fault. fault ≡ BuildFault.OtherObject process
+            → IsSomeAnd (index_named self.old name.now)
+            (λ object. CannotFollow self.old (ends process object))) }
+        ensures same { OnErr result (self.new ≡ self.old) }
+    {
+        match find_pending(
+            &self.objects,
+            self.calls.as_slice(),
+            &self.last,
+            process,
+            name,
+        ) {
+            Ok(call) => {
+                mark_call(&mut self.calls, call, Mark::Ended);
+                Ok(())
+            }
+            Err(fault) => Err(fault),
+        }
     }
 
     /// The kind of the declared object of this name; `None` where no object of that name is declared.
@@ -378,9 +616,14 @@ impl Builder {
 
     /// The history of the events that were accepted. It takes no memory.
     pub fn finish(self) -> History
-        ensures value { result ≡ self }
-        ensures history { IsHistory result }
+        ensures value { result ≡ history_of self }
+        ensures history { (events : _) → IsRecordingOf events self → IsHistoryOf events result }
+        ensures recorded { IsHistory result }
     {
-        History::new(self.objects, self.calls, self.events)
+        History::new(
+            self.objects,
+            kept_calls(self.calls, self.counts),
+            self.events,
+        )
     }
 }

@@ -14,6 +14,9 @@ pub enum BuildFault {
     /// No object of that name is declared.
     #[error("unknown object")]
     UnknownObject,
+    /// The process has ended.
+    #[error("process {0} has ended")]
+    ProcessEnded(u32),
     /// The process has a pending call.
     #[error("process {0} has a pending call")]
     Busy(u32),

@@ -23,6 +23,17 @@ pub struct ObjectInfo<'h> {
     pub start: i64,
 }
 
+/// What a builder was told of a call that has not returned.
+#[derive(Clone, Copy, PartialEq, Eq, Debug)]
+pub(crate) enum Mark {
+    /// Nothing.
+    Unmarked,
+    /// It failed.
+    Failed,
+    /// Its process has ended.
+    Ended,
+}
+
 /// A call of a history.
 #[derive(Clone, Copy, PartialEq, Eq, Debug)]
 pub struct CallInfo {
@@ -38,6 +49,8 @@ pub struct CallInfo {
     pub called: u32,
     /// The number of its return event, and the reply; `None` while it is pending.
     pub returned: Option<(u32, Reply)>,
+    // what the builder was told of it
+    pub(crate) mark: Mark,
 }
 
 /// What an object was declared with.

@@ -4,9 +4,9 @@ use Rattle.lin_text.proofs.TextLemmas.{goes_on, ends}
 use Rattle.lin_text.proofs.text.read_lines.Goals as goal
 
 pub lines-preserved : goal.lines-preserved
-lines-preserved c = goes_on _ _ _ _ _ _ _ c.lines.invariant c.first_line.ensures.lines c.first_line.ensures.shorter c.in_default.ensures.ok
+lines-preserved c = goes_on _ _ _ _ _ _ _ _ _ c.lines.invariant c.first_line.ensures.lines c.first_line.ensures.shorter c.in-Ok.ensures.ok
 
 pub returns-clause-history : goal.returns-clause-history
 returns-clause-history c =
     let empty : length c.lines.rest.now ≡ 0 = grind (arith, nat_tests) in
-    ends _ _ _ _ c.lines.invariant empty
+    ends _ _ _ _ _ c.lines.invariant empty

@@ -1,35 +1,47 @@
-use Rattle.std.proofs.Common.{◌≡◌, ◌<◌, true, Some, None, IsSomeAnd, map, length, slice_get, nat_eq, sym, subst, ◌∙◌, rules, refl}
+use Rattle.std.proofs.Common.{◌≡◌, ◌<◌, true, Some, None, IsSomeAnd, map, find, length, slice_get, nat_eq, is_some, sym, subst, ◌∙◌, rules, refl}
 use Rattle.std.proofs.lemmas.Option.{slice_get_read}
 use Rattle.indexmap.specs.IndexMap.{get}
 use Rattle.lin_history.specs.declared.limits.TheConstants.{MAX_CALLS, MAX_CALLS_ON_OBJECT}
 use Rattle.lin_history.specs.declared.recorder.fault.BuildFault.TheVariants.{TooManyCalls}
 use Rattle.lin_history.specs.Refusals.{first_that_holds}
 use Rattle.lin_history.specs.Recorder.Events.{calls}
-use Rattle.lin_history.specs.Recorder.RecordedHistory.{pending, index_named, is_full, call_refusals, with_call}
+use Rattle.lin_history.specs.Recorder.Recording.{last_call, is_last_of, index_named, is_full, call_refusals, with_call}
 use Rattle.lin_history.specs.Recorder.Views.{object_view}
-use Rattle.lin_history.specs.Recorder.BuilderState.{recorded}
+use Rattle.lin_history.specs.Recorder.BuilderState.{recorded, made_view}
 use Rattle.lin_history.specs.Recorder.NextEvents.{Adds, CannotFollow}
 use Rattle.lin_history.proofs.RecorderLemmas.OutcomeLemmas.{not_err, is_err-on_err}
-use Rattle.lin_history.proofs.RecorderLemmas.NextEventLemmas.{adds-call, no_call_while}
-use Rattle.lin_history.proofs.RecorderLemmas.BuilderLemmas.{kept-last, kept-call, recorded-call, idle-not_found, busy-found}
+use Rattle.lin_history.proofs.RecorderLemmas.NextEventLemmas.{adds-call, no_call_while, call_refused}
+use Rattle.lin_history.proofs.RecorderLemmas.BuilderLemmas.{kept-last, kept-call, recorded-call}
 use Rattle.lin_history.proofs.recorder.builder.Builder.call.Goals as goal
 
-pub returns-then-is_some-clause-busy : goal.returns-then-is_some-clause-busy
-returns-then-is_some-clause-busy c is object =
-    let busy = busy-found c.self.inside.calls.items c.as_slice.result.now c.args.process c.pending_in.result c.as_slice.ensures.value c.pending_in.ensures.busy (sym c.is_some.ensures ∙ c.if-is_some.true) in
-    subst (λ h. CannotFollow h (calls c.args.process object c.args.op)) c.self.view_is
-    (no_call_while (recorded (map object_view c.self.inside.objects.entries) c.self.inside.calls.items c.self.inside.events) c.args.process object c.args.op busy)
+pub returns-in-Some-clause-err : goal.returns-in-Some-clause-err
+returns-in-Some-clause-err c not_memory =
+    let old = recorded (map object_view c.self.inside.objects.entries) c.self.inside.calls.items c.self.inside.events in
+    subst (λ h. first_that_holds (call_refusals h c.args.process c.args.name.now) ≡ Some c.in-Some.fault) c.self.view_is
+    (call_refused old c.args.process c.args.name.now c.in_ok-object.object c.in-Some.fault c.in_ok-object.ensures.valid c.in_ok-object.ensures.named (sym (rw c.as_slice.ensures.value at c.in-Some.ensures.fault)))
+
+pub returns-in-Some-clause-ended : goal.returns-in-Some-clause-ended
+returns-in-Some-clause-ended c is object =
+    let old = recorded (map object_view c.self.inside.objects.entries) c.self.inside.calls.items c.self.inside.events in
+    let busy : is_some (last_call old c.args.process) ≡ true = rw c.as_slice.ensures.value at c.in-Some.ensures.busy in
+    subst (λ h. CannotFollow h (calls c.args.process object c.args.op)) c.self.view_is (no_call_while old c.args.process object c.args.op busy)
+
+pub returns-in-Some-clause-busy : goal.returns-in-Some-clause-busy
+returns-in-Some-clause-busy c is object =
+    let old = recorded (map object_view c.self.inside.objects.entries) c.self.inside.calls.items c.self.inside.events in
+    let busy : is_some (last_call old c.args.process) ≡ true = rw c.as_slice.ensures.value at c.in-Some.ensures.busy in
+    subst (λ h. CannotFollow h (calls c.args.process object c.args.op)) c.self.view_is (no_call_while old c.args.process object c.args.op busy)
 
 pub invariant_of-self : goal.invariant_of-self
 invariant_of-self c =
-    let idle = idle-not_found c.self.inside.calls.items c.as_slice.result.now c.args.process c.pending_in.result c.as_slice.ensures.value c.pending_in.ensures.busy (sym c.is_some.ensures ∙ c.if-is_some.false) in
+    let idle = rw c.as_slice.ensures.value at c.in_default.ensures.idle in
     let failed = sym c.is_err.ensures.value ∙ c.if-is_err.true in
     rw (is_err-on_err c.add.result _ c.add.ensures.same failed, is_err-on_err c.add.result _ c.add.ensures.same_counts failed, is_err-on_err c.add.result _ c.add.ensures.same_events failed)
     (kept-last (map object_view c.self.inside.objects.entries) c.self.inside.calls.items c.self.inside.events (get nat_eq c.self.inside.last) c.self.inside.counts.items c.self.invariant c.args.process (get nat_eq c.add.new.last) idle (rw c.next_call-call.ensures.call at c.add.ensures.others))
 
 pub invariant_of-self-2 : goal.invariant_of-self-2
 invariant_of-self-2 c =
-    let idle = idle-not_found c.self.inside.calls.items c.as_slice.result.now c.args.process c.pending_in.result c.as_slice.ensures.value c.pending_in.ensures.busy (sym c.is_some.ensures ∙ c.if-is_some.false) in
+    let idle = rw c.as_slice.ensures.value at c.in_default.ensures.idle in
     let done = sym c.is_err.ensures.value ∙ c.if-is_err.false in
     let kept = kept-last (map object_view c.self.inside.objects.entries) c.self.inside.calls.items c.self.inside.events (get nat_eq c.self.inside.last) c.self.inside.counts.items c.self.invariant c.args.process (get nat_eq c.add.new.last) idle (rw c.next_call-call.ensures.call at c.add.ensures.others) in
     let counted : slice_get c.self.inside.counts.items c.in_ok-object.object ≡ Some c.next_call-call.result.number = rw c.as_slice-4.ensures.value at c.next_call-call.ensures.number in
@@ -51,7 +63,7 @@ returns-clause-ok c =
 
 pub returns-clause-history : goal.returns-clause-history
 returns-clause-history c =
-    let idle = idle-not_found c.self.inside.calls.items c.as_slice.result.now c.args.process c.pending_in.result c.as_slice.ensures.value c.pending_in.ensures.busy (sym c.is_some.ensures ∙ c.if-is_some.false) in
+    let idle = rw c.as_slice.ensures.value at c.in_default.ensures.idle in
     let done = sym c.is_err.ensures.value ∙ c.if-is_err.false in
     let old = recorded (map object_view c.self.inside.objects.entries) c.self.inside.calls.items c.self.inside.events in
     let new = recorded (map object_view c.self.inside.objects.entries) c.add.new.calls.items c.add.new.events in
@@ -69,7 +81,7 @@ returns-then-is_full-clause-err c not_memory =
     let old = recorded (map object_view c.self.inside.objects.entries) c.self.inside.calls.items c.self.inside.events in
     let named : index_named old c.args.name.now ≡ Some c.in_ok-object.object = c.in_ok-object.ensures.named in
     let valid = c.in_ok-object.ensures.valid in
-    let idle : pending old c.args.process ≡ None = idle-not_found c.self.inside.calls.items c.as_slice.result.now c.args.process c.pending_in.result c.as_slice.ensures.value c.pending_in.ensures.busy (sym c.is_some.ensures ∙ c.if-is_some.false) in
+    let idle : last_call old c.args.process ≡ None = rw c.as_slice.ensures.value at c.in_default.ensures.idle in
     let full : is_full old (Some c.in_ok-object.object) ≡ true = rw c.as_slice-2.ensures.value at (sym c.is_full.ensures.full ∙ c.if-is_full.true) in
     subst (λ h. first_that_holds (call_refusals h c.args.process c.args.name.now) ≡ Some TooManyCalls) c.self.view_is
     (rw (valid, named, idle, full) refl)
