@@ -42,6 +42,12 @@ Input: one JSON object a line, in the order in which the events happened.
       Process 1 calls write(5) on x. A process has one call at a time.
   {\"event\":\"return\",\"process\":1,\"object\":\"x\",\"result\":\"ok\"}
       The call of process 1 returns. A call that never returns may have taken effect or not.
+  {\"format\":2}
+      Stands in the first line of a text that has one of the next two.
+  {\"event\":\"fail\",\"process\":1,\"object\":\"x\"}
+      The call of process 1 failed: it never took effect, and process 1 may call again.
+  {\"event\":\"info\",\"process\":1,\"object\":\"x\"}
+      Nobody knows whether the call of process 1 took effect. Process 1 has no event more.
 
   Kinds, their operations, and the results (v, a and b are whole numbers of 64 bits):
     register   write(v): \"ok\"    read(): v           cas(a,b): true or false
