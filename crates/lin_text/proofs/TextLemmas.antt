@@ -8,7 +8,7 @@ use Rattle.lin_history.specs.Recorder.Recording.{Recording, IsRecordingOf, histo
 use Rattle.lin_text.specs.declared.line.Format.{Format}
 use Rattle.lin_text.specs.declared.line.Format.TheVariants.{Unstated}
 use Rattle.lin_text.specs.declared.text.TheConstants.{MAX_INPUT_BYTES}
-use Rattle.lin_text.specs.Events.{TextEvents, nothing_told, recording_of, IsTold, IsHistoryTold}
+use Rattle.lin_text.specs.Events.{TextEvents, nothing_told, recording_of, IsTold}
 use Rattle.lin_text.specs.Text.{lines, IsToldBy, AreToldBy, MeansHistory, MeansRecording, IsReached}
 use Rattle.lin_text.proofs.LineLemmas.{lines_nil, append_nil}
 

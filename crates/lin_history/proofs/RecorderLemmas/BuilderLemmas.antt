@@ -1,23 +1,21 @@
 -- What a builder keeps, after each of its steps.
-use Rattle.std.proofs.Common.{◌≡◌, ◌≢◌, ℕ, ◌+◌, ◌<◌, ◌≤◌, ◌==◌, ◌||◌, Bool, true, false, cond, Option, Some, None, is_none, is_some, option_map, IsSomeAnd, IfSome, List, [], ◌∷◌, ◌++◌, map, find, filter, take, set, length, get_or, slice_get, refl, sym, ap, subst, ◌∙◌, arith, inl, inr, length-append, eqb, if◌then◌else◌}
+use Rattle.std.proofs.Common.{◌≡◌, ◌≢◌, ℕ, ◌+◌, ◌<◌, ◌==◌, Bool, true, false, cond, Option, Some, None, option_map, IsSomeAnd, IfSome, List, [], ◌∷◌, ◌++◌, map, find, filter, set, length, slice_get, refl, sym, ap, subst, ◌∙◌, arith, inl, inr, length-append, eqb}
 use Rattle.std.proofs.lemmas.Bool.{eq-eqb, eqb-true}
 use Rattle.std.proofs.lemmas.Bool.Decides.{eqb_tells}
 use Rattle.std.proofs.lemmas.List.{map-append, map-set, length-set}
-use Rattle.std.proofs.lemmas.Option.{slice_get_within, slice_get-map, slice_get_read}
+use Rattle.std.proofs.lemmas.Option.{slice_get_within, slice_get-map}
 use Rattle.lin_history.specs.declared.limits.TheConstants.{MAX_CALLS, MAX_CALLS_ON_OBJECT}
 use Rattle.lin_object.specs.declared.op.Op.{Op}
 use Rattle.lin_object.specs.declared.reply.Reply.{Reply}
 use Rattle.lin_history.specs.declared.recorder.history.CallInfo.{CallInfo}
 use Rattle.lin_history.specs.declared.recorder.history.Mark.TheVariants.{Unmarked}
-use Rattle.lin_history.specs.Recorder.Names.{is_name}
-use Rattle.lin_history.specs.Recorder.Events.{Event, calls, numbered, process_of, Made, Outcome, pending, unknown}
+use Rattle.lin_history.specs.Recorder.Events.{Event, calls, numbered, Made, Outcome}
 use Rattle.lin_history.specs.Recorder.RecordedHistory.{DeclaredObject}
-use Rattle.lin_history.specs.Recorder.Recording.{Recording, IsRecordingOf, is_pending, is_unknown, is_pending_of, is_last_of, last_call, is_made_on, count_made_on, settled, with_call, index_named}
-use Rattle.lin_history.specs.Recorder.BuilderState.{made_view, recorded, has_no_reply, KnowsLast, AreCounts, AreMadeWithinLimit, IsBuilderState, IsPendingAt}
+use Rattle.lin_history.specs.Recorder.Recording.{Recording, IsRecordingOf, is_pending_of, is_last_of, last_call, is_made_on, count_made_on, settled, with_call}
+use Rattle.lin_history.specs.Recorder.BuilderState.{made_view, recorded, has_no_reply, KnowsLast, AreCounts, AreMadeWithinLimit, IsBuilderState}
 use Rattle.lin_history.proofs.ListLemmas.{slice_get-push, slice_get-set, slice_get-mapped, map-set_one, find-one, find-none, length_filter-push, length_filter-set_all, length_filter-none}
 use Rattle.lin_history.proofs.RecorderLemmas.EventLemmas.{Next, stage_of, Settles}
 use Rattle.lin_history.proofs.RecorderLemmas.NextEventLemmas.{adds-object, adds-call, adds-end, pending_parts, pending_stage, Ends}
-use Rattle.lin_history.specs.OptionLemmas.{none_of}
 
 -- ---- the last call of a process
 

@@ -1,5 +1,5 @@
 -- The pending call of a process that returns or fails, or with which its process ends: what a builder keeps then.
-use Rattle.std.proofs.Common.{◌≡◌, ℕ, ◌+◌, ◌==◌, true, Option, Some, None, IfSome, IsSomeAnd, List, [], ◌∷◌, map, filter, set, length, slice_get, refl, sym, ap, subst, ◌∙◌, arith, eqb}
+use Rattle.std.proofs.Common.{◌≡◌, ℕ, ◌+◌, true, Option, Some, None, IfSome, IsSomeAnd, List, [], ◌∷◌, map, filter, set, length, slice_get, refl, sym, ap, subst, ◌∙◌, arith, eqb}
 use Rattle.std.proofs.lemmas.Bool.{eq-eqb}
 use Rattle.lin_object.specs.declared.op.Op.{Op}
 use Rattle.lin_object.specs.declared.reply.Reply.{Reply}
@@ -9,7 +9,7 @@ use Rattle.lin_history.specs.declared.recorder.history.Mark.TheVariants.{Unmarke
 use Rattle.lin_history.specs.Refusals.{first_that_holds}
 use Rattle.lin_history.specs.Recorder.Events.{Event, returns_, fails, ends, numbered, Made, Outcome, pending, unknown, failed, replied}
 use Rattle.lin_history.specs.Recorder.RecordedHistory.{DeclaredObject}
-use Rattle.lin_history.specs.Recorder.Recording.{Recording, is_pending_of, settled, index_named, end_refusals}
+use Rattle.lin_history.specs.Recorder.Recording.{is_pending_of, settled, index_named, end_refusals}
 use Rattle.lin_history.specs.Recorder.BuilderState.{outcome_by, made_view, recorded, has_no_reply, IsBuilderState, IsPendingAt}
 use Rattle.lin_history.specs.Recorder.NextEvents.{Adds}
 use Rattle.lin_history.proofs.ListLemmas.{length_filter-same, length_filter-less}

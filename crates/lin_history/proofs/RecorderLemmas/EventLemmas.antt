@@ -1,10 +1,10 @@
 -- The calls that a list of events makes, and whether a process by itself stays sequential, with one event more.
-use Rattle.std.proofs.Common.{◌≡◌, ℕ, ◌+◌, ◌==◌, ◌||◌, Bool, true, false, cond, Option, Some, None, List, [], ◌∷◌, ◌++◌, map, length, find, refl, sym, ap, subst, ◌∙◌, arith, eqb, append-nil, inl, inr, if◌then◌else◌}
+use Rattle.std.proofs.Common.{◌≡◌, ℕ, ◌+◌, ◌==◌, ◌||◌, Bool, true, false, cond, Option, Some, None, List, [], ◌∷◌, ◌++◌, map, find, refl, sym, ap, subst, ◌∙◌, arith, eqb, append-nil, inl, inr, if◌then◌else◌}
 use Rattle.std.proofs.lemmas.Bool.{eq-eqb}
 use Rattle.std.proofs.lemmas.Bool.Decides.{eqb_tells}
 use Rattle.std.proofs.lemmas.List.Elements.{filter-append}
 use Rattle.lin_history.specs.Recorder.Events.{Event, calls, returns_, fails, ends, Made, Outcome, pending, unknown, failed, replied, process_of, events_of, IsSequential, IsWellFormed, numbered, outcome_after, made_from}
-use Rattle.lin_history.specs.Recorder.Recording.{is_pending, is_unknown, is_pending_of, is_last_of, settled}
+use Rattle.lin_history.specs.Recorder.Recording.{is_pending, is_unknown, is_last_of, settled}
 
 pub eq_sym : (a b : ℕ) → (a == b) ≡ (b == a)
 eq_sym a b =

@@ -1,5 +1,5 @@
 -- The calls that did not fail, as a builder keeps them and as a history has them.
-use Rattle.std.proofs.Common.{◌≡◌, ℕ, ◌+◌, ◌<◌, ◌≤◌, Bool, true, false, cond, Option, Some, None, List, [], ◌∷◌, map, filter, length, slice_get, refl, sym, ap, subst, ◌∙◌, arith}
+use Rattle.std.proofs.Common.{◌≡◌, ℕ, ◌<◌, Bool, true, false, cond, Option, Some, None, List, [], ◌∷◌, map, filter, length, slice_get, refl, sym, ap, ◌∙◌, arith}
 use Rattle.std.proofs.lemmas.Option.{slice_get-map}
 use Rattle.lin_object.specs.declared.op.Op.{Op}
 use Rattle.lin_object.specs.declared.reply.Reply.{Reply}
@@ -7,11 +7,11 @@ use Rattle.lin_history.specs.declared.recorder.history.CallInfo.{CallInfo}
 use Rattle.lin_history.specs.declared.recorder.history.Mark.{Mark}
 use Rattle.lin_history.specs.declared.recorder.history.Mark.TheVariants.{Unmarked, Failed, Ended}
 use Rattle.lin_history.specs.Recorder.Events.{Event, Call, Made, is_kept, return_in, call_of, calls_of}
-use Rattle.lin_history.specs.Recorder.RecordedHistory.{DeclaredObject, RecordedHistory, IsHistoryOf, IsHistory, is_on}
-use Rattle.lin_history.specs.Recorder.Recording.{Recording, IsRecordingOf, history_of, is_made_on, count_made_on}
-use Rattle.lin_history.specs.Recorder.Views.{call_view, count_on, AreWithinLimit}
-use Rattle.lin_history.specs.Recorder.BuilderState.{outcome_by, made_view, recorded, AreMadeWithinLimit, IsBuilderState}
-use Rattle.lin_history.proofs.ListLemmas.{slice_get-mapped, length_filter-twice}
+use Rattle.lin_history.specs.Recorder.RecordedHistory.{DeclaredObject, IsHistoryOf, is_on}
+use Rattle.lin_history.specs.Recorder.Recording.{Recording, IsRecordingOf, history_of, is_made_on}
+use Rattle.lin_history.specs.Recorder.Views.{call_view, AreWithinLimit}
+use Rattle.lin_history.specs.Recorder.BuilderState.{outcome_by, made_view, AreMadeWithinLimit, IsBuilderState}
+use Rattle.lin_history.proofs.ListLemmas.{length_filter-twice}
 use Rattle.lin_history.proofs.ProblemLemmas.EventNumberLemmas.{was_made, filtered}
 
 -- the return of a call is what is kept as one, whatever its mark

@@ -1,5 +1,5 @@
 -- A recording with one event more, beside its events.
-use Rattle.std.proofs.Common.{◌≡◌, ◌≢◌, ℕ, ◌+◌, ◌<◌, ℤ, Bool, true, false, cond, not, Option, Some, None, is_none, is_some, IsSomeAnd, if◌then◌else◌, List, [], ◌∷◌, ◌++◌, map, find, length, refl, sym, ap, subst, ◌∙◌, arith, inl, inr, length-append}
+use Rattle.std.proofs.Common.{◌≡◌, ℕ, ◌+◌, ◌<◌, ℤ, Bool, true, false, cond, not, Option, Some, None, is_none, is_some, IsSomeAnd, if◌then◌else◌, List, [], ◌∷◌, ◌++◌, map, find, length, refl, sym, ap, subst, ◌∙◌, arith, inl, inr, length-append}
 use Rattle.std.proofs.lemmas.Bool.{eq-eqb}
 use Rattle.std.proofs.lemmas.Bool.Decides.{eqb_tells}
 use Rattle.lin_object.specs.declared.kind.Kind.{Kind}
@@ -10,11 +10,11 @@ use Rattle.lin_history.specs.declared.recorder.fault.BuildFault.TheVariants.{Bad
 use Rattle.lin_history.specs.Refusals.{first_that_holds}
 use Rattle.lin_history.specs.Recorder.Names.{is_name}
 use Rattle.lin_history.specs.Recorder.Events.{Event, calls, returns_, fails, ends, Made, Outcome, pending, unknown, failed, replied, process_of, IsWellFormed, numbered, made_from}
-use Rattle.lin_history.specs.Recorder.Recording.{Recording, IsRecordingOf, is_pending, is_unknown, is_pending_of, is_last_of, last_call, has_ended, is_elsewhere, is_made_on, index_named, is_full, call_refusals, end_refusals, settled, with_object, with_call, with_return, with_fail, with_end}
+use Rattle.lin_history.specs.Recorder.Recording.{Recording, IsRecordingOf, is_pending, is_unknown, is_pending_of, is_last_of, last_call, has_ended, is_elsewhere, index_named, is_full, call_refusals, end_refusals, settled, with_object, with_call}
 use Rattle.lin_history.specs.Recorder.BuilderState.{process_refusals}
 use Rattle.lin_history.specs.Recorder.NextEvents.{Adds, AddsNone, CannotFollow}
 use Rattle.lin_history.proofs.ListLemmas.{slice_get-push, slice_get-mapped}
-use Rattle.lin_history.proofs.RecorderLemmas.EventLemmas.{Stage, idle, busy, over, Next, stage_of, Settles, made-call, made-end, return_settles, fail_settles, end_settles, numbered-append, may_follow, follows_by}
+use Rattle.lin_history.proofs.RecorderLemmas.EventLemmas.{idle, busy, over, Next, stage_of, Settles, made-call, made-end, numbered-append, may_follow, follows_by}
 
 -- what is found among the calls of the recording is found among those of its events
 found_in : (r : Recording) (events : List (Event Op Reply)) (p : ℕ) → IsRecordingOf events r → last_call r p ≡ find (is_last_of p) (made_from 1 events)

@@ -1,5 +1,5 @@
 -- What a builder keeps beside what is recorded so far.
-use Rattle.std.specs.Prelude.{◌≡◌, ℕ, ◌+◌, ◌≤◌, ◌||◌, Bool, true, not, Option, Some, None, is_none, is_some, List, [], ◌∷◌, map, length, slice_get, filter}
+use Rattle.std.specs.Prelude.{◌≡◌, ℕ, ◌+◌, ◌≤◌, Bool, true, not, Option, Some, None, is_none, is_some, List, [], ◌∷◌, map, length, slice_get, filter}
 use Rattle.lin_object.specs.declared.op.Op.{Op}
 use Rattle.lin_object.specs.declared.reply.Reply.{Reply}
 use Rattle.lin_history.specs.declared.limits.TheConstants.{MAX_CALLS, MAX_CALLS_ON_OBJECT}

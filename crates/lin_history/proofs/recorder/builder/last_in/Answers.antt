@@ -1,7 +1,5 @@
-use Rattle.std.proofs.Common.{◌≡◌, None, find, map, nat_eq, sym}
+use Rattle.std.proofs.Common.{◌≡◌, None, nat_eq, sym}
 use Rattle.indexmap.specs.IndexMap.{get}
-use Rattle.lin_history.specs.Recorder.Recording.{is_last_of}
-use Rattle.lin_history.specs.Recorder.BuilderState.{made_view}
 use Rattle.lin_history.proofs.RecorderLemmas.BuilderLemmas.{find-last, find-idle, idle-unknown}
 use Rattle.lin_history.proofs.recorder.builder.last_in.Goals as goal
 

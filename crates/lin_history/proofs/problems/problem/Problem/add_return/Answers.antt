@@ -1,4 +1,4 @@
-use Rattle.std.proofs.Common.{◌≡◌, ◌<◌, length, refl}
+use Rattle.std.proofs.Common.{◌<◌, length, refl}
 use Rattle.lin_history.specs.Problems.ProblemParts.{greatest_number}
 use Rattle.lin_history.proofs.ProblemLemmas.EventNumberLemmas.{stays_with_return}
 use Rattle.lin_history.proofs.problems.problem.Problem.add_return.Goals as goal

@@ -1,13 +1,13 @@
-use Rattle.std.proofs.Common.{◌≡◌, ◌<◌, true, Some, None, IsSomeAnd, map, find, length, slice_get, nat_eq, is_some, sym, subst, ◌∙◌, rules, refl}
+use Rattle.std.proofs.Common.{◌≡◌, ◌<◌, true, Some, None, IsSomeAnd, map, length, slice_get, nat_eq, is_some, sym, subst, ◌∙◌, rules, refl}
 use Rattle.std.proofs.lemmas.Option.{slice_get_read}
 use Rattle.indexmap.specs.IndexMap.{get}
 use Rattle.lin_history.specs.declared.limits.TheConstants.{MAX_CALLS, MAX_CALLS_ON_OBJECT}
 use Rattle.lin_history.specs.declared.recorder.fault.BuildFault.TheVariants.{TooManyCalls}
 use Rattle.lin_history.specs.Refusals.{first_that_holds}
 use Rattle.lin_history.specs.Recorder.Events.{calls}
-use Rattle.lin_history.specs.Recorder.Recording.{last_call, is_last_of, index_named, is_full, call_refusals, with_call}
+use Rattle.lin_history.specs.Recorder.Recording.{last_call, index_named, is_full, call_refusals, with_call}
 use Rattle.lin_history.specs.Recorder.Views.{object_view}
-use Rattle.lin_history.specs.Recorder.BuilderState.{recorded, made_view}
+use Rattle.lin_history.specs.Recorder.BuilderState.{recorded}
 use Rattle.lin_history.specs.Recorder.NextEvents.{Adds, CannotFollow}
 use Rattle.lin_history.proofs.RecorderLemmas.OutcomeLemmas.{not_err, is_err-on_err}
 use Rattle.lin_history.proofs.RecorderLemmas.NextEventLemmas.{adds-call, no_call_while, call_refused}

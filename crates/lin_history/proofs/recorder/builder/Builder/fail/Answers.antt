@@ -1,4 +1,4 @@
-use Rattle.std.proofs.Common.{◌≡◌, ◌+◌, ℕ, Some, None, IsSomeAnd, map, nat_eq, subst}
+use Rattle.std.proofs.Common.{◌≡◌, ℕ, Some, None, IsSomeAnd, map, nat_eq, subst}
 use Rattle.indexmap.specs.IndexMap.{get}
 use Rattle.lin_history.specs.Refusals.{first_that_holds}
 use Rattle.lin_history.specs.Recorder.Events.{fails, failed}
