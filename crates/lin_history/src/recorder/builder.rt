@@ -31,7 +31,7 @@ pub struct Builder {
     events: u32,
     // how many calls were made on each object
     counts: Vec<usize>,
-    // the index of the last call of each process: where one of its calls has neither returned nor failed, it is this one
+    // the index of the last call of each process: where one has neither returned nor failed, it is this one
     last: IndexMap<u32, usize>,
 }
 
@@ -128,7 +128,8 @@ fn is_kept(call: &CallInfo) -> bool
 
 // Whether the call has neither returned nor failed.
 fn is_open(call: &CallInfo) -> bool
-    ensures { result ≡ (is_pending (made_view call.now).outcome || is_unknown (made_view call.now).outcome) }
+    ensures { result ≡ (is_pending (made_view call.now).outcome
+        || is_unknown (made_view call.now).outcome) }
 {
     match call.returned {
         None => !matches!(call.mark, Mark::Failed),
