@@ -10,6 +10,7 @@ mod fakes;
 mod histories;
 mod objects;
 mod program;
+mod random;
 mod searches;
 mod tables;
 mod workers;

@@ -1,8 +1,13 @@
 //! Checks of one object: the same verdict by every number of workers, over every number of shards.
 
-use super::searches::{Part, READ_OF_NO_WRITTEN_VALUE, READ_OF_THE_LAST_VALUE, posed_by};
+use super::random::random_history;
+use super::searches::{
+    Part, READ_OF_NO_WRITTEN_VALUE, READ_OF_THE_LAST_VALUE, plainly_searched, posed_by,
+};
 use lin_object::Kind;
+use lin_search::Outcome;
 use lin_workers::{Gate, ObjectVerdict, Options, check_object};
+use std::alloc::AllocError;
 use std::thread::Threads;
 
 // A gate at which nothing happens, and that wants workers at once.
@@ -20,6 +25,15 @@ const WORKERS_AND_SHARDS: [(u64, u64); 6] = [
     (3, 16),
     (64, 1),
     (64, 256),
+];
+
+const KINDS: [Kind; 6] = [
+    Kind::Register,
+    Kind::Counter,
+    Kind::Queue,
+    Kind::Stack,
+    Kind::Set,
+    Kind::Mutex,
 ];
 
 // What a check with so many workers and shards finds.
@@ -80,4 +94,61 @@ fn all_find<R: AllocGlobal + Threads + Sync>(rt: &R, problem: &Part, least: &[us
 fn every_number_of_workers_finds_the_same_linearization(rt: HostRuntime) {
     let problem = posed_by(rt.alloc(), Kind::Register, &READ_OF_THE_LAST_VALUE);
     assert!(rt; all_find(&rt, &problem, &[0, 1, 2, 3]));
+}
+
+// Whether it found what a search answered.
+fn is_as_answered(found: Option<ObjectVerdict>, answer: &Outcome) -> bool {
+    match (found, answer) {
+        (Some(ObjectVerdict::Yes(order)), Outcome::Found(least)) => order.calls() == least.calls(),
+        (Some(ObjectVerdict::No(order)), Outcome::Refuted(longest)) => {
+            order.calls().len() == longest.more && order.calls().first().copied() == longest.first
+        }
+        _ => false,
+    }
+}
+
+// Whether every number of workers and shards finds what a search answered.
+fn all_are_as_answered<R: AllocGlobal + Threads + Sync>(
+    rt: &R,
+    problem: &Part,
+    answer: &Outcome,
+) -> bool {
+    for (workers, shards) in &WORKERS_AND_SHARDS {
+        if !is_as_answered(found(rt, problem, *workers, *shards), answer) {
+            return false;
+        }
+    }
+    true
+}
+
+// Whether every number of workers and shards finds what the search without a memo answers of a random history.
+fn agree_on<R: AllocGlobal + Threads + Sync>(
+    rt: &R,
+    kind: Kind,
+    seed: u64,
+) -> Result<bool, AllocError> {
+    let history = random_history(rt.alloc(), kind, seed);
+    if history.object_count() == 0 {
+        return Ok(false);
+    }
+    let problem = history.problem(rt.alloc(), 0)?;
+    let answer = plainly_searched(rt.alloc(), &problem)?;
+    Ok(all_are_as_answered(rt, &problem, &answer))
+}
+
+// The same of fifty of them.
+fn agree_on_fifty<R: AllocGlobal + Threads + Sync>(rt: &R, kind: Kind) -> bool {
+    for seed in 0..50 {
+        if !matches!(agree_on(rt, kind, seed), Ok(true)) {
+            return false;
+        }
+    }
+    true
+}
+
+#[test]
+fn every_number_of_workers_answers_as_the_plain_search(rt: HostRuntime) {
+    for kind in KINDS {
+        assert!(rt; agree_on_fifty(&rt, kind));
+    }
 }

@@ -3,7 +3,8 @@
 ghost use Rattle.std.specs.Prelude.{◌≡◌, ◌++◌, ◌∷◌, [], ◌<◌, IfSome};
 
 use super::fakes::{Countdown, Forgetful};
-use lin_history::{Builder, History, Order, Placed, Problem, WholeOrder, verify};
+use super::random::random_history;
+use lin_history::{History, Order, Placed, Problem, WholeOrder, verify};
 use lin_object::{AnyObject, Kind, ObjState, Op, Reply, SeqObject, start_state};
 use lin_search::{
     Config, Entries, Longest, Memo, NoStop, Noted, Outcome, OwnMemo, Refutation, Stop, search,
@@ -361,55 +362,6 @@ fn calls_are_minimal_in_their_turn(rt: HostRuntime) {
     assert!(rt; matches!(entries_are_minimal_in_turn(rt.alloc(), &problem), Ok(true)));
 }
 
-// Numbers that look random, the same at each run.
-#[derive(Drop)]
-struct Numbers {
-    state: u64,
-}
-
-impl Numbers {
-    // The next number below 4.
-    fn next(&mut self) -> u8 {
-        self.state = self
-            .state
-            .wrapping_mul(6364136223846793005)
-            .wrapping_add(1442695040888963407);
-        match self.state >> 62 {
-            0 => 0,
-            1 => 1,
-            2 => 2,
-            _ => 3,
-        }
-    }
-}
-
-// The next call and its reply: processes 1 and 2 write, and 3 and 4 read.
-fn next_call(numbers: &mut Numbers) -> (u32, Op, Reply) {
-    let value = i64::from(numbers.next());
-    match numbers.next() {
-        0 => (1, Op::Write(value), Reply::Okay),
-        1 => (2, Op::Write(value), Reply::Okay),
-        2 => (3, Op::Read, Reply::Int(value)),
-        _ => (4, Op::Read, Reply::Int(value)),
-    }
-}
-
-// Twelve random events on one register; an event that can't be is left out.
-fn random_history(alloc: Global, seed: u64) -> History {
-    let mut numbers = Numbers { state: seed };
-    let mut builder = Builder::new(alloc);
-    let _ = builder.declare(alloc, "x", Kind::Register, 0);
-    for _ in 0..12 {
-        let (process, op, reply) = next_call(&mut numbers);
-        let _ = if numbers.next() < 2 {
-            builder.call(process, "x", op)
-        } else {
-            builder.ret(process, "x", reply)
-        };
-    }
-    builder.finish()
-}
-
 // Takes one call of an order more: whether it has a step.
 fn take_step(
     alloc: Global,
@@ -443,7 +395,7 @@ fn replayed(alloc: Global, problem: &Part, order: &Order) -> Result<WholeOrder, 
 }
 
 // What the search without a memo answers.
-fn plainly_searched(alloc: Global, problem: &Part) -> Result<Outcome, AllocError> {
+pub(super) fn plainly_searched(alloc: Global, problem: &Part) -> Result<Outcome, AllocError> {
     let root = Config::root(alloc, problem)?;
     search_plain(alloc, problem, &root)
 }
@@ -484,7 +436,7 @@ fn all_agree_on(alloc: Global, history: &History) -> Result<bool, AllocError> {
 #[test]
 fn searches_and_verifier_agree(rt: HostRuntime) {
     for seed in 0..200 {
-        let history = random_history(rt.alloc(), seed);
+        let history = random_history(rt.alloc(), Kind::Register, seed);
         assert!(rt; matches!(all_agree_on(rt.alloc(), &history), Ok(true)));
     }
 }

@@ -1,0 +1,90 @@
+//! Histories that look random, the same at each run.
+
+use lin_history::{Builder, History};
+use lin_object::{Kind, Op, Reply};
+use std::alloc::Global;
+
+// Numbers that look random.
+#[derive(Drop)]
+struct Numbers {
+    state: u64,
+}
+
+impl Numbers {
+    // The next number below 4.
+    fn next(&mut self) -> u8 {
+        self.state = self
+            .state
+            .wrapping_mul(6364136223846793005)
+            .wrapping_add(1442695040888963407);
+        match self.state >> 62 {
+            0 => 0,
+            1 => 1,
+            2 => 2,
+            _ => 3,
+        }
+    }
+}
+
+// A call that changes an object of the kind, and its reply.
+fn change(kind: Kind, value: i64) -> (Op, Reply) {
+    match kind {
+        Kind::Register => (Op::Write(value), Reply::Okay),
+        Kind::Counter => (Op::Add(value), Reply::Okay),
+        Kind::Queue => (Op::Enqueue(value), Reply::Okay),
+        Kind::Stack => (Op::Push(value), Reply::Okay),
+        Kind::Set => (Op::Insert(value), Reply::Flag(true)),
+        Kind::Mutex if value < 2 => (Op::Lock, Reply::Okay),
+        Kind::Mutex => (Op::Unlock, Reply::Okay),
+    }
+}
+
+// The value that a queue or a stack may have given; 0 stands for none.
+fn given(value: i64) -> Reply {
+    if value == 0 {
+        Reply::Empty
+    } else {
+        Reply::Int(value)
+    }
+}
+
+// A call that asks an object of the kind for something, and what it may have been told.
+fn question(kind: Kind, value: i64) -> (Op, Reply) {
+    match kind {
+        Kind::Register => (Op::Read, Reply::Int(value)),
+        Kind::Counter => (Op::Get, Reply::Int(value)),
+        Kind::Queue => (Op::Dequeue, given(value)),
+        Kind::Stack => (Op::Pop, given(value)),
+        Kind::Set if value < 2 => (Op::Remove(value), Reply::Flag(true)),
+        Kind::Set => (Op::Contains(value), Reply::Flag(value == 2)),
+        Kind::Mutex => (Op::TryLock, Reply::Flag(value < 2)),
+    }
+}
+
+// The next call and its reply: processes 0 and 1 change the object, and 2 and 3 ask it.
+fn next_call(kind: Kind, numbers: &mut Numbers) -> (u32, Op, Reply) {
+    let value = i64::from(numbers.next());
+    let process = u32::from(numbers.next());
+    let (op, reply) = if process < 2 {
+        change(kind, value)
+    } else {
+        question(kind, value)
+    };
+    (process, op, reply)
+}
+
+// Twelve random events on one object of the kind; an event that can't be is left out.
+pub(super) fn random_history(alloc: Global, kind: Kind, seed: u64) -> History {
+    let mut numbers = Numbers { state: seed };
+    let mut builder = Builder::new(alloc);
+    let _ = builder.declare(alloc, "x", kind, 0);
+    for _ in 0..12 {
+        let (process, op, reply) = next_call(kind, &mut numbers);
+        let _ = if numbers.next() < 2 {
+            builder.call(process, "x", op)
+        } else {
+            builder.ret(process, "x", reply)
+        };
+    }
+    builder.finish()
+}
