@@ -151,11 +151,12 @@ fn orders_are_verified(rt: HostRuntime) {
     }
 }
 
-const REFUSALS: [(BuildFault, &str); 8] = [
+const REFUSALS: [(BuildFault, &str); 9] = [
     (BuildFault::BadName, "bad object name"),
     (BuildFault::Declared, "object is declared already"),
     (BuildFault::TooManyObjects, "too many objects"),
     (BuildFault::UnknownObject, "unknown object"),
+    (BuildFault::ProcessEnded(7), "process 7 has ended"),
     (BuildFault::Busy(7), "process 7 has a pending call"),
     (BuildFault::TooManyCalls, "too many calls"),
     (BuildFault::NoCall(7), "process 7 has no pending call"),
