@@ -37,16 +37,26 @@ const GREATEST: [&str; 7] = [
     "256",
 ];
 
+// Whether no words ask for the usual options.
+fn no_words_run(alloc: Global) -> Result<bool, AllocError> {
+    let Ok(usual) = Options::new(4, 16, None, false) else {
+        return Ok(false);
+    };
+    runs(alloc, &[], &usual)
+}
+
+// Whether the greatest numbers are taken.
+fn greatest_run(alloc: Global) -> Result<bool, AllocError> {
+    let Ok(greatest) = Options::new(64, 256, Some(1_000_000_000_000), true) else {
+        return Ok(false);
+    };
+    runs(alloc, &GREATEST, &greatest)
+}
+
 #[test]
 fn words_ask_for_a_run(rt: HostRuntime) {
-    let Ok(usual) = Options::new(4, 16, None, false) else {
-        unreachable!()
-    };
-    assert!(rt; matches!(runs(rt.alloc(), &[], &usual), Ok(true)));
-    let Ok(greatest) = Options::new(64, 256, Some(1_000_000_000_000), true) else {
-        unreachable!()
-    };
-    assert!(rt; matches!(runs(rt.alloc(), &GREATEST, &greatest), Ok(true)));
+    assert!(rt; matches!(no_words_run(rt.alloc()), Ok(true)));
+    assert!(rt; matches!(greatest_run(rt.alloc()), Ok(true)));
 }
 
 #[test]
