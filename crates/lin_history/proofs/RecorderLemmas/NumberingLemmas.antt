@@ -12,6 +12,7 @@ use Rattle.lin_history.specs.Recorder.RecordedHistory.{is_on}
 use Rattle.lin_history.specs.Recorder.Views.{call_view, count_on, AreNumbered}
 use Rattle.lin_history.proofs.ListLemmas.{slice_get-set, length_filter-push}
 use Rattle.lin_history.proofs.RecorderLemmas.BuilderLemmas.{false_from}
+use Rattle.lin_history.specs.declared.recorder.history.Mark.TheVariants.{Unmarked}
 
 -- ---- counts that are cleared
 
@@ -98,7 +99,7 @@ numbering_few seen calls counts n is within object k there =
 module _ (seen : List (Call Op Reply)) (calls : List CallInfo) (counts : List ℕ) (n : ℕ) (is : IsNumbering seen calls counts n) (c : CallInfo) (k : ℕ)
     (there : slice_get calls n ≡ Some c) (count : slice_get counts c.object ≡ Some k) where
   abbrev numbered : CallInfo
-  numbered = record c { number = k }
+  numbered = record c { number = k; mark = Unmarked }
 
   seen_at : slice_get seen n ≡ Some (call_view c)
   seen_at = subst (λ xs. slice_get xs n ≡ Some (call_view c)) is.same (rw (slice_get-map call_view calls n, there) refl)
@@ -150,12 +151,12 @@ module _ (seen : List (Call Op Reply)) (calls : List CallInfo) (counts : List �
 
 -- by what numbering one call leaves
 pub numbering_next : (seen : List (Call Op Reply)) (calls calls' : List CallInfo) (counts counts' : List ℕ) (n : ℕ) → IsNumbering seen calls counts n → n < length calls
-    → IfSome (slice_get calls n) (λ c. IfSome (slice_get counts c.object) (λ k. (calls' ≡ set calls n (record c { number = k })) × (counts' ≡ set counts c.object (k + 1))))
+    → IfSome (slice_get calls n) (λ c. IfSome (slice_get counts c.object) (λ k. (calls' ≡ set calls n (record c { number = k; mark = Unmarked })) × (counts' ≡ set counts c.object (k + 1))))
     → IsNumbering seen calls' counts' (n + 1)
 numbering_next seen calls calls' counts counts' n is within made = at (slice_get calls n) refl (numbering_within seen calls counts n is within) made
   where
     at : (o : _) → slice_get calls n ≡ o → IsSomeAnd o (λ c. c.object < length counts)
-        → IfSome o (λ c. IfSome (slice_get counts c.object) (λ k. (calls' ≡ set calls n (record c { number = k })) × (counts' ≡ set counts c.object (k + 1)))) → IsNumbering seen calls' counts' (n + 1)
+        → IfSome o (λ c. IfSome (slice_get counts c.object) (λ k. (calls' ≡ set calls n (record c { number = k; mark = Unmarked })) × (counts' ≡ set counts c.object (k + 1)))) → IsNumbering seen calls' counts' (n + 1)
     at None e less h = absurd less
     at (Some c) e less h =
         let there : slice_get counts c.object ≡ Some (get_or counts c.object 0) = slice_get-get_or counts c.object 0 less in

@@ -351,19 +351,25 @@ fn clear(counts: &mut [usize])
     }
 }
 
-// Gives the call of this index its number, which is the count of its object, and counts it.
+// Gives the call of this index its number, which is the count of its object, and counts it. Its mark is forgotten: in a
+// history it is pending or completed.
 fn number_call(calls: &mut [CallInfo], counts: &mut [usize], call: usize)
     requires within { IsSomeAnd (slice_get calls.old call) (λ c. c.object < length counts.old) }
     requires few { (object : ℕ) (n : ℕ) → slice_get counts.old object ≡ Some n
         → n < length calls.old }
     ensures { IfSome (slice_get calls.old call) (λ c. IfSome (slice_get counts.old c.object)
-        (λ n. (calls.new ≡ slice_set calls.old call (record c { number = n }))
+        (λ n. (calls.new ≡ slice_set calls.old call (record c
+        { number = n; mark = Mark.Unmarked }))
         × (counts.new ≡ slice_set counts.old c.object (n + 1)))) }
 {
     let object = calls[call].object;
-    let number = counts[object];
-    calls[call].number = number;
-    counts[object] = number + 1;
+    let mark = Mark::Unmarked;
+    calls[call] = CallInfo {
+        number: counts[object],
+        mark,
+        ..calls[call]
+    };
+    counts[object] += 1;
 }
 
 // Numbers the calls on each object from 0. The counts have room for it, and are lost.

@@ -49,7 +49,7 @@ pub struct CallInfo {
     pub called: u32,
     /// The number of its return event, and the reply; `None` while it is pending.
     pub returned: Option<(u32, Reply)>,
-    // what the builder was told of it
+    // what a builder was told of it; in a history nothing
     pub(crate) mark: Mark,
 }
 
