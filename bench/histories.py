@@ -28,7 +28,8 @@ def declared(name, kind="register", more=""):
 
 
 def call(process, name, op, value=None, more=""):
-    return CALL % (process, name, op, "" if value is None else ',"args":[%d]' % value, more)
+    values = [] if value is None else value if isinstance(value, tuple) else [value]
+    return CALL % (process, name, op, ',"args":[%s]' % ",".join(map(str, values)) if values else "", more)
 
 
 def returned(process, name, reply, more=""):
@@ -86,10 +87,32 @@ class Stack(Buffer):
     kind, put, take, end = "stack", "push", "pop", -1
 
 
+class Map:
+    """A map of 16 keys."""
+
+    kind, KEYS = "map", 16
+
+    def __init__(self):
+        self.values = {}
+
+    def choose(self, chance, number):
+        key = chance.randrange(self.KEYS)
+        op = chance.choices(["put", "get", "delete"], [4, 5, 1])[0]
+        return (op, (key, number)) if op == "put" else (op, key)
+
+    def reply(self, op, value):
+        if op == "put":
+            self.values[value[0]] = value[1]
+            return OKAY
+        if op == "get":
+            return self.values.get(value, "null")
+        return "true" if self.values.pop(value, None) is not None else "false"
+
+
 class Event(NamedTuple):
     process: int
     op: str
-    value: int | None  # the argument
+    value: int | tuple[int, int] | None  # the argument, or both
     reply: object  # None at a call event
 
 
@@ -162,6 +185,16 @@ def crashed(writes):
     for event in list(register(3)(1000))[1:]:
         yield event
     yield from impossible_read("x")
+
+
+def maps(calls):
+    return lines("m", "map", simulated(Map(), 6, calls))
+
+
+def maps_refuted(calls):
+    yield from maps(calls - 1)
+    yield call(IMPOSSIBLE, "m", "get", 0)
+    yield returned(IMPOSSIBLE, "m", NEVER)
 
 
 def buffer(model):
@@ -258,6 +291,8 @@ FAMILIES = {
     "queue_no": Family("the same, two results swapped", "calls", CALLS, 1, buffer_swapped(Queue)),
     "stack": Family("a stack, 6 processes", "calls", CALLS, 0, buffer(Stack)),
     "stack_no": Family("the same, two results swapped", "calls", CALLS, 1, buffer_swapped(Stack)),
+    "map": Family("a map of 16 keys, 6 processes", "calls", CALLS, 0, maps),
+    "map_no": Family("the same, and an impossible get", "calls", CALLS, 1, maps_refuted),
     "crashed": Family("pending writes before 1,000 calls, and an impossible read", "pending", [1, 2, 4, 6], 1, crashed),
     "concurrent": Family("concurrent writes, and an impossible read", "writes", [8, 10, 12, 14, 16, 18], 1, concurrent),
 }

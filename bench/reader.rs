@@ -194,6 +194,7 @@ pub enum Kind {
     Stack,
     Set,
     Mutex,
+    Map,
 }
 
 fn kind_of_name(name: &str) -> Option<Kind> {
@@ -204,6 +205,7 @@ fn kind_of_name(name: &str) -> Option<Kind> {
         "stack" => Some(Kind::Stack),
         "set" => Some(Kind::Set),
         "mutex" => Some(Kind::Mutex),
+        "map" => Some(Kind::Map),
         _ => None,
     }
 }
@@ -225,6 +227,9 @@ pub enum Op {
     Lock,
     Unlock,
     TryLock,
+    Put(i64, i64),
+    Lookup(i64),
+    Delete(i64),
 }
 
 fn read_op(kind: Kind, name: &str, args: &[i64]) -> Option<Op> {
@@ -244,6 +249,9 @@ fn read_op(kind: Kind, name: &str, args: &[i64]) -> Option<Op> {
         (Kind::Mutex, "lock", []) => Some(Op::Lock),
         (Kind::Mutex, "unlock", []) => Some(Op::Unlock),
         (Kind::Mutex, "try_lock", []) => Some(Op::TryLock),
+        (Kind::Map, "put", [key, value]) => Some(Op::Put(*key, *value)),
+        (Kind::Map, "get", [key]) => Some(Op::Lookup(*key)),
+        (Kind::Map, "delete", [key]) => Some(Op::Delete(*key)),
         _ => None,
     }
 }

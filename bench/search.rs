@@ -180,6 +180,8 @@ struct State {
     value: i64,
     /// The items of a stack, the newest last; of a set, in increasing order; all that was put in a queue, the oldest first.
     items: Vec<i64>,
+    /// The keys of a map in increasing order, each with its value.
+    pairs: Vec<(i64, i64)>,
     /// How many of a queue's items were taken out.
     taken: usize,
     holder: Option<u32>,
@@ -195,6 +197,9 @@ enum Undo {
     Insert(usize, i64),
     Remove(usize),
     Holder(Option<u32>),
+    InsertPair(usize, (i64, i64)),
+    SetPair(usize, i64),
+    RemovePair(usize),
 }
 
 impl State {
@@ -203,6 +208,7 @@ impl State {
             kind: object.kind,
             value: object.start,
             items: Vec::new(),
+            pairs: Vec::new(),
             taken: 0,
             holder: None,
         }
@@ -274,6 +280,34 @@ impl State {
                 ),
                 Some(_) => (Reply::Flag(false), Undo::Nothing),
             }),
+            Op::Put(key, value) => Some((Reply::Okay, self.put(key, value))),
+            Op::Lookup(key) => {
+                let value = self.place_of(key).ok().map(|place| self.pairs[place].1);
+                Some((value.map_or(Reply::Empty, Reply::Int), Undo::Nothing))
+            }
+            Op::Delete(key) => Some(match self.place_of(key) {
+                Ok(place) => {
+                    let pair = self.pairs.remove(place);
+                    (Reply::Flag(true), Undo::InsertPair(place, pair))
+                }
+                Err(_) => (Reply::Flag(false), Undo::Nothing),
+            }),
+        }
+    }
+
+    /// Where the pair of the key stands, or would go.
+    fn place_of(&self, key: i64) -> Result<usize, usize> {
+        self.pairs.binary_search_by_key(&key, |pair| pair.0)
+    }
+
+    /// Gives the key the value: what takes that back.
+    fn put(&mut self, key: i64, value: i64) -> Undo {
+        match self.place_of(key) {
+            Ok(place) => Undo::SetPair(place, std::mem::replace(&mut self.pairs[place].1, value)),
+            Err(place) => {
+                self.pairs.insert(place, (key, value));
+                Undo::RemovePair(place)
+            }
         }
     }
 
@@ -287,6 +321,9 @@ impl State {
             Undo::Insert(place, item) => self.items.insert(place, item),
             Undo::Remove(place) => drop(self.items.remove(place)),
             Undo::Holder(holder) => self.holder = holder,
+            Undo::InsertPair(place, pair) => self.pairs.insert(place, pair),
+            Undo::SetPair(place, value) => self.pairs[place].1 = value,
+            Undo::RemovePair(place) => drop(self.pairs.remove(place)),
         }
     }
 
@@ -308,7 +345,12 @@ impl State {
     }
 
     fn hash(&self, hash: u64) -> u64 {
-        if self.has_items() {
+        if self.kind == Kind::Map {
+            let start = fold(hash, self.pairs.len() as u64);
+            self.pairs
+                .iter()
+                .fold(start, |hash, (key, value)| fold(fold(hash, *key as u64), *value as u64))
+        } else if self.has_items() {
             let start = fold(hash, self.items().len() as u64);
             self.items()
                 .iter()
@@ -320,7 +362,10 @@ impl State {
 
     /// Writes the state out as words.
     fn write(&self, words: &mut Vec<u64>) {
-        if self.has_items() {
+        if self.kind == Kind::Map {
+            words.push(self.pairs.len() as u64);
+            words.extend(self.pairs.iter().flat_map(|(key, value)| [*key as u64, *value as u64]));
+        } else if self.has_items() {
             words.push(self.items().len() as u64);
             words.extend(self.items().iter().map(|item| *item as u64));
         } else {
@@ -330,7 +375,14 @@ impl State {
 
     /// Whether the words begin with those of the state.
     fn is(&self, words: &[u64]) -> bool {
-        if self.has_items() {
+        if self.kind == Kind::Map {
+            words[0] == self.pairs.len() as u64
+                && self
+                    .pairs
+                    .iter()
+                    .zip(words[1..].chunks_exact(2))
+                    .all(|((key, value), pair)| [*key as u64, *value as u64] == pair)
+        } else if self.has_items() {
             let items = self.items();
             words[0] == items.len() as u64
                 && items

@@ -1,4 +1,5 @@
 mod CounterLemmas
+mod MapLemmas
 mod MutexLemmas
 mod QueueLemmas
 mod RegisterLemmas

@@ -1,6 +1,7 @@
 -- The kinds of object: their names, where each starts, and what each operation does (this project's own). Each kind has
 -- a file of its own with its operations, its table and its law; what stands here lists them.
 pub mod Counter
+pub mod Map
 pub mod Mutex
 pub mod Queue
 pub mod Register
@@ -16,6 +17,7 @@ use Rattle.lin_object.specs.declared.state.ObjState.TheVariants as states
 use Rattle.lin_object.specs.Names.{beside, OpMaker, made_of, op_made}
 use Rattle.lin_object.specs.Runs.{Behavior}
 use Rattle.lin_object.specs.Kinds.Counter.{counter_operations, counter_step}
+use Rattle.lin_object.specs.Kinds.Map.{map_operations, map_step}
 use Rattle.lin_object.specs.Kinds.Mutex.{mutex_operations, mutex_step}
 use Rattle.lin_object.specs.Kinds.Queue.{queue_operations, queue_step}
 use Rattle.lin_object.specs.Kinds.Register.{register_operations, register_step}
@@ -31,6 +33,7 @@ kind_names =
     ∷ (codes "stack", kinds.Stack)
     ∷ (codes "set", kinds.Set)
     ∷ (codes "mutex", kinds.Mutex)
+    ∷ (codes "map", kinds.Map)
     ∷ []
 
 -- Whether a declaration of the kind may say with which number its object starts.
@@ -41,6 +44,7 @@ starts_with_number kinds.Queue = false
 starts_with_number kinds.Stack = false
 starts_with_number kinds.Set = false
 starts_with_number kinds.Mutex = false
+starts_with_number kinds.Map = false
 
 -- The state in which an object of the kind starts, with the number of its declaration.
 abbrev pub state_at_start : Kind → ℤ → ObjState
@@ -50,8 +54,9 @@ state_at_start kinds.Queue number = states.Queue []
 state_at_start kinds.Stack number = states.Stack []
 state_at_start kinds.Set number = states.Set []
 state_at_start kinds.Mutex number = states.Mutex None
+state_at_start kinds.Map number = states.Map []
 
--- Whether the state holds items: a step from it, or a copy of it, may take memory. Of the other states none does.
+-- Whether the state holds items or pairs: a step from it, or a copy of it, may take memory. Of the other states none does.
 abbrev pub holds_items : ObjState → Bool
 holds_items (states.Register value) = false
 holds_items (states.Counter value) = false
@@ -59,6 +64,7 @@ holds_items (states.Queue items) = true
 holds_items (states.Stack items) = true
 holds_items (states.Set items) = true
 holds_items (states.Mutex holder) = false
+holds_items (states.Map pairs) = true
 
 -- The operations of a kind by their names.
 abbrev pub operations : Kind → List (List ℕ × OpMaker)
@@ -68,6 +74,7 @@ operations kinds.Queue = queue_operations
 operations kinds.Stack = stack_operations
 operations kinds.Set = set_operations
 operations kinds.Mutex = mutex_operations
+operations kinds.Map = map_operations
 
 -- The operation of a kind with this name and these arguments; none where there is none.
 abbrev pub op_with : Kind → List ℕ → List ℤ → Option Op
@@ -86,3 +93,4 @@ after (states.Queue items) process op = queue_step items op
 after (states.Stack items) process op = stack_step items op
 after (states.Set items) process op = set_step items op
 after (states.Mutex holder) process op = mutex_step holder process op
+after (states.Map pairs) process op = map_step pairs op

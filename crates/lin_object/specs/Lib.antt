@@ -1,5 +1,7 @@
 pub mod Items
 pub mod ItemLemmas
+pub mod Pairs
+pub mod PairLemmas
 pub mod StepAnswers
 pub mod Laws
 pub mod Names

@@ -2,7 +2,7 @@
 use Rattle.std.specs.Prelude.{ℕ, ◌++◌, List, [], codes, if◌then◌else◌}
 use Rattle.std.specs.Fmt.{signed_decimal}
 use Rattle.lin_object.specs.declared.op.Op.{Op}
-use Rattle.lin_object.specs.declared.op.Op.TheVariants.{Write, Read, Cas, Add, Get, Enqueue, Dequeue, Push, Pop, Insert, Remove, Contains, Lock, Unlock, TryLock}
+use Rattle.lin_object.specs.declared.op.Op.TheVariants.{Write, Read, Cas, Add, Get, Enqueue, Dequeue, Push, Pop, Insert, Remove, Contains, Lock, Unlock, TryLock, Put, Lookup, Delete}
 use Rattle.lin_object.specs.declared.reply.Reply.{Reply}
 use Rattle.lin_object.specs.declared.reply.Reply.TheVariants.{Okay, Int, Flag, Empty}
 
@@ -23,6 +23,9 @@ op_name (Contains v) = codes "contains"
 op_name Lock = codes "lock"
 op_name Unlock = codes "unlock"
 op_name TryLock = codes "try_lock"
+op_name (Put k v) = codes "put"
+op_name (Lookup k) = codes "get"
+op_name (Delete k) = codes "delete"
 
 -- The arguments of an operation, joined by commas.
 abbrev pub op_arguments : Op → List ℕ
@@ -34,6 +37,9 @@ op_arguments (Push v) = signed_decimal v
 op_arguments (Insert v) = signed_decimal v
 op_arguments (Remove v) = signed_decimal v
 op_arguments (Contains v) = signed_decimal v
+op_arguments (Put k v) = signed_decimal k ++ codes "," ++ signed_decimal v
+op_arguments (Lookup k) = signed_decimal k
+op_arguments (Delete k) = signed_decimal k
 op_arguments op = []
 
 -- The operation's name, and its arguments in brackets.

@@ -6,15 +6,16 @@ use Rattle.std.specs.Cmp.{signed_Decides}
 use Rattle.std.proofs.lemmas.Bool.{and_parts}
 use Rattle.std.proofs.lemmas.Cmp.{int_eq_equiv}
 use Rattle.lin_object.specs.declared.op.Op.{Op}
-use Rattle.lin_object.specs.declared.op.Op.TheVariants.{Write, Read, Cas, Add, Get, Enqueue, Dequeue, Push, Pop, Insert, Remove, Contains, Lock, Unlock, TryLock}
+use Rattle.lin_object.specs.declared.op.Op.TheVariants.{Write, Read, Cas, Add, Get, Enqueue, Dequeue, Push, Pop, Insert, Remove, Contains, Lock, Unlock, TryLock, Put, Lookup, Delete}
 use Rattle.lin_object.specs.declared.reply.Reply.{Reply}
 use Rattle.lin_object.specs.declared.reply.Reply.TheVariants.{Okay, Int, Flag, Empty}
 use Rattle.lin_object.specs.declared.state.ObjState.{ObjState}
-use Rattle.lin_object.specs.declared.state.ObjState.TheVariants.{Register, Counter, Queue, Stack, Set, Mutex}
+use Rattle.lin_object.specs.declared.state.ObjState.TheVariants.{Register, Counter, Queue, Stack, Set, Mutex, Map}
 use Rattle.lin_object.specs.contracts.op.OpPartialEq.TheImpl.{eq-value as op_eq}
 use Rattle.lin_object.specs.contracts.reply.ReplyPartialEq.TheImpl.{eq-value as reply_eq}
 use Rattle.lin_object.specs.contracts.state.ObjStatePartialEq.TheImpl.{eq-value as state_eq}
 use Rattle.lin_object.specs.ItemLemmas.{items_same, items_itself}
+use Rattle.lin_object.specs.PairLemmas.{pairs_same, pairs_itself}
 use Rattle.lin_object.specs.StepAnswers.{SameStep}
 use Rattle.lin_object.specs.Kinds.{after}
 
@@ -38,6 +39,9 @@ op_same (Contains v) (Contains w) e = ap Contains (int_same v w e)
 op_same Lock Lock e = refl
 op_same Unlock Unlock e = refl
 op_same TryLock TryLock e = refl
+op_same (Put a b) (Put c d) e = let h = and_parts _ _ e in let h0 : a ≡ c = int_same a c h.0 in let h1 : b ≡ d = int_same b d h.1 in cc
+op_same (Lookup v) (Lookup w) e = ap Lookup (int_same v w e)
+op_same (Delete v) (Delete w) e = ap Delete (int_same v w e)
 op_same a b e = absurd (true≢false (sym e))
 
 holder_same : (a b : Option ℕ) → state_eq.it (Mutex a) (Mutex b) ≡ true → a ≡ b
@@ -54,6 +58,7 @@ state_same (Queue v) (Queue w) e = ap Queue (items_same v w e)
 state_same (Stack v) (Stack w) e = ap Stack (items_same v w e)
 state_same (Set v) (Set w) e = ap Set (items_same v w e)
 state_same (Mutex a) (Mutex b) e = ap Mutex (holder_same a b e)
+state_same (Map v) (Map w) e = ap Map (pairs_same v w e)
 state_same s t e = absurd (true≢false (sym e))
 
 -- A state is equal to itself by the test.
@@ -65,6 +70,7 @@ state_refl (Stack items) = items_itself items
 state_refl (Set items) = items_itself items
 state_refl (Mutex None) = refl
 state_refl (Mutex (Some p)) = eq-eqb p p refl
+state_refl (Map pairs) = pairs_itself pairs
 
 -- A reply is equal to itself by the test.
 pub reply_refl : (r : Reply) → reply_eq.it r r ≡ true

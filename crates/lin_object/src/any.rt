@@ -3,7 +3,7 @@ ghost use Rattle.std.specs.Prelude.{◌≡◌, true, IfOk, IfErr};
 ghost use Rattle.lin_object.specs.StepAnswers.{step_reply};
 ghost use Rattle.lin_object.specs.Kinds.{after as step_of, holds_items};
 
-use crate::kinds::{Answer, counter, mutex, queue, register, set, stack};
+use crate::kinds::{Answer, counter, map, mutex, queue, register, set, stack};
 use crate::object::SeqObject;
 use crate::op::Op;
 use crate::reply::Reply;
@@ -21,6 +21,7 @@ fn reply_of(state: &ObjState, process: u32, op: &Op) -> Option<Reply>
         ObjState::Stack(items) => stack::reply(items, op),
         ObjState::Set(items) => set::reply(items, op),
         ObjState::Mutex(holder) => mutex::step(*holder, process, op).map(|(_, reply)| reply),
+        ObjState::Map(pairs) => map::reply(pairs, op),
     }
 }
 
@@ -36,6 +37,7 @@ fn copied(alloc: Global, state: &ObjState) -> Result<ObjState, AllocError>
         ObjState::Stack(items) => Ok(ObjState::Stack(items.copy(alloc)?)),
         ObjState::Set(items) => Ok(ObjState::Set(items.copy(alloc)?)),
         ObjState::Mutex(holder) => Ok(ObjState::Mutex(*holder)),
+        ObjState::Map(pairs) => Ok(ObjState::Map(pairs.copy(alloc)?)),
     }
 }
 
@@ -71,6 +73,7 @@ impl SeqObject for AnyObject {
             ObjState::Stack(items) => stack::step(alloc, items, op),
             ObjState::Set(items) => set::step(alloc, items, op),
             ObjState::Mutex(holder) => Ok(mutex::step(*holder, process, op)),
+            ObjState::Map(pairs) => map::step(alloc, pairs, op),
         }
     }
 

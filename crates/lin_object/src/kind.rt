@@ -18,6 +18,8 @@ pub enum Kind {
     Set,
     /// A lock that one process at a time holds.
     Mutex,
+    /// Keys, each with a value.
+    Map,
 }
 
 impl Kind {
@@ -27,7 +29,7 @@ impl Kind {
     {
         match self {
             Kind::Register | Kind::Counter => true,
-            Kind::Queue | Kind::Stack | Kind::Set | Kind::Mutex => false,
+            Kind::Queue | Kind::Stack | Kind::Set | Kind::Mutex | Kind::Map => false,
         }
     }
 }
@@ -43,6 +45,7 @@ pub fn kind_of_name(name: &str) -> Option<Kind>
         "stack" => Some(Kind::Stack),
         "set" => Some(Kind::Set),
         "mutex" => Some(Kind::Mutex),
+        "map" => Some(Kind::Map),
         _ => None,
     }
 }

@@ -4,6 +4,7 @@ use crate::reply::Reply;
 use crate::state::ObjState;
 
 pub(crate) mod counter;
+pub(crate) mod map;
 pub(crate) mod mutex;
 pub(crate) mod queue;
 pub(crate) mod register;

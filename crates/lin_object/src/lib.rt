@@ -5,6 +5,7 @@
 //! - `kinds`: a file for each kind, with its operations by name and what each of them does.
 //! - `kind`, `op`, `reply`, `state`: what declarations, calls and returns are made of.
 //! - `items`: the items that queues, stacks and sets hold.
+//! - `pairs`: the keys and values that maps hold.
 //!
 //! `specs/Kinds` has a file for each kind too, with its table and the law of its runs, and
 //! `proofs/kinds` shows that the table keeps the law. One kind more is one file in each of the
@@ -17,6 +18,7 @@ mod kind;
 mod kinds;
 mod object;
 mod op;
+mod pairs;
 mod reply;
 mod state;
 
@@ -24,6 +26,7 @@ pub use any::AnyObject;
 pub use items::Items;
 pub use kind::{Kind, kind_of_name};
 pub use kinds::counter::counter_law;
+pub use kinds::map::map_law;
 pub use kinds::mutex::mutex_law;
 pub use kinds::queue::queue_law;
 pub use kinds::register::register_law;
@@ -31,5 +34,6 @@ pub use kinds::set::set_law;
 pub use kinds::stack::stack_law;
 pub use object::{SeqObject, SharedObject, lawful};
 pub use op::{Op, OpFault, is_op, read_op, write_op};
+pub use pairs::{Pair, Pairs};
 pub use reply::{Reply, write_reply};
 pub use state::{ObjState, start_state};

@@ -5,7 +5,7 @@ ghost use Rattle.lin_object.specs.Kinds.{operations, op_with, op_read};
 ghost use Rattle.lin_object.specs.PrintedForms.{op_name, op_text};
 
 use crate::kind::Kind;
-use crate::kinds::{counter, mutex, queue, register, set, stack};
+use crate::kinds::{counter, map, mutex, queue, register, set, stack};
 use std::alloc::{AllocError, Global};
 use std::fmt;
 
@@ -42,6 +42,12 @@ pub enum Op {
     Unlock,
     /// `try_lock()` of a mutex.
     TryLock,
+    /// `put(k,v)` of a map.
+    Put(i64, i64),
+    /// `get(k)` of a map.
+    Lookup(i64),
+    /// `delete(k)` of a map.
+    Delete(i64),
 }
 
 /// Why there is no such operation.
@@ -63,7 +69,7 @@ impl Op {
             Op::Read => "read",
             Op::Cas(..) => "cas",
             Op::Add(_) | Op::Insert(_) => "add",
-            Op::Get => "get",
+            Op::Get | Op::Lookup(_) => "get",
             Op::Enqueue(_) => "enq",
             Op::Dequeue => "deq",
             Op::Push(_) => "push",
@@ -73,6 +79,8 @@ impl Op {
             Op::Lock => "lock",
             Op::Unlock => "unlock",
             Op::TryLock => "try_lock",
+            Op::Put(..) => "put",
+            Op::Delete(_) => "delete",
         }
     }
 }
@@ -89,14 +97,18 @@ impl fmt::Display for Op {
             Op::Read | Op::Get | Op::Dequeue | Op::Pop | Op::Lock | Op::Unlock | Op::TryLock => {
                 write!(f, "{name}()")
             }
-            Op::Cas(from, to) => write!(f, "{name}({from},{to})"),
+            Op::Cas(first, second) | Op::Put(first, second) => {
+                write!(f, "{name}({first},{second})")
+            }
             Op::Write(value)
             | Op::Add(value)
             | Op::Enqueue(value)
             | Op::Push(value)
             | Op::Insert(value)
             | Op::Remove(value)
-            | Op::Contains(value) => write!(f, "{name}({value})"),
+            | Op::Contains(value)
+            | Op::Lookup(value)
+            | Op::Delete(value) => write!(f, "{name}({value})"),
         }
     }
 }
@@ -112,6 +124,7 @@ pub fn is_op(kind: Kind, name: &str) -> bool
         Kind::Stack => stack::has_op(name),
         Kind::Set => set::has_op(name),
         Kind::Mutex => mutex::has_op(name),
+        Kind::Map => map::has_op(name),
     }
 }
 
@@ -126,6 +139,7 @@ fn op_with(kind: Kind, name: &str, args: &[i64]) -> Option<Op>
         Kind::Stack => stack::op_with(name, args),
         Kind::Set => set::op_with(name, args),
         Kind::Mutex => mutex::op_with(name, args),
+        Kind::Map => map::op_with(name, args),
     }
 }
 

@@ -4,6 +4,7 @@ ghost use Rattle.lin_object.specs.Kinds.{state_at_start};
 
 use crate::items::Items;
 use crate::kind::Kind;
+use crate::pairs::Pairs;
 use std::alloc::Global;
 
 /// The state of an object of some kind.
@@ -21,6 +22,8 @@ pub enum ObjState {
     Set(Items),
     /// The process that holds a mutex; `None` where it is free.
     Mutex(Option<u32>),
+    /// The pairs of a map, in increasing order of their keys.
+    Map(Pairs),
 }
 
 /// The state in which an object of the kind starts. `number` counts where the kind starts with a
@@ -35,5 +38,6 @@ pub fn start_state(alloc: Global, kind: Kind, number: i64) -> ObjState
         Kind::Stack => ObjState::Stack(Items::none(alloc)),
         Kind::Set => ObjState::Set(Items::none(alloc)),
         Kind::Mutex => ObjState::Mutex(None),
+        Kind::Map => ObjState::Map(Pairs::none(alloc)),
     }
 }

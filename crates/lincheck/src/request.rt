@@ -49,13 +49,15 @@ Input: one JSON object a line, in the order in which the events happened.
   {\"event\":\"info\",\"process\":1,\"object\":\"x\"}
       Nobody knows whether the call of process 1 took effect. Process 1 has no event more.
 
-  Kinds, their operations, and the results (v, a and b are whole numbers of 64 bits):
+  Kinds, their operations, and the results (v, a, b and k are whole numbers of 64 bits):
     register   write(v): \"ok\"    read(): v           cas(a,b): true or false
     counter    add(v): \"ok\"      get(): v
     queue      enq(v): \"ok\"      deq(): v, or null where it is empty
     stack      push(v): \"ok\"     pop(): v, or null where it is empty
     set        add(v), remove(v), contains(v): true or false
     mutex      lock(): \"ok\"      unlock(): \"ok\"      try_lock(): true or false
+    map        put(k,v): \"ok\"    get(k): v, or null where k has none
+               delete(k): true or false
 
 Output:
   linearizable           and below it the calls in an order that explains the history, a line each:

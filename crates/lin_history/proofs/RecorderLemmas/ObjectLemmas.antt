@@ -1,11 +1,15 @@
 -- Objects by name, beside the map that holds them.
-use Rattle.std.proofs.Common.{◌≡◌, ℕ, Bool, not, cond, nat_lt, List, [], ◌∷◌, ◌++◌, map, length, position, Option, Some, None, is_some, bytes_eq, String, string_bytes, Global, refl, sym, ap, subst, ◌∙◌, ◌+◌}
+use Rattle.std.proofs.Common.{◌≡◌, ℕ, Bool, not, cond, nat_lt, List, [], ◌∷◌, ◌++◌, map, length, position, Option, Some, None, is_some, bytes_eq, option_map, option_and_then, slice_get, String, string_bytes, Global, refl, sym, ap, subst, ◌∙◌, ◌+◌}
 use Rattle.std.proofs.lemmas.List.{map-append, length-map}
+use Rattle.std.proofs.lemmas.Option.{slice_get-map}
 use Rattle.std.specs.Map.{lookup, keys_of}
 use Rattle.std.specs.List.{position_or_len}
 use Rattle.indexmap.proofs.MapLemmas.{some_index}
+use Rattle.lin_object.specs.declared.kind.Kind.{Kind}
 use Rattle.lin_history.specs.declared.recorder.history.Declaration.{Declaration}
+use Rattle.lin_history.specs.Recorder.BuilderState.{recorded}
 use Rattle.lin_history.specs.Recorder.RecordedHistory.{DeclaredObject}
+use Rattle.lin_history.specs.Recorder.Recording.{index_named, kind_named}
 use Rattle.lin_history.specs.Recorder.Views.{object_view}
 use Rattle.lin_history.specs.OptionLemmas.{none_of}
 
@@ -25,6 +29,17 @@ position-map p f xs =
 
 pub position-seen : (name : List ℕ) (es : List Entry) → position (λ o. bytes_eq name o.name) (map object_view es) ≡ position (λ k. bytes_eq name (string_bytes k)) (keys_of es)
 position-seen name es = position-map (λ o. bytes_eq name o.name) object_view es ∙ sym (position-map (λ k. bytes_eq name (string_bytes k)) (λ e. e.0) es)
+
+-- the kind that the entry of the name has
+pub kind_found : (es : List Entry) (name : List ℕ) (index : ℕ) (e : Entry) (kind : Kind)
+    → Some index ≡ index_named (recorded (map object_view es) [] 0) name → Some e ≡ slice_get es index → kind ≡ e.1.kind
+    → ◌≡◌ {A = Option Kind} (Some kind) (kind_named (recorded (map object_view es) [] 0) name)
+kind_found es name index e kind named found is =
+    let kind_of : Option DeclaredObject → Option Kind = option_map (λ (o : DeclaredObject). o.kind) in
+    ap (λ (k : Kind). Some k) is
+    ∙ ap (λ (o : Option Entry). kind_of (option_map object_view o)) found
+    ∙ ap kind_of (sym (slice_get-map object_view es index))
+    ∙ ap (λ (o : Option ℕ). option_and_then (λ i. kind_of (slice_get (map object_view es) i)) o) named
 
 -- ---- a name that is not there
 

@@ -19,11 +19,12 @@ use Rattle.lin_object.specs.Kinds.{after}
 use Rattle.lin_object.specs.Kinds.Set.{set_step, is_in_after_step, is_in_after, IsIncreasing, SetLaw}
 use Rattle.std.proofs.lemmas.Bool.{or_parts}
 use Rattle.lin_object.proofs.BoolLemmas.{not_both}
+use Rattle.lin_object.proofs.NumberLemmas.{apart_from_less, not_less_twice, int_swap, below_or_above, less}
 use Rattle.lin_object.proofs.AnswerLemmas.{Gives, no_step, state_given}
 use Rattle.std.specs.Ordering.{int_cmp}
 use Rattle.std.specs.List.{AllByRecursion}
 use Rattle.std.specs.List.Sorted.{IsStrictlySortedBy}
-use Rattle.std.specs.declared.cmp.Ordering.TheVariants.{Less, Greater}
+use Rattle.std.specs.declared.cmp.Ordering.TheVariants.{Less}
 use Rattle.std.proofs.lemmas.Cmp.{int_cmp_total}
 use Rattle.std.proofs.lemmas.List.Kept.{IsStrictlySortedBy-filter}
 use Rattle.lin_object.specs.contracts.state.ObjStatePartialEq.TheImpl.{eq-value as state_eq}
@@ -45,13 +46,6 @@ equal_sets xs ys e = subst (λ (zs : List ℤ). state_eq.it (Set xs) (Set zs) �
 own : (x : ℤ) (xs : List ℤ) → is_in x (x ∷ xs) ≡ true
 own x xs = rw ((signed_Decides x x).1 refl) refl
 
--- what is below an item is not equal to it
-apart_from_less : (x y : ℤ) → int_cmp x y ≡ Less → int_eq y x ≡ false
-apart_from_less x y e = rw (int_cmp_total.antisymm y x, e) refl
-
-not_less_twice : (x y : ℤ) → int_cmp x y ≡ Less → int_cmp y x ≡ Less → ⊥
-not_less_twice x y e f = let turned : int_cmp y x ≡ Greater = rw (int_cmp_total.antisymm y x, e) refl in let bad : Less ≡ Greater = sym f ∙ turned in cc
-
 -- an item below all of a list is not in it
 above_all : (x : ℤ) (xs : List ℤ) → AllByRecursion (λ y. int_cmp x y ≡ Less) xs → is_in x xs ≡ false
 above_all x [] all = refl
@@ -69,15 +63,6 @@ rest_same x y xs ys item head all every same = go (int_eq x item) (int_eq y item
         gone ∙ sym lost
     go false true e f = absurd (not_both (int_eq x item) (subst (λ (z : ℤ). int_eq z item ≡ true) (sym head) f) e)
     go false false e f = rw (e, f) at same
-
-int_swap : (a b : ℤ) → int_eq a b ≡ int_eq b a
-int_swap a b = go (int_eq a b) (int_eq b a) refl refl
-  where
-    go : (c d : Bool) → int_eq a b ≡ c → int_eq b a ≡ d → c ≡ d
-    go true true e f = refl
-    go false false e f = refl
-    go true false e f = sym ((signed_Decides b a).1 (sym ((signed_Decides a b).0 e))) ∙ f
-    go false true e f = sym e ∙ (signed_Decides a b).1 (sym ((signed_Decides b a).0 f))
 
 any_turned : (a b c : Bool) → (a || (b || c)) ≡ (b || (a || c))
 any_turned true true c = refl
@@ -148,14 +133,6 @@ set_runs items (step ∷ steps) t (m, e, rest) =
     (later.0, later.1, λ item. later.2 item ∙ ap (λ (b : Bool). is_in_after item b steps) (one.2 item))
 
 -- ---- the order of the items
-
--- one of two items that are not equal is below the other
-below_or_above : (v x : ℤ) (above : Bool) → int_lt x v ≡ above → int_lt v x ≡ false → int_eq x v ≡ false → int_cmp x v ≡ Less
-below_or_above v x true e f g = rw e refl
-below_or_above v x false e f g = absurd (not_both (int_eq x v) (rw (e, f) refl) g)
-
-less : (v x : ℤ) → int_lt v x ≡ true → int_cmp v x ≡ Less
-less v x e = rw e refl
 
 insert_later : (v x : ℤ) (xs : List ℤ) (n : ℕ) → insert (x ∷ xs) (1 + n) v ≡ x ∷ insert xs n v
 insert_later v x xs n = let next : suc n ≡ 1 + n = omega arith in subst (λ (k : ℕ). insert (x ∷ xs) k v ≡ x ∷ insert xs n v) next refl

@@ -27,13 +27,14 @@ const WORKERS_AND_SHARDS: [(u64, u64); 6] = [
     (64, 256),
 ];
 
-const KINDS: [Kind; 6] = [
+const KINDS: [Kind; 7] = [
     Kind::Register,
     Kind::Counter,
     Kind::Queue,
     Kind::Stack,
     Kind::Set,
     Kind::Mutex,
+    Kind::Map,
 ];
 
 // What a check with so many workers and shards finds.

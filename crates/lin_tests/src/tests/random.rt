@@ -36,10 +36,12 @@ fn change(kind: Kind, value: i64) -> (Op, Reply) {
         Kind::Set => (Op::Insert(value), Reply::Flag(true)),
         Kind::Mutex if value < 2 => (Op::Lock, Reply::Okay),
         Kind::Mutex => (Op::Unlock, Reply::Okay),
+        Kind::Map if value < 3 => (Op::Put(1, value), Reply::Okay),
+        Kind::Map => (Op::Delete(1), Reply::Flag(true)),
     }
 }
 
-// The value that a queue or a stack may have given; 0 stands for none.
+// The value that a queue, a stack or a map may have given; 0 stands for none.
 fn given(value: i64) -> Reply {
     if value == 0 {
         Reply::Empty
@@ -58,6 +60,7 @@ fn question(kind: Kind, value: i64) -> (Op, Reply) {
         Kind::Set if value < 2 => (Op::Remove(value), Reply::Flag(true)),
         Kind::Set => (Op::Contains(value), Reply::Flag(value == 2)),
         Kind::Mutex => (Op::TryLock, Reply::Flag(value < 2)),
+        Kind::Map => (Op::Lookup(1), given(value)),
     }
 }
 
