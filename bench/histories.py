@@ -238,17 +238,22 @@ def objects(number):
             yield returned(process, name, value)
 
 
+def registers(most):
+    """So many calls in turn of one process, 4,096 on each register."""
+    names = ["o%d" % number for number in range(most // 4096)]
+    for name in names:
+        yield declared(name)
+    for value in range(4096):
+        for name in names:
+            yield call(1, name, "write", value)
+            yield returned(1, name, OKAY)
+
+
 # ---- histories that are only read: they end with a faulty line
 
 
 def calls(most):
-    names = ["o%d" % number for number in range(16)]
-    for name in names:
-        yield declared(name)
-    for value in range(most // 16):
-        for name in names:
-            yield call(1, name, "write", value)
-            yield returned(1, name, OKAY)
+    yield from registers(most)
     yield FAULTY
 
 
@@ -275,12 +280,15 @@ class Family(NamedTuple):
 
 
 CALLS = [512, 1024, 2048, 4096]
+MORE_CALLS = [*CALLS, 8192, 16384]
+ALL_CALLS = [65536, 131072, 262144]
 FAMILIES = {
-    "calls": Family("short lines, 16 registers; read only", "calls", [65536], 2, calls),
+    "calls": Family("short lines, registers of 4,096 calls; read only", "calls", ALL_CALLS, 2, calls),
+    "calls_checked": Family("the same, checked", "calls", ALL_CALLS, 0, registers),
     "largest": Family("lines as long as they may be; read only", "bytes", [INPUT], 2, largest),
     "objects": Family("registers of 60 calls in turn", "objects", [10, 100, 1000], 0, objects),
-    "sequential": Family("a register, one call in eight overlaps the next", "calls", CALLS, 0, sequential),
-    "sequential_no": Family("the same, and an impossible read", "calls", CALLS, 1, sequential_refuted),
+    "sequential": Family("a register, one call in eight overlaps the next", "calls", MORE_CALLS, 0, sequential),
+    "sequential_no": Family("the same, and an impossible read", "calls", MORE_CALLS, 1, sequential_refuted),
     "register_2": Family("a register, 2 processes", "calls", CALLS, 0, register(2)),
     "register_2_no": Family("the same, and an impossible read", "calls", CALLS, 1, register_refuted(2)),
     "register_5": Family("a register, 5 processes", "calls", CALLS, 0, register(5)),

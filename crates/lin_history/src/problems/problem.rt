@@ -31,7 +31,7 @@ pub enum ProblemFault {
     Late,
     /// There is no such call, or it has returned.
     NoCall,
-    /// 4,096 calls are there.
+    /// 16,384 calls are there.
     TooManyCalls,
     /// Memory for the call was refused.
     OutOfMemory,
@@ -152,7 +152,7 @@ impl<O: SeqObject> Problem<O> {
     ghost use Rattle.lin_history.specs.Problems.ProblemParts.{ProblemParts, AreTimed, new_call_refusals, new_return_refusals, with_new_call, with_new_return};
 
     /// The problem of these calls. Condition: they are in the order of their call events, return after they
-    /// were called, no return event has the number of a call event, and there are no more than 4,096.
+    /// were called, no return event has the number of a call event, and there are no more than 16,384.
     pub(crate) fn with_calls(
         object: O,
         start: O::State,
@@ -222,7 +222,7 @@ impl<O: SeqObject> Problem<O> {
     }
 
     /// Adds a pending call whose call event has this number. Refusals, in order: `Late` where the number
-    /// is 0 or not greater than every number before, `TooManyCalls` where 4,096 calls are there,
+    /// is 0 or not greater than every number before, `TooManyCalls` where 16,384 calls are there,
     /// `OutOfMemory`. After a refusal nothing has changed.
     pub fn add_call(&mut self, process: u32, op: O::Op, number: u32) -> Result<(), ProblemFault>
         ensures sound { OnOk result (first_that_holds (new_call_refusals self.old number) ≡ None) }
@@ -282,7 +282,7 @@ impl<O: SeqObject> Problem<O> {
         &self.calls[call]
     }
 
-    /// The calls, in the order of their call events: no more than 4,096.
+    /// The calls, in the order of their call events: no more than 16,384.
     pub fn calls(&self) -> &[ProblemCall<O::Op, O::Reply>]
         ensures calls { result.now ≡ self.now.calls }
         ensures timed { AreTimed self.now.calls }

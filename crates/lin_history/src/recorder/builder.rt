@@ -466,8 +466,8 @@ impl Builder {
 
     /// Records the call of an operation of the named object by a process. Refusals, in order: `BadName`
     /// as above, `UnknownObject` where no object of that name is declared, `ProcessEnded` where the
-    /// process has ended, `Busy` where it has a pending call, `TooManyCalls` where 65,536 calls were
-    /// made or 4,096 on this object, also those that failed, `OutOfMemory`. After a refusal nothing has
+    /// process has ended, `Busy` where it has a pending call, `TooManyCalls` where 262,144 calls were
+    /// made or 16,384 on this object, also those that failed, `OutOfMemory`. After a refusal nothing has
     /// changed.
     pub fn call(&mut self, process: u32, name: &str, op: Op) -> Result<(), BuildFault>
         ensures sound { OnOk result (first_that_holds (call_refusals self.old process name.now)

@@ -154,7 +154,7 @@ impl History {
     ghost use Rattle.lin_history.specs.Recorder.Views.{count_on, AreNumbered, AreWithinLimit};
 
     /// The history of these objects, calls and number of events. Condition: it is one, each call has its
-    /// number among the calls on its object, and no object has more than 4,096 calls.
+    /// number among the calls on its object, and no object has more than 16,384 calls.
     pub(crate) fn new(
         objects: IndexMap<String, Declaration>,
         calls: Vec<CallInfo>,
