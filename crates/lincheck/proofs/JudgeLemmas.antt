@@ -1,5 +1,5 @@
 -- From the search of one object's problem to the verdict on its history.
-use Rattle.std.proofs.Common.{◌≡◌, ℕ, zero, suc, ◌<◌, List, [], ◌∷◌, ◌++◌, length, Option, Some, None, refl, sym, subst, arith, ◌+◌, ◌⊎◌, length-append, inl, inr, ◌∙◌, ap}
+use Rattle.std.proofs.Common.{◌≡◌, ℕ, zero, suc, ◌<◌, List, [], ◌∷◌, ◌++◌, length, Option, Some, None, refl, sym, subst, arith, ◌+◌, ◌⊎◌, length-append, inl, inr, ◌∙◌, ap, Break, ControlFlow}
 use Rattle.std.specs.Prelude.{pos, Vec}
 use Rattle.std.specs.declared.alloc.Global.{Global}
 use Rattle.std.specs.List.{slice_get}
@@ -97,3 +97,7 @@ verdict_no h orders object order run declared so_far none placed limit = (
 
 pub verdict_undecided : (h : RecordedHistory) (orders : List (List ℕ)) (object : ℕ) → object < length h.objects → AreLeastOf h object orders → (limit : Option ℕ) → IsSomeAnd limit (λ most. HasMoreThan (IsRun (part_of h object)) most) → IsVerdict h limit (Undecided object)
 verdict_undecided h orders object declared so_far limit over = record { declared = declared; earlier = earlier_have h orders object so_far; over = over }
+
+-- two breaks are equal only where their values are
+pub breaks : {B C : Type 0} → {x y : B} → ◌≡◌ {A = ControlFlow B C} (Break x) (Break y) → x ≡ y
+breaks e = cc
