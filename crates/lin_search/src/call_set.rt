@@ -21,13 +21,13 @@ pub struct CallSet {
     // The sum of the weights of the calls in the set.
     hash: u64,
     // The sum of the numbers of the calls in the set.
-    sum: u64,
+    sum: u32,
     // How many calls the problem has.
-    calls: usize,
+    calls: u16,
     // How many leading words are full.
-    full: usize,
-    // The words after those, up to the last that is not 0.
-    words: SmallVec<u64, 4>,
+    full: u16,
+    // The words after those, up to the last that is not 0. Two of them take as much room as where more words lie.
+    words: SmallVec<u64, 2>,
 }
 
 impl Model for CallSet {
@@ -131,7 +131,7 @@ fn are_same(a: &[u64], b: &[u64]) -> bool
 }
 
 // Puts words of 0 at the end, up to one at the index.
-fn lengthen(words: &mut SmallVec<u64, 4>, index: usize) -> Result<(), AllocError>
+fn lengthen(words: &mut SmallVec<u64, 2>, index: usize) -> Result<(), AllocError>
     requires { index < 2 ^ 63 }
     ensures len { IfOk result (λ done. length words.new.items
         ≡ max (length words.old.items) (index + 1)) }
@@ -149,7 +149,7 @@ fn lengthen(words: &mut SmallVec<u64, 4>, index: usize) -> Result<(), AllocError
 }
 
 // Sets the call's bit in the word at the index.
-fn set_bit(words: &mut SmallVec<u64, 4>, index: usize, call: usize)
+fn set_bit(words: &mut SmallVec<u64, 2>, index: usize, call: usize)
     requires { index < length words.old.items }
     ensures { words.new.items ≡ slice_set words.old.items index
         (bit_or (slice_index words.old.items index) (1 * 2 ^ (call % 64) % 2 ^ 64)) }
@@ -158,7 +158,7 @@ fn set_bit(words: &mut SmallVec<u64, 4>, index: usize, call: usize)
 }
 
 // Takes the leading full words out, and tells how many they were.
-fn drop_full(words: &mut SmallVec<u64, 4>) -> usize
+fn drop_full(words: &mut SmallVec<u64, 2>) -> usize
     ensures within { result ≤ length words.old.items }
     ensures rest { words.new.items ≡ drop result words.old.items }
     ensures full { (i : ℕ) → i < result → slice_index words.old.items i ≡ 2 ^ 64 - 1 }
@@ -175,7 +175,7 @@ fn drop_full(words: &mut SmallVec<u64, 4>) -> usize
 }
 
 // Puts full words in front, from the one at the index on, where so many leading words are full.
-fn open_full(full: &mut usize, words: &mut SmallVec<u64, 4>, index: usize) -> Result<(), AllocError>
+fn open_full(full: &mut u16, words: &mut SmallVec<u64, 2>, index: usize) -> Result<(), AllocError>
     ensures same { (i : ℕ) → word_at full.new words.new.items i
         ≡ word_at full.old words.old.items i }
     ensures opened { IfOk result (λ done. index < full.old → full.new ≡ index) }
@@ -183,8 +183,8 @@ fn open_full(full: &mut usize, words: &mut SmallVec<u64, 4>, index: usize) -> Re
         × (words.new.items ≡ words.old.items) }
     ensures err { OnErr result ((full.new ≡ full.old) × (words.new ≡ words.old)) }
 {
-    words.reserve(full.saturating_sub(index))?;
-    while *full > index {
+    words.reserve((*full as usize).saturating_sub(index))?;
+    while *full as usize > index {
         words.insert(0, u64::MAX)?;
         *full -= 1;
     }
@@ -192,7 +192,7 @@ fn open_full(full: &mut usize, words: &mut SmallVec<u64, 4>, index: usize) -> Re
 }
 
 // Clears the call's bit, which is set, in the word at the index.
-fn clear_bit(words: &mut SmallVec<u64, 4>, index: usize, call: usize)
+fn clear_bit(words: &mut SmallVec<u64, 2>, index: usize, call: usize)
     requires { index < length words.old.items }
     ensures { words.new.items ≡ slice_set words.old.items index
         (bit_and (slice_index words.old.items index)
@@ -202,7 +202,7 @@ fn clear_bit(words: &mut SmallVec<u64, 4>, index: usize, call: usize)
 }
 
 // Takes the words of 0 at the end out.
-fn drop_empty(words: &mut SmallVec<u64, 4>)
+fn drop_empty(words: &mut SmallVec<u64, 2>)
     ensures same { (i : ℕ) → slice_index words.new.items i ≡ slice_index words.old.items i }
     ensures last { 0 < length words.new.items
         → slice_index words.new.items (length words.new.items - 1) ≢ 0 }
@@ -221,7 +221,7 @@ impl CallSet {
         Ok(CallSet {
             hash: 0,
             sum: 0,
-            calls,
+            calls: calls as u16,
             full: 0,
             words: SmallVec::new(alloc),
         })
@@ -254,14 +254,14 @@ impl CallSet {
     pub fn has(&self, call: usize) -> bool
         ensures { result ≡ has self.now call }
     {
-        word(self.full, self.words.as_slice(), call / 64) & bit(call) != 0
+        word(self.full as usize, self.words.as_slice(), call / 64) & bit(call) != 0
     }
 
     /// The sum of the numbers of the calls in the set.
     pub fn sum(&self) -> u64
         ensures { result ≡ sum_of self.now }
     {
-        self.sum
+        self.sum as u64
     }
 
     // Puts the call, which is not in the set, in. Where memory was refused nothing changes.
@@ -271,12 +271,12 @@ impl CallSet {
         ensures lifted { IfOk result (λ done. self.new ≡ with_call self.old call) }
         ensures err { OnErr result (self.new ≡ self.old) }
     {
-        let index = call / 64 - self.full;
+        let index = call / 64 - self.full as usize;
         lengthen(&mut self.words, index)?;
         set_bit(&mut self.words, index, call);
-        self.full += drop_full(&mut self.words);
+        self.full += drop_full(&mut self.words) as u16;
         self.hash = self.hash.wrapping_add(weight(call));
-        self.sum += call as u64;
+        self.sum += call as u32;
         Ok(())
     }
 
@@ -288,10 +288,10 @@ impl CallSet {
         ensures err { OnErr result (self.new ≡ self.old) }
     {
         open_full(&mut self.full, &mut self.words, call / 64)?;
-        clear_bit(&mut self.words, call / 64 - self.full, call);
+        clear_bit(&mut self.words, call / 64 - self.full as usize, call);
         drop_empty(&mut self.words);
         self.hash = self.hash.wrapping_sub(weight(call));
-        self.sum -= call as u64;
+        self.sum -= call as u32;
         Ok(())
     }
 }

@@ -1,13 +1,15 @@
 //! What the longest continuations of a configuration tell.
 ghost use Rattle.std.specs.Prelude.{◌≡◌, ℕ, ◌+◌, ◌<◌, ◌≤◌, Some, None};
+ghost use Rattle.lin_history.specs.declared.limits.TheConstants.{MAX_CALLS_ON_OBJECT};
 
-/// What the longest continuations of a configuration tell of it.
+/// What the longest continuations of a configuration tell of it. A memo keeps one for each configuration, so it is
+/// small: the calls of a problem are few enough to be numbered with 16 bits.
 #[derive(Clone, Copy, PartialEq, Eq, Debug)]
 pub struct Longest {
     /// The greatest number of calls of a continuation.
-    pub more: usize,
+    pub more: u16,
     /// The least first call of a continuation of so many calls; `None` where `more` is 0.
-    pub first: Option<usize>,
+    pub first: Option<u16>,
 }
 
 impl Longest {
@@ -21,9 +23,20 @@ impl Longest {
         }
     }
 
+    /// The first call, by its number in the problem.
+    pub fn first_call(self) -> Option<usize>
+        ensures { result ≡ self.first }
+    {
+        match self.first {
+            Some(call) => Some(call as usize),
+            None => None,
+        }
+    }
+
     // With the continuations that begin with one call more, which leads to where `deep` is the longest.
     pub(crate) fn or_after(self, call: usize, deep: Longest) -> Longest
-        requires { deep.more < 18446744073709551615 }
+        requires call { call < MAX_CALLS_ON_OBJECT }
+        requires deep { deep.more < MAX_CALLS_ON_OBJECT }
         ensures longer { self.more < deep.more + 1 → result
             ≡ record { more = deep.more + 1; first = Some call } }
         ensures not_longer { deep.more + 1 ≤ self.more → result ≡ self }
@@ -32,7 +45,7 @@ impl Longest {
         if self.more < more {
             Longest {
                 more,
-                first: Some(call),
+                first: Some(call as u16),
             }
         } else {
             self

@@ -106,7 +106,7 @@ fn longest_from<O: SeqObject, M: Memo<O>>(
 {
     let mut calls = Vec::new(alloc);
     let mut longest = longest_of(alloc, problem, config, memo, is_for_problem)?;
-    while let Some(call) = longest.first {
+    while let Some(call) = longest.first_call() {
         calls.push(call)?;
         follow(alloc, problem, config, call)?;
         longest = longest_of(alloc, problem, config, memo, is_for_problem)?;

@@ -10,7 +10,7 @@ ghost use Rattle.lin_search.specs.Path.{calls_of};
 use crate::config::Config;
 use crate::entries::Entries;
 use crate::longest::Longest;
-use lin_history::{Order, Problem};
+use lin_history::{MAX_CALLS_ON_OBJECT, Order, Problem};
 use lin_object::SeqObject;
 use std::alloc::{AllocError, Global};
 use std::marker::Model;
@@ -53,7 +53,8 @@ impl<O: SeqObject> Frame<O> {
 
     // What the continuations up to the call tell, where it led to a configuration that is refuted with this longest.
     fn longest_with(&self, deep: Longest) -> Longest
-        requires { deep.more < 18446744073709551615 }
+        requires call { self.now.call < MAX_CALLS_ON_OBJECT }
+        requires deep { deep.more < MAX_CALLS_ON_OBJECT }
         ensures longer { self.now.longest.more < deep.more + 1
             → result ≡ record { more = deep.more + 1; first = Some self.now.call } }
         ensures not_longer { deep.more + 1 ≤ self.now.longest.more → result ≡ self.now.longest }
@@ -311,8 +312,8 @@ impl<'p, O: SeqObject> Path<'p, O> {
             (problem_of O.after O.State.eq O.Reply.eq self.old.entries.problem)
             self.new.config.lifted (frame.old.call + 1) position.candidate) }
     {
-        let calls = self.entries.problem().len();
-        prove!(deep.more < calls);
+        let calls = self.entries.problem().calls().len();
+        prove!(calls <= MAX_CALLS_ON_OBJECT);
         self.unlift(frame)?;
         Ok(self.after(frame.call, frame.longest_with(deep)))
     }

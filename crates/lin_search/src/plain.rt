@@ -30,7 +30,7 @@ pub fn search_plain<O: SeqObject>(
         return Ok(Outcome::Found(Order::new(Vec::new(alloc))));
     }
     let mut longest = Longest::none();
-    for call in 0..problem.len() {
+    for call in 0..problem.calls().len() {
         let Some(child) = config.child(alloc, problem, call)? else {
             continue;
         };

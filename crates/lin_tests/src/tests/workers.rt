@@ -14,7 +14,7 @@ use lin_workers::{Done, FreeGate, cut, work};
 use std::alloc::{AllocError, Global};
 
 // What a task brings that is refuted, with two calls more of which this one is the first.
-fn refuted_with(first: usize) -> Outcome {
+fn refuted_with(first: u16) -> Outcome {
     Outcome::Refuted(Longest {
         more: 2,
         first: Some(first),

@@ -7,11 +7,11 @@ use Rattle.lin_search.specs.LongestRun.{IsFirstLongest}
 use Rattle.lin_search.specs.Progress.{free}
 use Rattle.lin_search.proofs.longest_runs.longest_from.Given as goal
 
-abbrev pub decreases-loop-longest : goal.decreases-loop-longest
-decreases-loop-longest g l = free l.config.lifted
+abbrev pub decreases-loop-call : goal.decreases-loop-call
+decreases-loop-call g l = free l.config.lifted
 
-abbrev pub invariant-loop-longest : goal.invariant-loop-longest
-invariant-loop-longest g l = record {
+abbrev pub invariant-loop-call : goal.invariant-loop-call
+invariant-loop-call g l = record {
   reachable : IsReachable (problem_of g.O.SeqObject.after g.O.State.PartialEq.eq g.O.Reply.PartialEq.eq l.problem) l.config.lifted l.config.state;
   none : (m : List ℕ) → IsCompletion (problem_of g.O.SeqObject.after g.O.State.PartialEq.eq g.O.Reply.PartialEq.eq l.problem) l.config.lifted l.config.state m → ⊥;
   longest : IsLongest (IsContinuation (problem_of g.O.SeqObject.after g.O.State.PartialEq.eq g.O.Reply.PartialEq.eq l.problem) l.config.lifted l.config.state) l.longest.more l.longest.first;

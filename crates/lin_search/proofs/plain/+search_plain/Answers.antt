@@ -1,4 +1,4 @@
-use Rattle.std.proofs.Common.{rules, arith, ap, List, ◌∷◌, ℕ, ◌<◌, ◌∙◌}
+use Rattle.std.proofs.Common.{rules, arith, ap, length, List, ◌∷◌, ℕ, ◌<◌, ◌∙◌}
 use Rattle.lin_search.specs.Progress.{free}
 use Rattle.lin_search.proofs.ProgressLemmas.{least_none, searched_start, searched_skip, searched_after, searched_all, found_least, leads_down, room}
 use Rattle.lin_search.proofs.plain.+search_plain.Goals as goal
@@ -26,12 +26,17 @@ returns-in-Found g t c =
     let least = rw (child.0) at (rw c.in-Found.is at c.in_ok-order.ensures) in
     rw (c.new-in-Found.ensures ∙ (c.in_ok-insert-in-Found.ensures.items ∙ ap (λ (l : List ℕ). c.loop-call.call ∷ l) c.into_calls-calls.ensures)) (found_least _ _ _ _ _ _ _ _ c.requires.flags c.loop-call.invariant child.1 least)
 
-pub or_after-longest-requires : goal.or_after-longest-requires
-or_after-longest-requires g t c =
+pub or_after-longest-requires-clause-call : goal.or_after-longest-requires-clause-call
+or_after-longest-requires-clause-call g t c =
+    let calls = ap length c.calls-call-end.ensures.calls in
+    omega (arith, c.loop-call-test.true, calls, c.calls-call-end.ensures.few)
+
+pub or_after-longest-requires-clause-deep : goal.or_after-longest-requires-clause-deep
+or_after-longest-requires-clause-deep g t c =
     let child = rw c.in-Some.is at c.in_ok-child.ensures.some in
     let refuted = rw (child.0) at (rw c.in-Refuted.is at c.in_ok-order.ensures) in
     let fits = room _ _ _ _ _ _ _ c.requires.flags child.1 refuted.1 in
-    omega (arith, fits, c.len-call-end.ensures, c.len-call-end.type_inv)
+    omega (arith, fits, c.calls-call-end.ensures.few)
 
 pub loop-call-preserved : goal.loop-call-preserved
 loop-call-preserved g t c =
@@ -40,4 +45,4 @@ loop-call-preserved g t c =
     searched_after _ _ _ _ _ _ _ _ c.requires.flags child.1 refuted.0 refuted.1 c.loop-call.invariant c.or_after-longest.ensures.longer c.or_after-longest.ensures.not_longer
 
 pub returns : goal.returns
-returns g t c = searched_all _ _ _ _ _ _ (omega (arith, c.len-call-end.ensures)) c.requires.flags c.loop-call.invariant
+returns g t c = searched_all _ _ _ _ _ _ (let calls = ap length c.calls-call-end.ensures.calls in omega (arith, calls, c.loop-call-test.false)) c.requires.flags c.loop-call.invariant

@@ -31,6 +31,17 @@ window c =
     rw c.drop_full.ensures.rest
     (inserted_window set.calls set.full set.words.items c.lengthen.new.words.items c.set_bit.new.words.items c.args.call c.drop_full.result c.self.invariant.window (below c) (from c) c.in_ok-lengthen.ensures.len c.lengthen.ensures.same c.set_bit.ensures c.drop_full.ensures.full c.drop_full.ensures.stops)
 
+pub overflow_cast-self : goal.overflow_cast-self
+overflow_cast-self c =
+    let set = c.self.inside in
+    let last = (goal.at.overflow_cast-self c).After-drop_full in
+    omega (arith, full_within set.calls (set.full + c.drop_full.result) c.drop_full.new.words.items (window last).within, c.self.invariant.few)
+
+pub overflow_cast-self-2 : goal.overflow_cast-self-2
+overflow_cast-self-2 c =
+    let within = below (goal.at.overflow_cast-self-2 c).After-drop_full in
+    omega (arith, within, c.self.invariant.few)
+
 pub overflow_add-self : goal.overflow_add-self
 overflow_add-self c =
     let set = c.self.inside in

@@ -28,6 +28,11 @@ window c =
 below : (c : After-drop_empty) → c.args.call < c.self.inside.calls
 below c = call_there c.self.invariant c.self.view_is c.args.call c.requires
 
+pub overflow_cast-self : goal.overflow_cast-self
+overflow_cast-self c =
+    let within = below (goal.at.overflow_cast-self c).After-drop_empty in
+    omega (arith, within, c.self.invariant.few)
+
 pub overflow_sub-self : goal.overflow_sub-self
 overflow_sub-self c =
     let set = c.self.inside in
