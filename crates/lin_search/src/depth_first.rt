@@ -225,46 +225,15 @@ fn visit<O: SeqObject, M: Memo<O>>(
     go_on(path, frame, memo, is_for_problem)
 }
 
-// Tries the call: passes it over where it can't follow, and else visits what it leads to, where another call may be
-// lifted. `longest` is what the calls before it tell.
-fn try_call<O: SeqObject, M: Memo<O>, S: Stop>(
-    path: &mut Path<'_, O>,
-    call: usize,
-    longest: Longest,
-    memo: &mut M,
-    is_for_problem: bool,
-    left: &mut Option<u64>,
-    stop: &mut S,
-) -> Result<ControlFlow<Outcome, Position>, AllocError>
-    requires of { IsTrue is_for_problem → M.is_of memo.old path.old.entries.problem }
-    requires progress { (root : Configuration O.State) × (limit : Option ℕ)
-        × IsProgress (problem_of O.after O.State.eq O.Reply.eq path.old.entries.problem) root limit
-        path.old.entries.lifted path.old.frames.items left.old path.old.config longest (Some call) }
-    ensures problem { path.new.entries.problem ≡ path.old.entries.problem }
-    ensures step { IfOk result (λ step. (root : Configuration O.State) (limit : Option ℕ)
-        → IsProgress (problem_of O.after O.State.eq O.Reply.eq path.old.entries.problem) root limit
-        path.old.entries.lifted path.old.frames.items left.old path.old.config longest (Some call)
-        → IsStep (problem_of O.after O.State.eq O.Reply.eq path.old.entries.problem) root limit
-        path.new.entries.lifted path.new.frames.items left.new path.new.config (S.tells stop.new)
-        (work (length path.old.entries.problem.calls) root.lifted path.old.frames.items
-        path.old.config.lifted call) step) }
-    ensures holds { IfOk result (λ step. (root : Configuration O.State) (limit : Option ℕ)
-        → IsProgress (problem_of O.after O.State.eq O.Reply.eq path.old.entries.problem) root limit
-        path.old.entries.lifted path.old.frames.items left.old path.old.config longest (Some call)
-        → HoldsSearched (problem_of O.after O.State.eq O.Reply.eq path.old.entries.problem)
-        (M.holds memo.old) root.lifted path.old.frames.items path.old.config (Some call)
-        → HoldsStep (problem_of O.after O.State.eq O.Reply.eq path.old.entries.problem) root
-        (M.holds memo.new) path.new.frames.items path.new.config step) }
-    ensures changes { M.changes memo.old memo.new }
-    ensures stop { S.follows stop.old stop.new }
-{
-    let Some(state) = path.next_state(call)? else {
-        return Ok(ControlFlow::Continue(path.after(call, longest)));
-    };
-    if let Some(outcome) = refusal(left, stop) {
-        return Ok(ControlFlow::Break(outcome));
-    }
-    visit(path, Frame::new(state, call, longest), memo, is_for_problem)
+/// On what terms a search is made.
+#[derive(Clone, Copy)]
+pub(crate) struct Terms {
+    /// Whether the memo names the problem, so that it compares nothing.
+    pub(crate) is_for_problem: bool,
+    /// How many lifts may be made, where there is a limit.
+    pub(crate) limit: Option<u64>,
+    /// Whether the search ends for want of memory where the memo does not keep what it is handed.
+    pub(crate) needs_all: bool,
 }
 
 // What a search keeps count of.
@@ -274,6 +243,8 @@ struct Tally {
     left: Option<u64>,
     // Whether the memo kept all that it was handed.
     whole: bool,
+    // On what terms the search is made.
+    terms: Terms,
 }
 
 impl Tally {
@@ -281,26 +252,89 @@ impl Tally {
     fn add(&mut self, noted: Noted)
         ensures left { self.new.left ≡ self.old.left }
         ensures whole { IsTrue self.new.whole → IsTrue self.old.whole × IsKept noted }
+        ensures terms { self.new.terms ≡ self.old.terms }
     {
         self.whole = self.whole && noted.is_kept();
     }
+
+    // Whether the search is to end, since the memo did not keep all.
+    fn wants_memory(&self) -> bool {
+        self.terms.needs_all && !self.whole
+    }
+}
+
+// A call that is tried, and what the calls before it tell.
+#[derive(Clone, Copy, Drop)]
+struct Candidate {
+    call: usize,
+    longest: Longest,
+}
+
+// Tries the call: passes it over where it can't follow, and else visits what it leads to, where another call may be
+// lifted.
+fn try_call<O: SeqObject, M: Memo<O>, S: Stop>(
+    path: &mut Path<'_, O>,
+    candidate: Candidate,
+    memo: &mut M,
+    tally: &mut Tally,
+    stop: &mut S,
+) -> Result<ControlFlow<Outcome, Position>, AllocError>
+    requires of { IsTrue tally.old.terms.is_for_problem
+        → M.is_of memo.old path.old.entries.problem }
+    requires progress { (root : Configuration O.State) × (limit : Option ℕ)
+        × IsProgress (problem_of O.after O.State.eq O.Reply.eq path.old.entries.problem) root limit
+        path.old.entries.lifted path.old.frames.items tally.old.left path.old.config
+        candidate.longest (Some candidate.call) }
+    ensures problem { path.new.entries.problem ≡ path.old.entries.problem }
+    ensures step { IfOk result (λ step. (root : Configuration O.State) (limit : Option ℕ)
+        → IsProgress (problem_of O.after O.State.eq O.Reply.eq path.old.entries.problem) root limit
+        path.old.entries.lifted path.old.frames.items tally.old.left path.old.config
+        candidate.longest (Some candidate.call)
+        → IsStep (problem_of O.after O.State.eq O.Reply.eq path.old.entries.problem) root limit
+        path.new.entries.lifted path.new.frames.items tally.new.left path.new.config
+        (S.tells stop.new) (work (length path.old.entries.problem.calls) root.lifted
+        path.old.frames.items path.old.config.lifted candidate.call) step) }
+    ensures holds { IfOk result (λ step. (root : Configuration O.State) (limit : Option ℕ)
+        → IsProgress (problem_of O.after O.State.eq O.Reply.eq path.old.entries.problem) root limit
+        path.old.entries.lifted path.old.frames.items tally.old.left path.old.config
+        candidate.longest (Some candidate.call)
+        → HoldsSearched (problem_of O.after O.State.eq O.Reply.eq path.old.entries.problem)
+        (M.holds memo.old) root.lifted path.old.frames.items path.old.config (Some candidate.call)
+        → HoldsStep (problem_of O.after O.State.eq O.Reply.eq path.old.entries.problem) root
+        (M.holds memo.new) path.new.frames.items path.new.config step) }
+    ensures changes { M.changes memo.old memo.new }
+    ensures stop { S.follows stop.old stop.new }
+    ensures whole { tally.new.whole ≡ tally.old.whole }
+    ensures terms { tally.new.terms ≡ tally.old.terms }
+{
+    let Candidate { call, longest } = candidate;
+    let Some(state) = path.next_state(call)? else {
+        return Ok(ControlFlow::Continue(path.after(call, longest)));
+    };
+    if let Some(outcome) = refusal(&mut tally.left, stop) {
+        return Ok(ControlFlow::Break(outcome));
+    }
+    let next = Frame::new(state, call, longest);
+    visit(path, next, memo, tally.terms.is_for_problem)
 }
 
 // Goes back from a configuration all of whose calls were tried, and which is so refuted with this longest: hands it to
-// the memo, and goes on after the last frame's call. Where there is no frame, the root is refuted.
+// the memo, and goes on after the last frame's call. Where there is no frame, the root is refuted. `AllocError` also where
+// the memo did not keep it and the search needs all.
 fn go_back<O: SeqObject, M: Memo<O>>(
     path: &mut Path<'_, O>,
     longest: Longest,
     memo: &mut M,
-    is_for_problem: bool,
     tally: &mut Tally,
 ) -> Result<ControlFlow<Outcome, Position>, AllocError>
-    requires of { IsTrue is_for_problem → M.is_of memo.old path.old.entries.problem }
+    requires of { IsTrue tally.old.terms.is_for_problem
+        → M.is_of memo.old path.old.entries.problem }
     requires progress { (root : Configuration O.State) × (limit : Option ℕ)
         × IsProgress (problem_of O.after O.State.eq O.Reply.eq path.old.entries.problem) root limit
         path.old.entries.lifted path.old.frames.items tally.old.left path.old.config longest None }
     ensures problem { path.new.entries.problem ≡ path.old.entries.problem }
     ensures left { tally.new.left ≡ tally.old.left }
+    ensures terms { tally.new.terms ≡ tally.old.terms }
     ensures step { IfOk result (λ step. (root : Configuration O.State) (limit : Option ℕ)
         → IsProgress (problem_of O.after O.State.eq O.Reply.eq path.old.entries.problem) root limit
         path.old.entries.lifted path.old.frames.items tally.old.left path.old.config longest None
@@ -323,8 +357,12 @@ fn go_back<O: SeqObject, M: Memo<O>>(
         return Ok(ControlFlow::Break(Outcome::Refuted(longest)));
     };
     let (refuted, position) = path.retreat(frame, longest)?;
-    let noted = note_at(path.problem(), refuted, longest, memo, is_for_problem);
+    let problem = path.problem();
+    let noted = note_at(problem, refuted, longest, memo, tally.terms.is_for_problem);
     tally.add(noted);
+    if tally.wants_memory() {
+        return Err(AllocError);
+    }
     Ok(ControlFlow::Continue(position))
 }
 
@@ -333,16 +371,17 @@ fn step<O: SeqObject, M: Memo<O>, S: Stop>(
     path: &mut Path<'_, O>,
     position: Position,
     memo: &mut M,
-    is_for_problem: bool,
     tally: &mut Tally,
     stop: &mut S,
 ) -> Result<ControlFlow<Outcome, Position>, AllocError>
-    requires of { IsTrue is_for_problem → M.is_of memo.old path.old.entries.problem }
+    requires of { IsTrue tally.old.terms.is_for_problem
+        → M.is_of memo.old path.old.entries.problem }
     requires progress { (root : Configuration O.State) × (limit : Option ℕ)
         × IsProgress (problem_of O.after O.State.eq O.Reply.eq path.old.entries.problem) root limit
         path.old.entries.lifted path.old.frames.items tally.old.left path.old.config
         position.longest position.candidate }
     ensures problem { path.new.entries.problem ≡ path.old.entries.problem }
+    ensures terms { tally.new.terms ≡ tally.old.terms }
     ensures step { IfOk result (λ step. (root : Configuration O.State) (limit : Option ℕ)
         → IsProgress (problem_of O.after O.State.eq O.Reply.eq path.old.entries.problem) root limit
         path.old.entries.lifted path.old.frames.items tally.old.left path.old.config
@@ -368,16 +407,8 @@ fn step<O: SeqObject, M: Memo<O>, S: Stop>(
 {
     let longest = position.longest;
     match position.candidate {
-        Some(call) => try_call(
-            path,
-            call,
-            longest,
-            memo,
-            is_for_problem,
-            &mut tally.left,
-            stop,
-        ),
-        None => go_back(path, longest, memo, is_for_problem, tally),
+        Some(call) => try_call(path, Candidate { call, longest }, memo, tally, stop),
+        None => go_back(path, longest, memo, tally),
     }
 }
 
@@ -386,11 +417,10 @@ fn step<O: SeqObject, M: Memo<O>, S: Stop>(
 fn search_on<O: SeqObject, M: Memo<O>, S: Stop>(
     path: &mut Path<'_, O>,
     memo: &mut M,
-    is_for_problem: bool,
-    limit: Option<u64>,
+    terms: Terms,
     stop: &mut S,
 ) -> Result<Ended, AllocError>
-    requires of { IsTrue is_for_problem → M.is_of memo.old path.old.entries.problem }
+    requires of { IsTrue terms.is_for_problem → M.is_of memo.old path.old.entries.problem }
     requires frames { path.old.frames.items ≡ [] }
     requires reachable { IsReachable
         (problem_of O.after O.State.eq O.Reply.eq path.old.entries.problem) path.old.config.lifted
@@ -403,7 +433,7 @@ fn search_on<O: SeqObject, M: Memo<O>, S: Stop>(
     ensures problem { path.new.entries.problem ≡ path.old.entries.problem }
     ensures answer { IfOk result (λ ended. IsAnswer
         (problem_of O.after O.State.eq O.Reply.eq path.old.entries.problem) path.old.config.lifted
-        path.old.config.state limit (S.tells stop.new) ended.outcome) }
+        path.old.config.state terms.limit (S.tells stop.new) ended.outcome) }
     ensures back { IfOk result (λ ended. IsRefutation ended.outcome
         → path.new.config ≡ path.old.config) }
     ensures holds { IfOk result (λ ended. IsTrue ended.whole → IsRefutation ended.outcome
@@ -416,11 +446,12 @@ fn search_on<O: SeqObject, M: Memo<O>, S: Stop>(
 {
     let mut position = path.enter();
     let mut tally = Tally {
-        left: limit,
+        left: terms.limit,
         whole: true,
+        terms,
     };
     loop {
-        match step(path, position, memo, is_for_problem, &mut tally, stop)? {
+        match step(path, position, memo, &mut tally, stop)? {
             ControlFlow::Continue(next) => position = next,
             ControlFlow::Break(outcome) => {
                 return Ok(Ended {
@@ -494,18 +525,17 @@ fn search_unknown<O: SeqObject, M: Memo<O>, S: Stop>(
     problem: &Problem<O>,
     config: Config<O>,
     memo: &mut M,
-    is_for_problem: bool,
-    limit: Option<u64>,
+    terms: Terms,
     stop: &mut S,
 ) -> Result<Ended, AllocError>
     requires reachable { IsReachable (problem_of O.after O.State.eq O.Reply.eq problem.now)
         config.lifted config.state }
-    requires of { IsTrue is_for_problem → M.is_of memo.old problem.now }
+    requires of { IsTrue terms.is_for_problem → M.is_of memo.old problem.now }
     requires incomplete { HasEveryCompleted (problem_of O.after O.State.eq O.Reply.eq problem.now)
         config.lifted → ⊥ }
     ensures answer { IfOk result (λ ended. IsAnswer
-        (problem_of O.after O.State.eq O.Reply.eq problem.now) config.lifted config.state limit
-        (S.tells stop.new) ended.outcome) }
+        (problem_of O.after O.State.eq O.Reply.eq problem.now) config.lifted config.state
+        terms.limit (S.tells stop.new) ended.outcome) }
     ensures closed { IfOk result (λ ended. IsTrue ended.whole → IsRefutation ended.outcome
         → IsClosed (problem_of O.after O.State.eq O.Reply.eq problem.now) (M.holds memo.old)
         → IsClosed (problem_of O.after O.State.eq O.Reply.eq problem.now) (M.holds memo.new)
@@ -514,29 +544,27 @@ fn search_unknown<O: SeqObject, M: Memo<O>, S: Stop>(
     ensures stop { S.follows stop.old stop.new }
 {
     let mut path = Path::new(alloc, problem, config)?;
-    let ended = search_on(&mut path, memo, is_for_problem, limit, stop)?;
+    let ended = search_on(&mut path, memo, terms, stop)?;
     let config = path.into_config();
-    let is_kept = note_root(problem, config, &ended.outcome, memo, is_for_problem);
+    let is_kept = note_root(problem, config, &ended.outcome, memo, terms.is_for_problem);
     Ok(ended.with_note(is_kept))
 }
 
-// Searches a configuration and what it leads to. `is_for_problem` tells that the memo names the problem, so that
-// it compares nothing.
+// Searches a configuration and what it leads to, on these terms.
 pub(crate) fn search_from<O: SeqObject, M: Memo<O>, S: Stop>(
     alloc: Global,
     problem: &Problem<O>,
     config: Config<O>,
     memo: &mut M,
-    is_for_problem: bool,
-    limit: Option<u64>,
+    terms: Terms,
     stop: &mut S,
 ) -> Result<Ended, AllocError>
     requires reachable { IsReachable (problem_of O.after O.State.eq O.Reply.eq problem.now)
         config.lifted config.state }
-    requires of { IsTrue is_for_problem → M.is_of memo.old problem.now }
+    requires of { IsTrue terms.is_for_problem → M.is_of memo.old problem.now }
     ensures answer { IfOk result (λ ended. IsAnswer
-        (problem_of O.after O.State.eq O.Reply.eq problem.now) config.lifted config.state limit
-        (S.tells stop.new) ended.outcome) }
+        (problem_of O.after O.State.eq O.Reply.eq problem.now) config.lifted config.state
+        terms.limit (S.tells stop.new) ended.outcome) }
     ensures closed { IfOk result (λ ended. IsTrue ended.whole → IsRefutation ended.outcome
         → IsClosed (problem_of O.after O.State.eq O.Reply.eq problem.now) (M.holds memo.old)
         → IsClosed (problem_of O.after O.State.eq O.Reply.eq problem.now) (M.holds memo.new)
@@ -544,13 +572,13 @@ pub(crate) fn search_from<O: SeqObject, M: Memo<O>, S: Stop>(
     ensures memo { M.changes memo.old memo.new }
     ensures stop { S.follows stop.old stop.new }
 {
-    if let Some(outcome) = known_of(alloc, problem, &config, memo, is_for_problem) {
+    if let Some(outcome) = known_of(alloc, problem, &config, memo, terms.is_for_problem) {
         return Ok(Ended {
             outcome,
             whole: true,
         });
     }
-    search_unknown(alloc, problem, config, memo, is_for_problem, limit, stop)
+    search_unknown(alloc, problem, config, memo, terms, stop)
 }
 
 /// The depth-first search from a configuration over a memo (Wing and Gong 1993; Lowe 2017): a complete
@@ -580,8 +608,12 @@ pub fn search<O: SeqObject, M: Memo<O>, S: Stop>(
     ensures stop { S.follows stop.old stop.new }
 {
     lawful::<O>();
-    let is_for_problem = memo.is_for(problem);
+    let terms = Terms {
+        is_for_problem: memo.is_for(problem),
+        limit,
+        needs_all: false,
+    };
     let copy = config.copy(alloc, problem)?;
-    let ended = search_from(alloc, problem, copy, memo, is_for_problem, limit, stop)?;
+    let ended = search_from(alloc, problem, copy, memo, terms, stop)?;
     Ok(ended.outcome)
 }

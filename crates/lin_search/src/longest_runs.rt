@@ -11,7 +11,7 @@ ghost use Rattle.lin_search.specs.NextCall.{IsNext};
 ghost use Rattle.lin_search.specs.LongestRun.{IsFirstLongest};
 
 use crate::config::Config;
-use crate::depth_first::{look_at, search_from};
+use crate::depth_first::{Terms, look_at, search_from};
 use crate::longest::Longest;
 use crate::memo::Memo;
 use crate::outcome::Outcome;
@@ -44,15 +44,12 @@ fn longest_of<O: SeqObject, M: Memo<O>>(
         return Ok(longest);
     }
     let copy = config.copy(alloc, problem)?;
-    let ended = search_from(
-        alloc,
-        problem,
-        copy,
-        memo,
+    let terms = Terms {
         is_for_problem,
-        None,
-        &mut NoStop,
-    )?;
+        limit: None,
+        needs_all: false,
+    };
+    let ended = search_from(alloc, problem, copy, memo, terms, &mut NoStop)?;
     match ended.outcome {
         Outcome::Refuted(longest) => Ok(longest),
         Outcome::Found(_) => unreachable!(),

@@ -8,7 +8,7 @@ ghost use Rattle.lin_search.specs.Memo.{IsClosed};
 ghost use Rattle.lin_search.specs.Store.{configurations, Holds, IsGrown};
 
 use crate::config::Config;
-use crate::depth_first::search_from;
+use crate::depth_first::{Terms, search_from};
 use crate::outcome::Outcome;
 use crate::own_memo::OwnMemo;
 use crate::stop::NoStop;
@@ -35,7 +35,12 @@ fn search_root<'p, O: SeqObject>(
 {
     lawful::<O>();
     let root = Config::root(alloc, problem)?;
-    let ended = search_from(alloc, problem, root, memo, true, None, &mut NoStop)?;
+    let terms = Terms {
+        is_for_problem: true,
+        limit: None,
+        needs_all: true,
+    };
+    let ended = search_from(alloc, problem, root, memo, terms, &mut NoStop)?;
     if !ended.whole {
         return Err(AllocError);
     }

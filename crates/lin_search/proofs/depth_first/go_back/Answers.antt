@@ -26,7 +26,7 @@ retreat-requires-clause-room g c = rw c.pop.ensures.entries (pop_room _ _ _ _ _ 
 
 pub note_at-noted-requires-clause-refuted : goal.note_at-noted-requires-clause-refuted
 note_at-noted-requires-clause-refuted g c =
-    rw (c.problem.ensures, c.retreat.ensures.problem, c.pop.ensures.entries, c.in_ok-refuted.ensures.left, c.pop.ensures.config) (refuted_here _ _ _ _ _ _ _ c.requires.progress.2)
+    rw (c.problem-problem.ensures, c.retreat.ensures.problem, c.pop.ensures.entries, c.in_ok-refuted.ensures.left, c.pop.ensures.config) (refuted_here _ _ _ _ _ _ _ c.requires.progress.2)
 
 pub returns-clause-step : goal.returns-clause-step
 returns-clause-step g c =
@@ -37,7 +37,7 @@ returns-clause-step g c =
 pub returns-clause-holds : goal.returns-clause-holds
 returns-clause-holds g c =
     λ w root limit k h.
-    let noted = (rw (c.problem.ensures, c.retreat.ensures.problem, c.pop.ensures.entries, c.in_ok-refuted.ensures.left, c.pop.ensures.config) at (c.note_at-noted.ensures.holds ((c.add.ensures.whole w).1))) root.lifted _ h in
+    let noted = (rw (c.problem-problem.ensures, c.retreat.ensures.problem, c.pop.ensures.entries, c.in_ok-refuted.ensures.left, c.pop.ensures.config) at (c.note_at-noted.ensures.holds ((c.add.ensures.whole w).1))) root.lifted _ h in
     let set = pop_set root limit _ _ _ c.in-Some.frame _ _ _ c.in-Some.ensures.some k _ _ (rw c.pop.ensures.entries at c.in_ok-refuted.ensures.last) (rw c.pop.ensures.entries at c.in_ok-refuted.ensures.lifted) in
     rw c.retreat.ensures.frames
     (holds_pop (g.M.Memo.holds c.note_at-noted.new.memo) root limit _ _ _ c.in-Some.frame _ _ _ _ _ c.in-Some.ensures.some set (sym c.in_ok-refuted.ensures.state) k noted.1 (rw c.pop.ensures.entries at c.in_ok-refuted.ensures.candidate) noted.0)

@@ -5,7 +5,7 @@ use Rattle.lin_search.proofs.depth_first.search_from.Goals as goal
 
 pub returns-in-Some-clause-answer : goal.returns-in-Some-clause-answer
 returns-in-Some-clause-answer g c =
-    answer_decided (problem_of g.O.SeqObject.after g.O.State.PartialEq.eq g.O.Reply.PartialEq.eq c.args.problem.now) c.args.config.lifted c.args.config.state c.args.limit _ c.in-Some.outcome c.in-Some.ensures.answer
+    answer_decided (problem_of g.O.SeqObject.after g.O.State.PartialEq.eq g.O.Reply.PartialEq.eq c.args.problem.now) c.args.config.lifted c.args.config.state c.args.terms.limit _ c.in-Some.outcome c.in-Some.ensures.answer
 
 pub returns-in-Some-clause-closed : goal.returns-in-Some-clause-closed
 returns-in-Some-clause-closed g c =

@@ -3,7 +3,10 @@ use Rattle.lin_search.proofs.PathLemmas.{progress_start, holds_start}
 use Rattle.lin_search.proofs.depth_first.search_on.Goals as goal
 
 pub step-requires-clause-of : goal.step-requires-clause-of
-step-requires-clause-of g c = λ h. rw c.loop-next.invariant.problem (g.met.M.Memo.keeps_problem _ _ c.loop-next.invariant.memo _ (c.requires.of h))
+step-requires-clause-of g c =
+    λ h.
+    let here = rw c.loop-next.invariant.terms at h in
+    rw c.loop-next.invariant.problem (g.met.M.Memo.keeps_problem _ _ c.loop-next.invariant.memo _ (c.requires.of here))
 
 pub loop-next-init : goal.loop-next-init
 loop-next-init g c = record {
@@ -12,31 +15,33 @@ loop-next-init g c = record {
   memo = g.met.M.Memo.unchanged _;
   holds = λ w closed. rw c.requires.frames (holds_start _ _ _ c.enter-position.ensures.candidate closed);
   stop = g.met.S.Stop.unchanged _;
+  terms = refl;
 }
 
 pub loop-next-smaller : goal.loop-next-smaller
-loop-next-smaller g c = rw c.step.ensures.problem (((rw c.in-Continue.is at c.in_ok-next.ensures.step) c.args.path.now.config c.args.limit c.loop-next.invariant.progress).1)
+loop-next-smaller g c = rw c.step.ensures.problem (((rw c.in-Continue.is at c.in_ok-next.ensures.step) c.args.path.now.config c.args.terms.limit c.loop-next.invariant.progress).1)
 
 pub loop-next-preserved : goal.loop-next-preserved
 loop-next-preserved g c = record {
   problem = c.step.ensures.problem ∙ c.loop-next.invariant.problem;
-  progress = rw c.step.ensures.problem (((rw c.in-Continue.is at c.in_ok-next.ensures.step) c.args.path.now.config c.args.limit c.loop-next.invariant.progress).0);
+  progress = rw c.step.ensures.problem (((rw c.in-Continue.is at c.in_ok-next.ensures.step) c.args.path.now.config c.args.terms.limit c.loop-next.invariant.progress).0);
   memo = g.met.M.Memo.chained _ _ _ c.loop-next.invariant.memo c.step.ensures.changes;
   holds = λ w closed.
-      rw c.step.ensures.problem ((rw c.in-Continue.is at c.in_ok-next.ensures.holds) w c.args.path.now.config c.args.limit c.loop-next.invariant.progress (c.loop-next.invariant.holds (c.step.ensures.whole w) closed));
+      rw c.step.ensures.problem ((rw c.in-Continue.is at c.in_ok-next.ensures.holds) w c.args.path.now.config c.args.terms.limit c.loop-next.invariant.progress (c.loop-next.invariant.holds (c.step.ensures.whole w) closed));
   stop = g.met.S.Stop.chained _ _ _ c.loop-next.invariant.stop c.step.ensures.stop;
+  terms = c.step.ensures.terms ∙ c.loop-next.invariant.terms;
 }
 
 pub returns-in-Break-clause-answer : goal.returns-in-Break-clause-answer
-returns-in-Break-clause-answer g c = rw c.loop-next.invariant.problem at ((rw c.in-Break.is at c.in_ok-next.ensures.step) c.args.path.now.config c.args.limit c.loop-next.invariant.progress).0
+returns-in-Break-clause-answer g c = rw c.loop-next.invariant.problem at ((rw c.in-Break.is at c.in_ok-next.ensures.step) c.args.path.now.config c.args.terms.limit c.loop-next.invariant.progress).0
 
 pub returns-in-Break-clause-back : goal.returns-in-Break-clause-back
-returns-in-Break-clause-back g c = ((rw c.in-Break.is at c.in_ok-next.ensures.step) c.args.path.now.config c.args.limit c.loop-next.invariant.progress).1
+returns-in-Break-clause-back g c = ((rw c.in-Break.is at c.in_ok-next.ensures.step) c.args.path.now.config c.args.terms.limit c.loop-next.invariant.progress).1
 
 pub returns-in-Break-clause-holds : goal.returns-in-Break-clause-holds
 returns-in-Break-clause-holds g c =
     λ w refutation closed.
-    rw c.loop-next.invariant.problem at ((rw c.in-Break.is at c.in_ok-next.ensures.holds) w c.args.path.now.config c.args.limit c.loop-next.invariant.progress (c.loop-next.invariant.holds (c.step.ensures.whole w) closed) refutation)
+    rw c.loop-next.invariant.problem at ((rw c.in-Break.is at c.in_ok-next.ensures.holds) w c.args.path.now.config c.args.terms.limit c.loop-next.invariant.progress (c.loop-next.invariant.holds (c.step.ensures.whole w) closed) refutation)
 
 pub returns-in-Break-clause-memo : goal.returns-in-Break-clause-memo
 returns-in-Break-clause-memo g c = g.met.M.Memo.chained _ _ _ c.loop-next.invariant.memo c.step.ensures.changes

@@ -26,15 +26,15 @@ returns-in-Some-refusal-clause-holds g c = λ root limit k h refutation. absurd 
 
 pub visit-requires-clause-progress : goal.visit-requires-clause-progress
 visit-requires-clause-progress g c =
-    (c.requires.progress.0, c.requires.progress.1, c.args.left.now, rw c.new.ensures c.requires.progress.2)
+    (c.requires.progress.0, c.requires.progress.1, c.args.tally.now.left, rw c.new-next.ensures c.requires.progress.2)
 
 pub returns-clause-step : goal.returns-clause-step
 returns-clause-step g c =
     ok_map _ _ c.visit.result
     (λ step k root limit progress.
-    step_tells (problem_of g.O.SeqObject.after g.O.State.PartialEq.eq g.O.Reply.PartialEq.eq c.args.path.now.entries.problem) root limit _ _ _ _ _ _ step (k root limit c.args.left.now _ c.in_default-refusal.ensures.taken progress))
-    (rw c.new.ensures at c.visit.ensures.step)
+    step_tells (problem_of g.O.SeqObject.after g.O.State.PartialEq.eq g.O.Reply.PartialEq.eq c.args.path.now.entries.problem) root limit _ _ _ _ _ _ step (k root limit c.args.tally.now.left _ c.in_default-refusal.ensures.taken progress))
+    (rw c.new-next.ensures at c.visit.ensures.step)
 
 pub returns-clause-holds : goal.returns-clause-holds
 returns-clause-holds g c =
-    ok_map _ _ c.visit.result (λ step k root limit progress h. k root limit c.args.left.now progress h) (rw c.new.ensures at c.visit.ensures.holds)
+    ok_map _ _ c.visit.result (λ step k root limit progress h. k root limit c.args.tally.now.left progress h) (rw c.new-next.ensures at c.visit.ensures.holds)
