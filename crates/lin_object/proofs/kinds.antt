@@ -1,4 +1,5 @@
 mod CounterLemmas
+mod MapFacts
 mod MapLemmas
 mod MutexLemmas
 mod QueueLemmas
