@@ -347,9 +347,9 @@ impl State {
     fn hash(&self, hash: u64) -> u64 {
         if self.kind == Kind::Map {
             let start = fold(hash, self.pairs.len() as u64);
-            self.pairs
-                .iter()
-                .fold(start, |hash, (key, value)| fold(fold(hash, *key as u64), *value as u64))
+            self.pairs.iter().fold(start, |hash, (key, value)| {
+                fold(fold(hash, *key as u64), *value as u64)
+            })
         } else if self.has_items() {
             let start = fold(hash, self.items().len() as u64);
             self.items()
@@ -364,7 +364,11 @@ impl State {
     fn write(&self, words: &mut Vec<u64>) {
         if self.kind == Kind::Map {
             words.push(self.pairs.len() as u64);
-            words.extend(self.pairs.iter().flat_map(|(key, value)| [*key as u64, *value as u64]));
+            words.extend(
+                self.pairs
+                    .iter()
+                    .flat_map(|(key, value)| [*key as u64, *value as u64]),
+            );
         } else if self.has_items() {
             words.push(self.items().len() as u64);
             words.extend(self.items().iter().map(|item| *item as u64));
