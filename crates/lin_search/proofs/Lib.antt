@@ -11,3 +11,4 @@ pub mod LiftedSetLemmas
 pub mod WeightLemmas
 pub mod WindowLemmas
 pub mod CallSetFieldsLemmas
+pub mod ScoutingLemmas

@@ -23,3 +23,4 @@ pub mod ReachableLemmas
 pub mod CountLemmas
 pub mod Path
 pub mod Progress
+pub mod Scouting

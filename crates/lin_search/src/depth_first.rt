@@ -70,7 +70,7 @@ pub(crate) fn look_at<O: SeqObject, M: Memo<O>>(
 }
 
 // Hands the memo a refuted configuration; `is_for_problem` tells that it names the problem.
-fn note_at<O: SeqObject, M: Memo<O>>(
+pub(crate) fn note_at<O: SeqObject, M: Memo<O>>(
     problem: &Problem<O>,
     config: Config<O>,
     longest: Longest,
@@ -464,7 +464,7 @@ fn search_on<O: SeqObject, M: Memo<O>, S: Stop>(
 }
 
 // What is known of a configuration before a call is tried: it is complete, or the memo has it.
-fn known_of<O: SeqObject, M: Memo<O>>(
+pub(crate) fn known_of<O: SeqObject, M: Memo<O>>(
     alloc: Global,
     problem: &Problem<O>,
     config: &Config<O>,

@@ -17,6 +17,7 @@ mod own_search;
 mod path;
 mod plain;
 mod refutation;
+mod scouting;
 mod stop;
 
 pub use call_set::CallSet;
@@ -31,4 +32,5 @@ pub use own_memo::OwnMemo;
 pub use own_search::{search_alone, search_over};
 pub use plain::search_plain;
 pub use refutation::Refutation;
+pub use scouting::{Scouting, scout};
 pub use stop::{NoStop, Stop};

@@ -51,6 +51,13 @@ impl<O: SeqObject> Frame<O> {
         self.call
     }
 
+    // What the calls before it tell.
+    pub(crate) fn longest(&self) -> Longest
+        ensures { result ≡ self.now.longest }
+    {
+        self.longest
+    }
+
     // What the continuations up to the call tell, where it led to a configuration that is refuted with this longest.
     fn longest_with(&self, deep: Longest) -> Longest
         requires call { self.now.call < MAX_CALLS_ON_OBJECT }
@@ -63,7 +70,7 @@ impl<O: SeqObject> Frame<O> {
     }
 
     // The state.
-    fn into_state(self) -> O::State
+    pub(crate) fn into_state(self) -> O::State
         ensures { result ≡ self.state }
     {
         self.state
@@ -161,7 +168,14 @@ impl<'p, O: SeqObject> Path<'p, O> {
         &self.config
     }
 
-    // The same, when the search is over.
+    // The entries of the problem that are left.
+    pub(crate) fn entries(&self) -> &Entries<'p, O>
+        ensures { result.now ≡ self.now.entries }
+    {
+        &self.entries
+    }
+
+    // The configuration, when the search is over.
     pub(crate) fn into_config(self) -> Config<O>
         ensures { result ≡ self.entry.config }
     {
@@ -252,7 +266,7 @@ impl<'p, O: SeqObject> Path<'p, O> {
 
     // Takes the frame's call, which was lifted last, back, and puts the frame's state in again. The state that the call
     // led to comes into the frame.
-    fn unlift(&mut self, frame: &mut Frame<O>) -> Result<(), AllocError>
+    pub(crate) fn unlift(&mut self, frame: &mut Frame<O>) -> Result<(), AllocError>
         requires lifted { lifted_set (problem_of O.after O.State.eq O.Reply.eq
             self.old.entries.problem) self.old.entries.lifted ≡ self.old.config.lifted }
         requires last { (before : List ℕ)

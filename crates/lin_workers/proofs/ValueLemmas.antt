@@ -139,3 +139,13 @@ brought_ended p ts limit start s c vs answer none claim brought =
       once = brought.once;
       found = found_is ∙ brought.found;
     }
+
+-- the values stand when the seat is told more
+pub values_heard : {State Op Reply : Type 0} (p : Problem State Op Reply) (ts : List (Task State)) (limit : Option ℕ) (a b : SeatFacts) (vs : List (ℕ × Outcome)) → HasHeard a b → AreValues p ts limit a vs → AreValues p ts limit b vs
+values_heard p ts limit a b vs h k =
+    values_later p ts limit a b vs
+    (record {
+      claimed = λ x c. rw h.claimed c;
+      told = λ x c. rw h.more.1 (Contains-append_left a.told h.more.0 x c);
+    })
+    k

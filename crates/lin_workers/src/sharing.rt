@@ -11,6 +11,7 @@ ghost use Rattle.lin_workers.specs.Values.{AreValues};
 use crate::gate::Gate;
 use crate::gathering::{gather, no_outcomes};
 use crate::options::MAX_WORKERS;
+use crate::scouting::{help, scouting_of};
 use crate::task::Task;
 use crate::worker::{Done, claim_all};
 use lin_board::{Board, Seat};
@@ -55,7 +56,8 @@ fn employ<O: SeqObject>(
     }
 }
 
-// Lets each worker work, in a thread of its own where one can be had.
+// Lets each worker work, in a thread of its own where one can be had. Those after
+// the first scout, and help the others in the end.
 fn work_all<O: SharedObject, R: Threads + Sync, G: Gate>(
     rt: &R,
     alloc: Global,
@@ -78,11 +80,12 @@ fn work_all<O: SharedObject, R: Threads + Sync, G: Gate>(
         worker.values.items) workers.new }
     ensures count { length workers.new ≡ length workers.old }
 {
+    let count = workers.len();
     thread::for_each_mut(
         rt,
         workers,
         MAX_WORKERS as usize,
-        &|_, worker: &mut Done<O>|
+        &|number, worker: &mut Done<O>|
             requires { ((k : ℕ) × IsCut (problem_of O.after O.State.eq O.Reply.eq problem.now) k
                 tasks.now) × (board.now.tasks ≡ length tasks.now)
                 × IsHandOf table.now worker.now.hand × IsSeatOf board.now worker.now.seat
@@ -91,6 +94,7 @@ fn work_all<O: SharedObject, R: Threads + Sync, G: Gate>(
                 (problem_of O.after O.State.eq O.Reply.eq problem.entry.now) tasks.entry.now limit
                 worker.exit.now.seat worker.exit.now.values.items }
         {
+            let scouting = scouting_of(number, count);
             claim_all(
                 alloc,
                 problem,
@@ -101,8 +105,21 @@ fn work_all<O: SharedObject, R: Threads + Sync, G: Gate>(
                 &mut worker.seat,
                 &mut worker.values,
                 gate,
+                scouting,
                 limit,
             );
+            if let Some(scouting) = scouting {
+                help(
+                    alloc,
+                    problem,
+                    tasks,
+                    scouting,
+                    table,
+                    &mut worker.hand,
+                    board,
+                    &mut worker.seat,
+                );
+            }
         },
     );
 }

@@ -11,12 +11,13 @@ ghost use Rattle.lin_workers.specs.Heard.{HasFound, HasHeard, IsTold};
 ghost use Rattle.lin_workers.specs.Values.{HasBrought, found_of};
 
 use crate::gate::Gate;
+use crate::scouting::search_scouted;
 use crate::stop::FoundBefore;
 use crate::task::Task;
 use lin_board::{Board, Seat};
 use lin_history::Problem;
 use lin_object::SeqObject;
-use lin_search::{Outcome, search};
+use lin_search::{Outcome, Scouting};
 use lin_table::{Hand, SharedMemo, Table};
 use std::alloc::Global;
 
@@ -31,7 +32,8 @@ pub struct Done<O: SeqObject> {
     pub seat: Seat,
 }
 
-// Searches the configuration of the task of this number over the table. `None` where memory was refused.
+// Searches the configuration of the task of this number over the table, after scouting where it is told how. `None` where
+// memory was refused.
 fn search_task<O: SeqObject>(
     alloc: Global,
     problem: &Problem<O>,
@@ -41,6 +43,7 @@ fn search_task<O: SeqObject>(
     hand: &mut Hand<O>,
     board: &Board,
     seat: &mut Seat,
+    scouting: Option<Scouting>,
     limit: Option<u64>,
 ) -> Option<Outcome>
     requires reachable { IsReachable (problem_of O.after O.State.eq O.Reply.eq problem.now)
@@ -55,7 +58,16 @@ fn search_task<O: SeqObject>(
 {
     let mut memo = SharedMemo::new(table, hand);
     let mut stop = FoundBefore::new(board, seat, number);
-    search(alloc, problem, &task.config, &mut memo, limit, &mut stop).ok()
+    search_scouted(
+        alloc,
+        problem,
+        &task.config,
+        scouting,
+        &mut memo,
+        limit,
+        &mut stop,
+    )
+    .ok()
 }
 
 // Keeps the value of the task where there is memory for it, and tells the board where it is a completion.
@@ -78,7 +90,8 @@ fn keep(
     }
 }
 
-// Claims tasks and searches each over the table, until all are claimed; the values are put to these.
+// Claims tasks and searches each over the table, after scouting where it is told how, until all are claimed; the values are
+// put to these.
 pub(crate) fn claim_all<O: SeqObject, G: Gate>(
     alloc: Global,
     problem: &Problem<O>,
@@ -89,6 +102,7 @@ pub(crate) fn claim_all<O: SeqObject, G: Gate>(
     seat: &mut Seat,
     values: &mut Vec<(u64, Outcome)>,
     gate: &G,
+    scouting: Option<Scouting>,
     limit: Option<u64>,
 )
     requires cut { (k : ℕ) × IsCut (problem_of O.after O.State.eq O.Reply.eq problem.now) k
@@ -107,7 +121,7 @@ pub(crate) fn claim_all<O: SeqObject, G: Gate>(
         gate.enter(number);
         let task = &tasks[number as usize];
         let searched = search_task(
-            alloc, problem, task, number, table, hand, board, seat, limit,
+            alloc, problem, task, number, table, hand, board, seat, scouting, limit,
         );
         if let Some(outcome) = searched {
             keep(board, seat, values, number, outcome);
@@ -159,6 +173,7 @@ pub fn work<O: SeqObject, G: Gate>(
         &mut done.seat,
         &mut done.values,
         gate,
+        None,
         limit,
     );
     done

@@ -1,0 +1,164 @@
+//! A worker scouts before it searches a task, in an order of its own, so that workers do not all walk the same way.
+ghost use Rattle.std.specs.Prelude.{ℕ, ◌<◌, ◌≤◌, IfOk, List, Option};
+ghost use Rattle.lin_history.specs.Problems.Problem.{problem_of};
+ghost use Rattle.lin_history.specs.Problems.Configurations.{IsReachable};
+ghost use Rattle.lin_search.specs.Answer.{IsAnswer};
+ghost use Rattle.lin_search.specs.declared.outcome.Outcome.{Outcome as OutcomeOf};
+ghost use Rattle.lin_board.specs.Board.{IsSeatOf};
+ghost use Rattle.lin_table.specs.Hand.{IsHandOf};
+ghost use Rattle.lin_workers.specs.Cut.{IsCut};
+ghost use Rattle.lin_workers.specs.Heard.{HasHeard};
+ghost use Rattle.lin_workers.specs.Values.{AreValues};
+
+use crate::stop::FoundBefore;
+use crate::task::Task;
+use lin_board::{Board, Seat};
+use lin_history::Problem;
+use lin_object::SeqObject;
+use lin_search::{Config, Memo, Outcome, Scouting, Stop, scout, search};
+use lin_table::{Hand, SharedMemo, Table};
+use std::alloc::{AllocError, Global};
+
+// How many steps a worker scouts before it searches a task.
+const SCOUTING_STEPS: u64 = 4_000_000;
+
+// How many levels it takes until so many workers have each gone a way of their own.
+fn levels_of(workers: usize) -> u32
+    ensures { 1 ≤ result }
+{
+    match workers {
+        0..=2 => 1,
+        3..=4 => 2,
+        5..=8 => 3,
+        9..=16 => 4,
+        17..=32 => 5,
+        _ => 6,
+    }
+}
+
+// In which direction the worker of this number tries the calls, for each of 64 levels: upwards, or for a 1 downwards. The
+// digits of the number tell it, level by level and then from the first again. So no two go the same way, and the first
+// goes upwards throughout.
+fn directions_of(worker: usize, workers: usize) -> u64 {
+    let levels = levels_of(workers);
+    let number = worker as u64;
+    let mut directions = 0;
+    for level in 0..64_u32 {
+        directions |= ((number >> (level % levels)) & 1) << level;
+    }
+    directions
+}
+
+// How the worker of this number among so many scouts. The first does not: it searches in the natural order at once.
+pub(crate) fn scouting_of(worker: usize, workers: usize) -> Option<Scouting> {
+    if worker == 0 {
+        return None;
+    }
+    Some(Scouting {
+        directions: directions_of(worker, workers),
+        steps: SCOUTING_STEPS,
+    })
+}
+
+// Scouts from the configuration, where it is told how, and then searches it. What is refuted on the way is in the memo.
+pub(crate) fn search_scouted<O: SeqObject, M: Memo<O>, S: Stop>(
+    alloc: Global,
+    problem: &Problem<O>,
+    config: &Config<O>,
+    scouting: Option<Scouting>,
+    memo: &mut M,
+    limit: Option<u64>,
+    stop: &mut S,
+) -> Result<Outcome, AllocError>
+    requires { IsReachable (problem_of O.after O.State.eq O.Reply.eq problem.now) config.now.lifted
+        config.now.state }
+    ensures answer { IfOk result (IsAnswer (problem_of O.after O.State.eq O.Reply.eq problem.now)
+        config.now.lifted config.now.state limit (S.tells stop.new)) }
+    ensures memo { M.changes memo.old memo.new }
+    ensures stop { S.follows stop.old stop.new }
+{
+    scout_where_told(alloc, problem, config, scouting, memo, stop);
+    search(alloc, problem, config, memo, limit, stop)
+}
+
+// Scouts from the configuration, where it is told how. Want of memory only ends it.
+fn scout_where_told<O: SeqObject, M: Memo<O>, S: Stop>(
+    alloc: Global,
+    problem: &Problem<O>,
+    config: &Config<O>,
+    scouting: Option<Scouting>,
+    memo: &mut M,
+    stop: &mut S,
+)
+    requires { IsReachable (problem_of O.after O.State.eq O.Reply.eq problem.now) config.now.lifted
+        config.now.state }
+    ensures memo { M.changes memo.old memo.new }
+    ensures stop { S.follows stop.old stop.new }
+{
+    if let Some(scouting) = scouting {
+        let _ended = scout(alloc, problem, config, scouting, memo, stop);
+    }
+}
+
+// Scouts from the task of this number, over the table. It ends where this task or a smaller one was found.
+fn help_with<O: SeqObject>(
+    alloc: Global,
+    problem: &Problem<O>,
+    task: &Task<O>,
+    number: usize,
+    scouting: Scouting,
+    table: &Table<'_, O>,
+    hand: &mut Hand<O>,
+    board: &Board,
+    seat: &mut Seat,
+)
+    requires reachable { IsReachable (problem_of O.after O.State.eq O.Reply.eq problem.now)
+        task.now.config.lifted task.now.config.state }
+    requires number { number < 18446744073709551615 }
+    requires hand { IsHandOf table.now hand.old }
+    requires seat { IsSeatOf board.now seat.old }
+    ensures hand { IsHandOf table.now hand.new }
+    ensures seat { HasHeard seat.old seat.new }
+{
+    let mut memo = SharedMemo::new(table, hand);
+    let mut stop = FoundBefore::new(board, seat, number as u64 + 1);
+    let _ended = scout(alloc, problem, &task.config, scouting, &mut memo, &mut stop);
+}
+
+// Scouts from each task once more, when all are claimed: so a worker without a task helps the others at theirs. From a task
+// that is refuted by then it goes on to the next at once. What its seat has brought stays as it is.
+pub(crate) fn help<O: SeqObject>(
+    alloc: Global,
+    problem: &Problem<O>,
+    tasks: &[Task<O>],
+    scouting: Scouting,
+    table: &Table<'_, O>,
+    hand: &mut Hand<O>,
+    board: &Board,
+    seat: &mut Seat,
+)
+    requires cut { (k : ℕ) × IsCut (problem_of O.after O.State.eq O.Reply.eq problem.now) k
+        tasks.now }
+    requires hand { IsHandOf table.now hand.old }
+    requires seat { IsSeatOf board.now seat.old }
+    ensures hand { IsHandOf table.now hand.new }
+    ensures values { (limit : Option ℕ) (values : List (ℕ × OutcomeOf))
+        → AreValues (problem_of O.after O.State.eq O.Reply.eq problem.now) tasks.now limit seat.old
+        values
+        → AreValues (problem_of O.after O.State.eq O.Reply.eq problem.now) tasks.now limit seat.new
+        values }
+{
+    for number in 0..tasks.len() {
+        help_with(
+            alloc,
+            problem,
+            &tasks[number],
+            number,
+            scouting,
+            table,
+            hand,
+            board,
+            seat,
+        );
+    }
+}
