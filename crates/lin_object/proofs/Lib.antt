@@ -1,3 +1,4 @@
 mod AnswerLemmas
 mod BoolLemmas
 mod NumberLemmas
+mod PlaceLemmas
