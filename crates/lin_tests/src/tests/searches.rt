@@ -7,8 +7,8 @@ use super::random::random_history;
 use lin_history::{History, Order, Placed, Problem, WholeOrder, verify};
 use lin_object::{AnyObject, Kind, ObjState, Op, Reply, SeqObject, start_state};
 use lin_search::{
-    Config, Entries, Longest, Memo, NoStop, Noted, Outcome, OwnMemo, Refutation, Stop, search,
-    search_alone, search_plain,
+    Config, Entries, Longest, Memo, NoStop, Noted, Outcome, OwnMemo, Refutation, Scouting, Stop,
+    scout, search, search_alone, search_plain,
 };
 use std::alloc::{AllocError, Global};
 
@@ -207,6 +207,42 @@ fn serves_the_next(
 // Whether that is so in a new memo.
 fn is_taken_up(alloc: Global, problem: &Part) -> Result<bool, AllocError> {
     serves_the_next(alloc, problem, &mut OwnMemo::new(alloc, problem))
+}
+
+// Whether a scout that goes in these directions stores all below the root in this memo, and a search finds it there.
+fn serves_a_search(
+    alloc: Global,
+    problem: &Part,
+    memo: &mut OwnMemo<'_, AnyObject>,
+    directions: u64,
+) -> Result<bool, AllocError> {
+    let root = Config::root(alloc, problem)?;
+    let scouting = Scouting {
+        directions,
+        steps: 100,
+    };
+    scout(alloc, problem, &root, scouting, memo, &mut NoStop)?;
+    let below = memo.count();
+    let refuted = Outcome::Refuted(THREE_MORE);
+    let agrees = answers(alloc, problem, memo, Some(3), &mut NoStop, &refuted)?;
+    Ok(below == 12 && agrees && memo.count() == 13)
+}
+
+// Whether that is so in a new memo.
+fn is_scouted(alloc: Global, problem: &Part, directions: u64) -> bool {
+    let mut memo = OwnMemo::new(alloc, problem);
+    matches!(
+        serves_a_search(alloc, problem, &mut memo, directions),
+        Ok(true)
+    )
+}
+
+#[test]
+fn a_scout_refutes_in_any_direction(rt: HostRuntime) {
+    let problem = posed_by(rt.alloc(), Kind::Register, &READ_OF_NO_WRITTEN_VALUE);
+    assert!(rt; is_scouted(rt.alloc(), &problem, 0));
+    assert!(rt; is_scouted(rt.alloc(), &problem, u64::MAX));
+    assert!(rt; is_scouted(rt.alloc(), &problem, 1) && is_scouted(rt.alloc(), &problem, 2));
 }
 
 #[test]
