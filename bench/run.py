@@ -1,7 +1,7 @@
 #!/usr/bin/env python3
 """Times `lincheck` beside `bench/search.rs`, a fast search without a proof that gives the same answers.
 
-    bench/run.py [--only FAMILY].. [--quick] [--runs N] [--cpu] [--timeout SECONDS] [--bin PATH]
+    bench/run.py [--only FAMILY].. [--quick] [--runs N] [--cpu] [--timeout SECONDS] [--bin PATH] [--workers N [--shards N]]
 
 Needs the built program (`bin/lincheck` builds it), or the one at PATH, and `rustc`. Prints one table for each family of
 `bench/histories.py` (those whose name begins with FAMILY), one line for each size (with --quick the smaller half), and
@@ -17,7 +17,11 @@ one of all families at their last size:
                  where it is too little to tell
   growth         lifts and seconds of each, by those of the size before
 
-Both programs' answers are compared. A run that takes longer than the timeout is ended, and its numbers are left out.
+Both programs' answers are compared; `lincheck` runs with one worker. A run that takes longer than the timeout is ended,
+and its numbers are left out.
+
+With --workers N `lincheck` with N workers is timed beside `lincheck` with one, in turn, at the last size of each family:
+the least seconds by the clock and the least processor seconds of each, and how many times the first's the second's are.
 """
 import argparse
 import os
@@ -44,6 +48,7 @@ MANY = 10_000  # configurations: with fewer, what else the search holds counts
 
 class Run(NamedTuple):
     seconds: float
+    processor: float  # seconds
     searching: float | None  # seconds, where the program tells them
     peak: float  # bytes
     status: int
@@ -54,7 +59,7 @@ class Run(NamedTuple):
 def run_once(program, text, options):
     """One run on the text; None where it took too long."""
     with open(text, "rb") as source, tempfile.TemporaryFile() as out, tempfile.TemporaryFile() as err:
-        command = [*MEASURING, program]
+        command = [*MEASURING, *program]
         started = time.perf_counter()
         child = subprocess.Popen(command, stdin=source, stdout=out, stderr=err, start_new_session=True)
         late = threading.Timer(options.timeout, os.killpg, (child.pid, signal.SIGKILL))
@@ -71,9 +76,10 @@ def run_once(program, text, options):
         told = {line[0]: float(line[1]) for line in words if len(line) == 2}
         peak = 1024 * told.get("peak", used.ru_maxrss)
         answer = [out.readline(), out.readline()]
+        processor = used.ru_utime + used.ru_stime
         if options.cpu:
-            return Run(used.ru_utime + used.ru_stime, None, peak, child.returncode, answer, told)
-        return Run(seconds, told.get("search"), peak, child.returncode, answer, told)
+            return Run(processor, processor, None, peak, child.returncode, answer, told)
+        return Run(seconds, processor, told.get("search"), peak, child.returncode, answer, told)
 
 
 def run(program, text, options):
@@ -151,8 +157,37 @@ def measure(family, size, programs, room, options):
     return took[0], took[1], plain.told
 
 
+def least(runs):
+    """The least seconds and processor seconds of these runs; None where one took too long."""
+    if None in runs:
+        return None
+    return min(one.seconds for one in runs), min(one.processor for one in runs)
+
+
+def measure_workers(family, room, options):
+    """What one worker and what several took for the family's last size: the least of the runs of both in turn."""
+    text = room / "text"
+    with open(text, "w") as whole:
+        whole.writelines(family.history(family.sizes[-1]))
+    shards = ["--shards", str(options.shards)]
+    programs = [[options.bin, "--workers", str(number), *shards] for number in (1, options.workers)]
+    runs = [[run_once(program, text, options) for program in programs] for _ in range(options.runs)]
+    for one in filter(None, sum(runs, [])):
+        assert one.status == family.status, (family, one)
+        assert one.answer == (runs[0][0] or one).answer, (runs[0][0].answer, one.answer)
+    return [least(column) for column in zip(*runs)]
+
+
+def workers_row(name, one, several):
+    """The cells of a line."""
+    cells = ["-" if took is None else f"{took[0]:.3f} / {took[1]:.3f}" for took in (one, several)]
+    if one is None or several is None:
+        return [name, *cells, "-"]
+    return [name, *cells, f"{several[0] / one[0]:.2f} / {several[1] / one[1]:.2f}"]
+
+
 def tell(title, rows):
-    """Prints a table as Markdown; its first two rows are its head."""
+    """Prints a table as Markdown; its first row, or its first two, are its head."""
     widths = [max(map(len, column)) for column in zip(*rows)]
     print(f"\n{title}\n")
     for cells in [rows[0], ["-" * width for width in widths], *rows[1:]]:
@@ -167,17 +202,27 @@ def main():
     parser.add_argument("--cpu", action="store_true", help="processor time in place of wall time")
     parser.add_argument("--timeout", type=float, default=120)
     parser.add_argument("--bin", type=Path, default=LINCHECK)
+    parser.add_argument("--workers", type=int, help="one worker beside so many")
+    parser.add_argument("--shards", type=int, default=16, help="with --workers: of both")
     options = parser.parse_args()
+    chosen = {
+        name: family
+        for name, family in FAMILIES.items()
+        if not options.only or any(name.startswith(begin) for begin in options.only)
+    }
     with tempfile.TemporaryDirectory() as folder:
         room = Path(folder)
+        if options.workers:
+            rows = [["", "1 worker", f"{options.workers} workers", "times"]]
+            rows += [workers_row(name, *measure_workers(family, room, options)) for name, family in chosen.items()]
+            return tell(f"Seconds by the clock and processor seconds, {options.shards} shards", rows)
         subprocess.run(["rustc", "--edition", "2021", "-O", "-o", room / "search", HERE / "search.rs"], check=True)
         last = [["", *HEAD], ["", *UNDER]]
-        for name, family in FAMILIES.items():
-            if options.only and not any(name.startswith(begin) for begin in options.only):
-                continue
+        for name, family in chosen.items():
             rows, before = [HEAD, UNDER], None
             for size in family.sizes[: (len(family.sizes) + 1) // 2] if options.quick else family.sizes:
-                ours, plain, told = measure(family, size, (options.bin, room / "search"), room, options)
+                programs = [options.bin, "--workers", "1"], [room / "search"]
+                ours, plain, told = measure(family, size, programs, room, options)
                 rows.append(row(size, ours, plain, told, before))
                 before = ours, plain, told.get("lifts", 0)
             tell(f"`{name}`: {family.what}; size: {family.unit}", rows)
