@@ -1,5 +1,5 @@
 //! A worker scouts before it searches a task, in an order of its own, so that workers do not all walk the same way.
-ghost use Rattle.std.specs.Prelude.{ℕ, ◌<◌, ◌≤◌, IfOk, List, Option};
+ghost use Rattle.std.specs.Prelude.{ℕ, ◌<◌, ◌≤◌, IfOk, IfSome, List, Option};
 ghost use Rattle.lin_history.specs.Problems.Problem.{problem_of};
 ghost use Rattle.lin_history.specs.Problems.Configurations.{IsReachable};
 ghost use Rattle.lin_search.specs.Answer.{IsAnswer};
@@ -19,7 +19,7 @@ use lin_search::{Config, Memo, Outcome, Scouting, Stop, scout, search};
 use lin_table::{Hand, SharedMemo, Table};
 use std::alloc::{AllocError, Global};
 
-// How many steps a worker scouts before it searches a task.
+// How many steps a worker scouts at most before it searches a task.
 const SCOUTING_STEPS: u64 = 4_000_000;
 
 // How many levels it takes until so many workers have each gone a way of their own.
@@ -49,14 +49,27 @@ fn directions_of(worker: usize, workers: usize) -> u64 {
     directions
 }
 
-// How the worker of this number among so many scouts. The first does not: it searches in the natural order at once.
-pub(crate) fn scouting_of(worker: usize, workers: usize) -> Option<Scouting> {
+// How many steps a worker scouts, where a search makes so many lifts at most: never more than those.
+fn steps_within(limit: Option<u64>) -> u64
+    ensures { IfSome limit (λ most. result ≤ most) }
+{
+    match limit {
+        None => SCOUTING_STEPS,
+        Some(most) => most.min(SCOUTING_STEPS),
+    }
+}
+
+// How the worker of this number among so many scouts, where a search makes so many lifts at most. The first does not scout:
+// it searches in the natural order at once.
+pub(crate) fn scouting_of(worker: usize, workers: usize, limit: Option<u64>) -> Option<Scouting>
+    ensures { IfSome result (λ scouting. IfSome limit (λ most. scouting.steps ≤ most)) }
+{
     if worker == 0 {
         return None;
     }
     Some(Scouting {
         directions: directions_of(worker, workers),
-        steps: SCOUTING_STEPS,
+        steps: steps_within(limit),
     })
 }
 

@@ -56,8 +56,8 @@ fn employ<O: SeqObject>(
     }
 }
 
-// Lets each worker work, in a thread of its own where one can be had. Those after
-// the first scout, and help the others in the end.
+// Lets each worker work, in a thread of its own where one can be had. All but the first scout, and help the others in the
+// end.
 fn work_all<O: SharedObject, R: Threads + Sync, G: Gate>(
     rt: &R,
     alloc: Global,
@@ -94,7 +94,7 @@ fn work_all<O: SharedObject, R: Threads + Sync, G: Gate>(
                 (problem_of O.after O.State.eq O.Reply.eq problem.entry.now) tasks.entry.now limit
                 worker.exit.now.seat worker.exit.now.values.items }
         {
-            let scouting = scouting_of(number, count);
+            let scouting = scouting_of(number, count, limit);
             claim_all(
                 alloc,
                 problem,
