@@ -11,5 +11,6 @@ pub mod NumberedEvents
 pub mod Continuations
 pub mod Linearizations
 pub mod Configurations
+pub mod Needs
 pub mod SameProblem
 pub mod SameProblemLemmas
