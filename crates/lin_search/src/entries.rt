@@ -62,14 +62,23 @@ fn completed_calls<O: SeqObject>(problem: &Problem<O>) -> usize
     count
 }
 
+// The call of the event, if it is a call event.
+fn called_at(event: &ProblemEvent) -> Option<usize>
+    ensures { result ≡ call_of_event (Some event.now) }
+{
+    match event {
+        ProblemEvent::Call(call) => Some(*call),
+        ProblemEvent::Return(_) => None,
+    }
+}
+
 // The call of the entry, if it is a call entry.
 fn call_at(events: &[ProblemEvent], entry: usize) -> Option<usize>
     requires { 0 < entry }
     ensures { result ≡ call_of_event (slice_get events.now (entry - 1)) }
 {
     match events.get(entry - 1) {
-        Some(ProblemEvent::Call(call)) => Some(*call),
-        Some(ProblemEvent::Return(_)) => None,
+        Some(event) => called_at(event),
         None => None,
     }
 }
