@@ -1,0 +1,54 @@
+-- The object that histories are judged by, as an object of queues.
+use Rattle.std.proofs.Common.{◌≡◌, ℕ, true, Some, List, length, [], ◌∙◌, refl, ap}
+use Rattle.std.specs.Prelude.{ℤ, Bool, false, slice_get}
+use Rattle.std.specs.Cmp.{signed_Decides}
+use Rattle.lin_object.specs.declared.op.Op.{Op}
+use Rattle.lin_object.specs.declared.reply.Reply.{Reply}
+use Rattle.lin_object.specs.declared.reply.Reply.TheVariants.{Okay, Int, Flag, Empty}
+use Rattle.lin_object.specs.declared.state.ObjState.{ObjState}
+use Rattle.lin_object.specs.declared.state.ObjState.TheVariants.{Queue}
+use Rattle.lin_object.specs.contracts.reply.ReplyPartialEq.TheImpl.{eq-value as reply_eq}
+use Rattle.lin_history.specs.Problems.ProblemParts.{ProblemParts, AreTimed}
+use Rattle.lin_history.specs.Problems.Needs.{NeedNumbers, AreNeeds}
+use Rattle.lin_ahead.specs.AnyProblem.{any_problem}
+use Rattle.lin_ahead.specs.Queue.{IsOfQueue}
+use Rattle.lin_ahead.specs.Numbers.{IsBy, IsFrom}
+use Rattle.lin_ahead.specs.ItemCalls.{told, least_pending}
+use Rattle.lin_ahead.specs.CallNumbers.{by_row, from_row}
+use Rattle.lin_ahead.proofs.RowLemmas.{by_row_is, from_row_is}
+use Rattle.std.proofs.lemmas.List.{length-map}
+use Rattle.lin_ahead.proofs.NumberLemmas.{numbers_need}
+
+flag_same : (a b : Bool) → reply_eq.it (Flag a) (Flag b) ≡ true → a ≡ b
+flag_same true true e = refl
+flag_same false false e = refl
+flag_same true false e = absurd (cc)
+flag_same false true e = absurd (cc)
+
+pub reply_same : (a b : Reply) → reply_eq.it a b ≡ true → a ≡ b
+reply_same Okay Okay e = refl
+reply_same (Int v) (Int w) e = ap Int ((signed_Decides v w).0 e)
+reply_same (Flag a) (Flag b) e = ap Flag (flag_same a b e)
+reply_same Empty Empty e = refl
+reply_same a b e = absurd (cc)
+
+module _ {Object : Type 0} (p : ProblemParts Object ObjState Op Reply) where
+  pub of_any : (items : List ℤ) → p.start ≡ Queue items → IsOfQueue (any_problem p) items
+  of_any items e = record { after_is = λ s process op. refl; start_is = e; exact = reply_same }
+
+  -- lists of such numbers tell what is needed
+  pub are_needs : (items : List ℤ) → p.start ≡ Queue items → (rows : NeedNumbers) → length rows.by ≡ length p.calls → length rows.from ≡ length p.calls
+      → ((a m : ℕ) → slice_get rows.by a ≡ Some m → IsBy (any_problem p) items a m) → ((b n : ℕ) → slice_get rows.from b ≡ Some n → IsFrom (any_problem p) items b n) → AreNeeds (any_problem p) rows
+  are_needs items e rows bys froms k l = record {
+    each_by = bys;
+    each_from = froms;
+    needed = λ a b m n there here below. numbers_need (of_any items e) a b m n (k a m there) (l b n here) below;
+  }
+
+  -- and so do the rows of the numbers of its calls
+  pub known : (rows : NeedNumbers) → p.start ≡ Queue [] → AreTimed p.calls → rows.by ≡ by_row (told p.calls) p.calls → rows.from ≡ from_row (told p.calls) (least_pending p.calls) p.calls → AreNeeds (any_problem p) rows
+  known rows start timed bys froms = are_needs [] start rows
+      (ap length bys ∙ length-map p.calls _)
+      (ap length froms ∙ length-map p.calls _)
+      (λ a m e. by_row_is (any_problem p) a m (rw (← bys) e))
+      (λ b n e. from_row_is (any_problem p) timed b n (rw (← froms) e))

@@ -1,0 +1,6 @@
+pub mod QueueLemmas
+pub mod NumberLemmas
+pub mod AnyLemmas
+pub mod ToldLemmas
+pub mod RowLemmas
+pub mod ExactLemmas

@@ -1,0 +1,483 @@
+-- What the order of dequeues tells of the order of enqueues.
+use Rattle.std.proofs.Common.{◌≡◌, ◌≢◌, ℕ, zero, suc, Bool, true, false, Option, Some, None, List, [], ◌∷◌, ◌++◌, length, ◌⊎◌, inl, inr, refl, sym, ◌∙◌, ap, subst, append_assoc, append-nil, replicate}
+use Rattle.std.specs.Prelude.{ℤ, slice_get, IfSome, if◌then◌else◌}
+use Rattle.lin_object.specs.declared.op.Op.{Op}
+use Rattle.lin_object.specs.declared.op.Op.TheVariants.{Write, Read, Cas, Add, Get, Enqueue, Dequeue, Push, Pop, Insert, Remove, Contains, Lock, Unlock, TryLock, Put, Lookup, Delete}
+use Rattle.lin_object.specs.declared.reply.Reply.{Reply}
+use Rattle.lin_object.specs.declared.reply.Reply.TheVariants.{Int, Empty}
+use Rattle.lin_object.specs.declared.state.ObjState.{ObjState}
+use Rattle.lin_object.specs.declared.state.ObjState.TheVariants.{Queue}
+use Rattle.lin_object.specs.Kinds.Queue.{queue_step, put_in_by, taken_out_by}
+use Rattle.lin_history.specs.declared.problems.problem.ProblemCall.{ProblemCall}
+use Rattle.lin_history.specs.Problems.Problem.{Problem}
+use Rattle.lin_history.specs.Problems.Lists.{In, IsDistinct}
+use Rattle.lin_history.specs.Problems.LegalLists.{fits, state_if_fits, next, Legal}
+use Rattle.lin_history.specs.Problems.Precedence.{Before, IsCompleted}
+use Rattle.lin_history.specs.Problems.Continuations.{has}
+use Rattle.lin_history.specs.Problems.Linearizations.{IsRun, IsLinearization}
+use Rattle.lin_history.specs.Problems.Needs.{Needs}
+use Rattle.lin_ahead.specs.Queue.{Item, IsOfQueue, Puts, Took, FoundEmpty, MayTake, OnlyPuts, IsTakenAfter}
+
+-- ---- items
+
+Item_early : (v : ℤ) (xs ys : List ℤ) → Item v xs → Item v (xs ++ ys)
+Item_early v [] ys h = absurd h
+Item_early v (x ∷ xs) ys h = elim h [ inl e ↦ inl e | inr more ↦ inr (Item_early v xs ys more) ]
+
+Item_late : (v : ℤ) (xs ys : List ℤ) → Item v ys → Item v (xs ++ ys)
+Item_late v [] ys h = h
+Item_late v (x ∷ xs) ys h = inr (Item_late v xs ys h)
+
+Item_either : (v : ℤ) (xs ys : List ℤ) → Item v (xs ++ ys) → Item v xs ⊎ Item v ys
+Item_either v [] ys h = inr h
+Item_either v (x ∷ xs) ys h = elim h [ inl e ↦ inl (inl e) | inr more ↦ elim (Item_either v xs ys more) [ inl k ↦ inl (inr k) | inr k ↦ inr k ] ]
+
+-- an item of a list stands somewhere in it
+Item_place : (v : ℤ) (xs : List ℤ) → Item v xs → (front : List ℤ) × (rest : List ℤ) × (xs ≡ front ++ v ∷ rest)
+Item_place v [] h = absurd h
+Item_place v (x ∷ xs) h = elim h [
+  | inl e ↦ ([], xs, ap (λ (y : ℤ). y ∷ xs) (sym e))
+  | inr more ↦ (let r = Item_place v xs more in (x ∷ r.0, r.1, ap (λ (l : List ℤ). x ∷ l) r.2))
+]
+
+-- a place in items of two parts: in the first, or in the second
+item_split : (xs ys front : List ℤ) (w : ℤ) (rest : List ℤ) → xs ++ ys ≡ front ++ w ∷ rest → Item w xs ⊎ ((more : List ℤ) × (front ≡ xs ++ more) × (ys ≡ more ++ w ∷ rest))
+item_split [] ys front w rest e = inr (front, refl, e)
+item_split (x ∷ xs) ys [] w rest e = inl (inl (let h : x ≡ w = cc in sym h))
+item_split (x ∷ xs) ys (z ∷ front) w rest e =
+    let h : x ≡ z = cc in
+    let tail : xs ++ ys ≡ front ++ w ∷ rest = cc in
+    elim (item_split xs ys front w rest tail) [
+      | inl q ↦ inl (inr q)
+      | inr q ↦ (let r = q.1 in inr (q.0, cc, q.2))
+    ]
+
+-- ---- calls
+
+has_none : (n c : ℕ) → has (replicate n false) c ≡ false
+has_none zero c = refl
+has_none (suc n) zero = refl
+has_none (suc n) (suc c) = has_none n c
+
+In_early : (c : ℕ) (xs ys : List ℕ) → In c xs → In c (xs ++ ys)
+In_early c [] ys h = absurd h
+In_early c (x ∷ xs) ys h = elim h [ inl e ↦ inl e | inr more ↦ inr (In_early c xs ys more) ]
+
+In_late : (c : ℕ) (xs ys : List ℕ) → In c ys → In c (xs ++ ys)
+In_late c [] ys h = h
+In_late c (x ∷ xs) ys h = inr (In_late c xs ys h)
+
+In_either : (c : ℕ) (xs ys : List ℕ) → In c (xs ++ ys) → In c xs ⊎ In c ys
+In_either c [] ys h = inr h
+In_either c (x ∷ xs) ys h = elim h [ inl e ↦ inl (inl e) | inr more ↦ elim (In_either c xs ys more) [ inl p ↦ inl (inr p) | inr p ↦ inr p ] ]
+
+In_place : (c : ℕ) (l : List ℕ) → In c l → (early : List ℕ) × (late : List ℕ) × (l ≡ early ++ c ∷ late)
+In_place c [] h = absurd h
+In_place c (d ∷ l) h = elim h [
+  | inl e ↦ ([], l, ap (λ (y : ℕ). y ∷ l) (sym e))
+  | inr more ↦ (let r = In_place c l more in (d ∷ r.0, r.1, ap (λ (k : List ℕ). d ∷ k) r.2))
+]
+
+apart : (c : ℕ) (xs ys : List ℕ) → IsDistinct (xs ++ ys) → In c xs → In c ys → ⊥
+apart c [] ys d h k = h
+apart c (x ∷ xs) ys d h k = elim h [ inl e ↦ d.0 (subst (λ (n : ℕ). In n (xs ++ ys)) e (In_late c xs ys k)) | inr more ↦ apart c xs ys d.1 more k ]
+
+-- two places in one list: a before b, or b before a
+either_first : (xs : List ℕ) (a : ℕ) (ys front : List ℕ) (b : ℕ) (rest : List ℕ) → xs ++ a ∷ ys ≡ front ++ b ∷ rest → a ≢ b → In a front ⊎ In b xs
+either_first [] a ys [] b rest e ne = absurd (ne (cc))
+either_first [] a ys (z ∷ front) b rest e ne = inl (inl (cc))
+either_first (x ∷ xs) a ys [] b rest e ne = inr (inl (let h : x ≡ b = cc in sym h))
+either_first (x ∷ xs) a ys (z ∷ front) b rest e ne =
+    let tail : xs ++ a ∷ ys ≡ front ++ b ∷ rest = cc in
+    elim (either_first xs a ys front b rest tail ne) [ inl q ↦ inl (inr q) | inr q ↦ inr (inr q) ]
+
+-- ---- one step of a queue
+
+-- the answer is this state and this reply
+abbrev Is : Option (ObjState × Reply) → ObjState → Reply → Type 0
+Is answer m r = answer ≡ Some (m, r)
+
+inside : {x y : ObjState × Reply} → ◌≡◌ {A = Option (ObjState × Reply)} (Some x) (Some y) → x ≡ y
+inside e = cc
+
+state_of : {s m : ObjState} {a r : Reply} → Is (Some (s, a)) m r → s ≡ m
+state_of e = ap (λ (answer : ObjState × Reply). answer.0) (inside e)
+
+reply_of : {s m : ObjState} {a r : Reply} → Is (Some (s, a)) m r → a ≡ r
+reply_of e = ap (λ (answer : ObjState × Reply). answer.1) (inside e)
+
+-- what one step leaves in the queue, and what it took
+pub record QueueStep (items : List ℤ) (op : Op) (m : ObjState) (r : Reply) : Type 0 where
+  pub rest : List ℤ
+  pub ends : m ≡ Queue rest
+  pub same : items ++ put_in_by op ≡ taken_out_by op r ++ rest
+  pub took : (v : ℤ) → Item v (taken_out_by op r) → (op ≡ Dequeue) × (r ≡ Int v)
+
+queue_leaves : (items : List ℤ) (op : Op) (m : ObjState) (r : Reply) → Is (queue_step items op) m r → QueueStep items op m r
+queue_leaves items (Enqueue w) m r e = record { rest = items ++ w ∷ []; ends = sym (state_of e); same = refl; took = λ v h. absurd h }
+queue_leaves [] Dequeue m r e = record {
+  rest = [];
+  ends = sym (state_of e);
+  same = rw (← reply_of e) refl;
+  took = λ v h. absurd (subst (λ (q : Reply). Item v (taken_out_by Dequeue q)) (sym (reply_of e)) h);
+}
+queue_leaves (u ∷ items) Dequeue m r e = record {
+  rest = items;
+  ends = sym (state_of e);
+  same = rw (← reply_of e) (append-nil (u ∷ items));
+  took = λ v h. (refl, elim (subst (λ (q : Reply). Item v (taken_out_by Dequeue q)) (sym (reply_of e)) h) [ inl k ↦ sym (reply_of e) ∙ ap Int (sym k) | inr k ↦ absurd k ]);
+}
+queue_leaves items (Write w) m r e = absurd (cc)
+queue_leaves items Read m r e = absurd (cc)
+queue_leaves items (Cas a b) m r e = absurd (cc)
+queue_leaves items (Add d) m r e = absurd (cc)
+queue_leaves items Get m r e = absurd (cc)
+queue_leaves items (Push w) m r e = absurd (cc)
+queue_leaves items Pop m r e = absurd (cc)
+queue_leaves items (Insert w) m r e = absurd (cc)
+queue_leaves items (Remove w) m r e = absurd (cc)
+queue_leaves items (Contains w) m r e = absurd (cc)
+queue_leaves items Lock m r e = absurd (cc)
+queue_leaves items Unlock m r e = absurd (cc)
+queue_leaves items TryLock m r e = absurd (cc)
+queue_leaves items (Put k w) m r e = absurd (cc)
+queue_leaves items (Lookup k) m r e = absurd (cc)
+queue_leaves items (Delete k) m r e = absurd (cc)
+
+-- what a dequeue tells of the queue by its reply
+queue_answered : (items : List ℤ) (m : ObjState) (w : ℤ) → Is (queue_step items Dequeue) m (Int w) → (rest : List ℤ) × (items ≡ w ∷ rest) × (m ≡ Queue rest)
+queue_answered [] m w e = absurd (let f = reply_of e in cc)
+queue_answered (u ∷ items) m w e = (items, (let f = reply_of e in let g : u ≡ w = cc in ap (λ (y : ℤ). y ∷ items) g), sym (state_of e))
+
+queue_empty : (items : List ℤ) (m : ObjState) → Is (queue_step items Dequeue) m Empty → (items ≡ []) × (m ≡ Queue [])
+queue_empty [] m e = (refl, sym (state_of e))
+queue_empty (u ∷ items) m e = absurd (let f = reply_of e in cc)
+
+module _ {p : Problem ObjState Op Reply} {start : List ℤ} (of_queue : IsOfQueue p start) where
+  fits_some : (answer : Option (ObjState × Reply)) (recorded : Option (ℕ × Reply)) (m : ObjState) → state_if_fits p.same_reply recorded answer ≡ Some m → (r : Reply) × Is answer m r × (fits p.same_reply r recorded ≡ true)
+  fits_some None recorded m e = absurd (cc)
+  fits_some (Some answer) recorded m e = go (fits p.same_reply answer.1 recorded) refl e
+    where
+      go : (b : Bool) → fits p.same_reply answer.1 recorded ≡ b → (if b then Some answer.0 else None) ≡ Some m → (r : Reply) × Is (Some answer) m r × (fits p.same_reply r recorded ≡ true)
+      go true f g = (answer.1, (let h : answer.0 ≡ m = cc in ap (λ (x : ObjState). Some (x, answer.1)) h), f)
+      go false f g = absurd (cc)
+
+  -- a step of a call at a queue
+  stepped : (items : List ℤ) (m : ObjState) (c : ℕ) (x : ProblemCall Op Reply) → slice_get p.calls c ≡ Some x → next p (Queue items) c ≡ Some m → (r : Reply) × Is (queue_step items x.op) m r × (fits p.same_reply r x.returned ≡ true)
+  stepped items m c x e step =
+      let step' : state_if_fits p.same_reply x.returned (p.after (Queue items) x.process x.op) ≡ Some m = rw e at step in
+      let k = fits_some (p.after (Queue items) x.process x.op) x.returned m step' in
+      (k.0, sym (of_queue.after_is (Queue items) x.process x.op) ∙ k.1, k.2)
+
+  has_call : (s m : ObjState) (c : ℕ) → next p s c ≡ Some m → (x : ProblemCall Op Reply) × (slice_get p.calls c ≡ Some x)
+  has_call s m c step = go (slice_get p.calls c) refl
+    where
+      go : (o : Option (ProblemCall Op Reply)) → slice_get p.calls c ≡ o → (x : ProblemCall Op Reply) × (slice_get p.calls c ≡ Some x)
+      go (Some x) e = (x, e)
+      go None e = absurd (let f = rw e at step in cc)
+
+  fits_recorded : (r : Reply) (recorded : Option (ℕ × Reply)) → fits p.same_reply r recorded ≡ true → IfSome recorded (λ q. q.1 ≡ r)
+  fits_recorded r None e = tt
+  fits_recorded r (Some q) e = sym (of_queue.exact r q.1 e)
+
+  -- ---- a run of calls
+
+  abbrev puts_by : Option (ProblemCall Op Reply) → List ℤ
+  puts_by None = []
+  puts_by (Some x) = put_in_by x.op
+
+  abbrev puts : List ℕ → List ℤ
+  puts [] = []
+  puts (c ∷ cs) = puts_by (slice_get p.calls c) ++ puts cs
+
+  -- what came out and then what is left is what went in; and what came out was taken by some call
+  record Fifo (items : List ℤ) (l : List ℕ) (t : ObjState) : Type 0 where
+    took : List ℤ
+    rest : List ℤ
+    ends : t ≡ Queue rest
+    same : items ++ puts l ≡ took ++ rest
+    taker : (v : ℤ) → Item v took → (j : ℕ) × In j l × MayTake p j v
+
+  chain : (items put puts taken takens rest more : List ℤ) → items ++ put ≡ taken ++ more → more ++ puts ≡ takens ++ rest → items ++ (put ++ puts) ≡ (taken ++ takens) ++ rest
+  chain items put puts taken takens rest more one later =
+      sym (append_assoc items put puts) ∙ ap (λ (l : List ℤ). l ++ puts) one ∙ append_assoc taken more puts ∙ ap (λ (l : List ℤ). taken ++ l) later ∙ sym (append_assoc taken takens rest)
+
+  fifo : (l : List ℕ) (items : List ℤ) (t : ObjState) → Legal p (Queue items) l t → Fifo items l t
+  fifo [] items t e = record { took = []; rest = items; ends = sym e; same = append-nil items; taker = λ v h. absurd h }
+  fifo (c ∷ cs) items t (m, step, more) =
+      let call = has_call (Queue items) m c step in
+      let k = stepped items m c call.0 call.1 step in
+      let one : QueueStep items call.0.op m k.0 = queue_leaves items call.0.op m k.0 k.1 in
+      let later = fifo cs one.rest t (subst (λ (s : ObjState). Legal p s cs t) one.ends more) in
+      let put : puts_by (slice_get p.calls c) ≡ put_in_by call.0.op = ap puts_by call.1 in
+      record {
+        took = taken_out_by call.0.op k.0 ++ later.took;
+        rest = later.rest;
+        ends = later.ends;
+        same = rw put (chain items (put_in_by call.0.op) (puts cs) (taken_out_by call.0.op k.0) later.took later.rest one.rest one.same later.same);
+        taker = λ v h. elim (Item_either v (taken_out_by call.0.op k.0) later.took h) [
+          | inl q ↦ (let w = one.took v q in (c, inl refl, (call.0, call.1, w.0, subst (λ (r : Reply). IfSome call.0.returned (λ q. q.1 ≡ r)) w.1 (fits_recorded k.0 call.0.returned k.2))))
+          | inr q ↦ (let w = later.taker v q in (w.0, inr w.1, w.2))
+        ];
+      }
+
+  -- ---- where an item went in
+
+  op_puts : (op : Op) → (put_in_by op ≡ []) ⊎ ((u : ℤ) × (op ≡ Enqueue u) × (put_in_by op ≡ u ∷ []))
+  op_puts (Enqueue u) = inr (u, refl, refl)
+  op_puts Dequeue = inl refl
+  op_puts (Write w) = inl refl
+  op_puts Read = inl refl
+  op_puts (Cas a b) = inl refl
+  op_puts (Add d) = inl refl
+  op_puts Get = inl refl
+  op_puts (Push w) = inl refl
+  op_puts Pop = inl refl
+  op_puts (Insert w) = inl refl
+  op_puts (Remove w) = inl refl
+  op_puts (Contains w) = inl refl
+  op_puts Lock = inl refl
+  op_puts Unlock = inl refl
+  op_puts TryLock = inl refl
+  op_puts (Put k w) = inl refl
+  op_puts (Lookup k) = inl refl
+  op_puts (Delete k) = inl refl
+
+  call_puts : (c : ℕ) → (puts_by (slice_get p.calls c) ≡ []) ⊎ ((u : ℤ) × Puts p c u × (puts_by (slice_get p.calls c) ≡ u ∷ []))
+  call_puts c = go (slice_get p.calls c) refl
+    where
+      go : (o : Option (ProblemCall Op Reply)) → slice_get p.calls c ≡ o → (puts_by (slice_get p.calls c) ≡ []) ⊎ ((u : ℤ) × Puts p c u × (puts_by (slice_get p.calls c) ≡ u ∷ []))
+      go None e = inl (rw e refl)
+      go (Some x) e = elim (op_puts x.op) [
+        | inl q ↦ inl (ap puts_by e ∙ q)
+        | inr q ↦ inr (q.0, (x, e, q.1), ap puts_by e ∙ q.2)
+      ]
+
+  record PutAt (l : List ℕ) (front : List ℤ) (w : ℤ) (rest : List ℤ) : Type 0 where
+    early : List ℕ
+    call : ℕ
+    late : List ℕ
+    place : l ≡ early ++ call ∷ late
+    put : Puts p call w
+    before : puts early ≡ front
+    after_ : puts late ≡ rest
+
+  put_later : (c : ℕ) (cs : List ℕ) (w : ℤ) (new front rest : List ℤ) → puts_by (slice_get p.calls c) ≡ new → PutAt cs front w rest → PutAt (c ∷ cs) (new ++ front) w rest
+  put_later c cs w new front rest e k = record {
+    early = c ∷ k.early;
+    call = k.call;
+    late = k.late;
+    place = ap (λ (l : List ℕ). c ∷ l) k.place;
+    put = k.put;
+    before = rw (e, k.before) refl;
+    after_ = k.after_;
+  }
+
+  put_place : (l : List ℕ) (front : List ℤ) (w : ℤ) (rest : List ℤ) → puts l ≡ front ++ w ∷ rest → PutAt l front w rest
+  put_place [] [] w rest e = absurd (cc)
+  put_place [] (z ∷ front) w rest e = absurd (cc)
+  put_place (c ∷ cs) front w rest e = elim (call_puts c) [
+    | inl q ↦ put_later c cs w [] front rest q (put_place cs front w rest (ap (λ (l : List ℤ). l ++ puts cs) (sym q) ∙ e))
+    | inr q ↦ here (λ front f. put_place cs front w rest f) q.0 q.1 q.2 front (ap (λ (l : List ℤ). l ++ puts cs) (sym q.2) ∙ e)
+  ]
+    where
+      here : ((front : List ℤ) → puts cs ≡ front ++ w ∷ rest → PutAt cs front w rest) → (u : ℤ) → Puts p c u → puts_by (slice_get p.calls c) ≡ u ∷ [] → (front : List ℤ) → u ∷ puts cs ≡ front ++ w ∷ rest → PutAt (c ∷ cs) front w rest
+      here go u put by [] f = record {
+        early = [];
+        call = c;
+        late = cs;
+        place = refl;
+        put = (let g : u ≡ w = cc in subst (λ (y : ℤ). Puts p c y) g put);
+        before = refl;
+        after_ = (cc);
+      }
+      here go u put by (z ∷ front) f =
+          let g : u ≡ z = cc in
+          let tail : puts cs ≡ front ++ w ∷ rest = cc in
+          put_later c cs w (z ∷ []) front rest (by ∙ ap (λ (y : ℤ). y ∷ []) g) (go front tail)
+
+  putter : (l : List ℕ) (v : ℤ) → Item v (puts l) → (c : ℕ) × In c l × Puts p c v
+  putter l v h =
+      let at = Item_place v (puts l) h in
+      let k = put_place l at.0 v at.1 at.2 in
+      (k.call, subst (λ (m : List ℕ). In k.call m) (sym k.place) (In_late k.call k.early (k.call ∷ k.late) (inl refl)), k.put)
+
+  put_by : (c : ℕ) (v : ℤ) → Puts p c v → puts_by (slice_get p.calls c) ≡ v ∷ []
+  put_by c v k = ap puts_by k.1 ∙ ap put_in_by k.2
+
+  put_there : (l : List ℕ) (c : ℕ) (v : ℤ) → Puts p c v → In c l → Item v (puts l)
+  put_there [] c v k h = absurd h
+  put_there (d ∷ l) c v k h = elim h [
+    | inl e ↦ Item_early v (puts_by (slice_get p.calls d)) (puts l) (subst (λ (xs : List ℤ). Item v xs) (sym (put_by d v (subst (λ (n : ℕ). Puts p n v) e k))) (inl refl))
+    | inr more ↦ Item_late v (puts_by (slice_get p.calls d)) (puts l) (put_there l c v k more)
+  ]
+
+  puts_joined : (xs ys : List ℕ) → puts (xs ++ ys) ≡ puts xs ++ puts ys
+  puts_joined [] ys = refl
+  puts_joined (x ∷ xs) ys = ap (λ (l : List ℤ). puts_by (slice_get p.calls x) ++ l) (puts_joined xs ys) ∙ sym (append_assoc (puts_by (slice_get p.calls x)) (puts xs) (puts ys))
+
+  distinct_late : (xs ys : List ℕ) → IsDistinct (xs ++ ys) → IsDistinct ys
+  distinct_late [] ys d = d
+  distinct_late (x ∷ xs) ys d = distinct_late xs ys d.1
+
+  distinct_early : (xs ys : List ℕ) → IsDistinct (xs ++ ys) → IsDistinct xs
+  distinct_early [] ys d = tt
+  distinct_early (x ∷ xs) ys d = ((λ h. d.0 (In_early x xs ys h)), distinct_early xs ys d.1)
+
+  -- an item that goes in once is not both among what came out and among what is left
+  once : (k : List ℕ) (b : ℕ) (v : ℤ) (front rest : List ℤ) → IsDistinct k → OnlyPuts p b v → (Item v start → ⊥) → start ++ puts k ≡ front ++ rest → Item v front → Item v rest → ⊥
+  once k b v front rest distinct only fresh e h i =
+      let at = Item_place v front h in
+      let shifted : start ++ puts k ≡ at.0 ++ v ∷ (at.1 ++ rest) = e ∙ ap (λ (l : List ℤ). l ++ rest) at.2 ∙ append_assoc at.0 (v ∷ at.1) rest in
+      elim (item_split start (puts k) at.0 v (at.1 ++ rest) shifted) [
+        | inl q ↦ fresh q
+        | inr q ↦ (
+            let w = put_place k q.0 v (at.1 ++ rest) q.2 in
+            let other = putter w.late v (subst (λ (l : List ℤ). Item v l) (sym w.after_) (Item_late v at.1 rest i)) in
+            let same : other.0 ≡ w.call = only other.0 other.2 ∙ sym (only w.call w.put) in
+            (distinct_late w.early (w.call ∷ w.late) (subst IsDistinct w.place distinct)).0 (subst (λ (n : ℕ). In n w.late) same other.1)
+            )
+      ]
+
+  -- ---- a moment of a linearization
+
+  legal_split : (xs ys : List ℕ) (s u : ObjState) → Legal p s (xs ++ ys) u → (t : ObjState) × Legal p s xs t × Legal p t ys u
+  legal_split [] ys s u k = (s, refl, k)
+  legal_split (x ∷ xs) ys s u k = let r = legal_split xs ys k.0 u k.2 in (r.0, (k.0, k.1, r.1), r.2)
+
+  -- what returned before a call was called does not stand after it, or is it
+  not_before : (early : List ℕ) (i : ℕ) (late : List ℕ) → IsRun p (early ++ i ∷ late) → (j : ℕ) → Before p i j → In j early → ⊥
+  not_before early i late run j before h =
+      let at = In_place j early h in
+      let eq : early ++ i ∷ late ≡ at.0 ++ j ∷ (at.1 ++ i ∷ late) = ap (λ (l : List ℕ). l ++ i ∷ late) at.2 ∙ append_assoc at.0 (j ∷ at.1) (i ∷ late) in
+      elim (run.ordered at.0 j (at.1 ++ i ∷ late) eq i before) [
+        | inl q ↦ (let x = has_none (length p.calls) i in cc)
+        | inr q ↦ apart i early (i ∷ late) run.distinct (subst (λ (l : List ℕ). In i l) (sym at.2) (In_early i at.0 (j ∷ at.1) q)) (inl refl)
+      ]
+
+  not_itself : (early : List ℕ) (i : ℕ) (late : List ℕ) → IsRun p (early ++ i ∷ late) → Before p i i → ⊥
+  not_itself early i late run before = elim (run.ordered early i late refl i before) [
+    | inl q ↦ (let x = has_none (length p.calls) i in cc)
+    | inr q ↦ apart i early (i ∷ late) run.distinct q (inl refl)
+  ]
+
+  took_completed : (i : ℕ) (x : ProblemCall Op Reply) (n : ℕ) (r : Reply) → slice_get p.calls i ≡ Some x → x.returned ≡ Some (n, r) → IsCompleted p i
+  took_completed i x n r e f = rw (e, f) refl
+
+  replied : (items : List ℤ) (m : ObjState) (i : ℕ) (x : ProblemCall Op Reply) (n : ℕ) (r : Reply) → slice_get p.calls i ≡ Some x → x.op ≡ Dequeue → x.returned ≡ Some (n, r) → next p (Queue items) i ≡ Some m → Is (queue_step items Dequeue) m r
+  replied items m i x n r e op f step =
+      let k = stepped items m i x e step in
+      let fit : p.same_reply k.0 r ≡ true = subst (λ (o : Option (ℕ × Reply)). fits p.same_reply k.0 o ≡ true) f k.2 in
+      let same : k.0 ≡ r = of_queue.exact k.0 r fit in
+      subst (λ (q : Reply). Is (queue_step items Dequeue) m q) same (subst (λ (o : Op). Is (queue_step items o) m k.0) op k.1)
+
+  -- the calls before one of a linearization, as a run of the queue, and its step after them
+  record Moment (early : List ℕ) (i : ℕ) (late : List ℕ) : Type 0 where
+    mid : ObjState
+    end : ObjState
+    so_far : Fifo start early mid
+    goes_on : Legal p (Queue so_far.rest) (i ∷ late) end
+
+  moment : (early : List ℕ) (i : ℕ) (late : List ℕ) → IsRun p (early ++ i ∷ late) → Moment early i late
+  moment early i late run =
+      let legal : Legal p (Queue start) (early ++ i ∷ late) run.legal.0 = subst (λ (s : ObjState). Legal p s (early ++ i ∷ late) run.legal.0) of_queue.start_is run.legal.1 in
+      let k = legal_split early (i ∷ late) (Queue start) run.legal.0 legal in
+      let f = fifo early start k.0 k.1 in
+      record { mid = k.0; end = run.legal.0; so_far = f; goes_on = subst (λ (s : ObjState). Legal p s (i ∷ late) run.legal.0) f.ends k.2 }
+
+  -- an item that is not taken before a call is not among what came out before it
+  none_taken : (early : List ℕ) (i : ℕ) (late : List ℕ) → IsLinearization p (early ++ i ∷ late) → (k : Moment early i late) → (b : ℕ) (v : ℤ) → IsTakenAfter p start i b v → Item v k.so_far.took → ⊥
+  none_taken early i late whole k b v after_it h = elim after_it [
+    | inl all ↦ (let t = k.so_far.taker v h in not_before early i late run t.0 (all t.0 t.2) t.1)
+    | inr one ↦ taken_once one.0 one.1 one.2.0 one.2.1 one.2.2 (place one.2.0 one.2.1 one.2.2)
+  ]
+    where
+      run : IsRun p (early ++ i ∷ late)
+      run = whole.continuation
+
+      place : (j : ℕ) → Took p j v → Before p i j → In j late
+      place j took before = elim (whole.complete j (took_completed j took.0 took.3.0 (Int v) took.1 took.3.1)) [
+        | inl q ↦ absurd (let x = has_none (length p.calls) j in cc)
+        | inr q ↦ elim (In_either j early (i ∷ late) q) [
+          | inl r ↦ absurd (not_before early i late run j before r)
+          | inr (inl r) ↦ absurd (not_itself early i late run (subst (λ (n : ℕ). Before p i n) r before))
+          | inr (inr r) ↦ r
+        ]
+      ]
+
+      taken_once : OnlyPuts p b v → (Item v start → ⊥) → (j : ℕ) → Took p j v → Before p i j → In j late → ⊥
+      taken_once only fresh j took before there =
+          let at = In_place j late there in
+          let goes : Legal p (Queue k.so_far.rest) ((i ∷ at.0) ++ j ∷ at.1) k.end = subst (λ (l : List ℕ). Legal p (Queue k.so_far.rest) (i ∷ l) k.end) at.2 k.goes_on in
+          let two = legal_split (i ∷ at.0) (j ∷ at.1) (Queue k.so_far.rest) k.end goes in
+          let more = fifo (i ∷ at.0) k.so_far.rest two.0 two.1 in
+          let last : Legal p (Queue more.rest) (j ∷ at.1) k.end = subst (λ (s : ObjState). Legal p s (j ∷ at.1) k.end) more.ends two.2 in
+          let answer = replied more.rest last.0 j took.0 took.3.0 (Int v) took.1 took.2 took.3.1 last.1 in
+          let front = queue_answered more.rest last.0 v answer in
+          let left : Item v (k.so_far.rest ++ puts (i ∷ at.0)) = subst (λ (l : List ℤ). Item v l) (sym more.same) (Item_late v more.took more.rest (subst (λ (l : List ℤ). Item v l) (sym front.1) (inl refl))) in
+          let all : start ++ puts (early ++ i ∷ at.0) ≡ k.so_far.took ++ (k.so_far.rest ++ puts (i ∷ at.0)) =
+          ap (λ (l : List ℤ). start ++ l) (puts_joined early (i ∷ at.0))
+          ∙ sym (append_assoc start (puts early) (puts (i ∷ at.0)))
+          ∙ ap (λ (l : List ℤ). l ++ puts (i ∷ at.0)) k.so_far.same
+          ∙ append_assoc k.so_far.took k.so_far.rest (puts (i ∷ at.0)) in
+          let shape : early ++ i ∷ late ≡ (early ++ i ∷ at.0) ++ j ∷ at.1 = ap (λ (l : List ℕ). early ++ i ∷ l) at.2 ∙ sym (append_assoc early (i ∷ at.0) (j ∷ at.1)) in
+          let distinct : IsDistinct (early ++ i ∷ at.0) = distinct_early (early ++ i ∷ at.0) (j ∷ at.1) (subst IsDistinct shape run.distinct) in
+          once (early ++ i ∷ at.0) b v k.so_far.took (k.so_far.rest ++ puts (i ∷ at.0)) distinct only fresh all h left
+
+  abbrev WithIn : ℕ → List ℕ → Type 0
+  WithIn i l = (early : List ℕ) × (late : List ℕ) × (l ≡ early ++ i ∷ late)
+
+  stands : (l : List ℕ) (i : ℕ) → IsLinearization p l → IsCompleted p i → WithIn i l
+  stands l i whole done = elim (whole.complete i done) [
+    | inl q ↦ absurd (let x = has_none (length p.calls) i in cc)
+    | inr q ↦ In_place i l q
+  ]
+
+  -- what was taken before another item could be went in before it
+  pub queue_needs_item : (a b i : ℕ) (v w : ℤ) → a ≢ b → OnlyPuts p a w → (Item w start → ⊥) → Took p i w → Puts p b v → IsTakenAfter p start i b v → Needs p a b
+  queue_needs_item a b i v w other only fresh took put after_it l whole early late eq =
+      let at = stands l i whole (took_completed i took.0 took.3.0 (Int w) took.1 took.3.1) in
+      let whole' : IsLinearization p (at.0 ++ i ∷ at.1) = subst (λ (m : List ℕ). IsLinearization p m) at.2 whole in
+      let k = moment at.0 i at.1 whole'.continuation in
+      let answer = replied k.so_far.rest k.goes_on.0 i took.0 took.3.0 (Int w) took.1 took.2 took.3.1 k.goes_on.1 in
+      let front = queue_answered k.so_far.rest k.goes_on.0 w answer in
+      elim (item_split start (puts at.0) k.so_far.took w front.0 (k.so_far.same ∙ ap (λ (m : List ℤ). k.so_far.took ++ m) front.1)) [
+        | inl q ↦ absurd (fresh q)
+        | inr q ↦ (
+            let x = put_place at.0 q.0 w front.0 q.2 in
+            let same : x.call ≡ a = only x.call x.put in
+            let shape : l ≡ x.early ++ a ∷ (x.late ++ i ∷ at.1) =
+            at.2
+            ∙ ap (λ (m : List ℕ). m ++ i ∷ at.1) x.place
+            ∙ append_assoc x.early (x.call ∷ x.late) (i ∷ at.1)
+            ∙ ap (λ (n : ℕ). x.early ++ n ∷ (x.late ++ i ∷ at.1)) same in
+            elim (either_first x.early a (x.late ++ i ∷ at.1) early b late (sym shape ∙ eq) other) [
+              | inl r ↦ r
+              | inr r ↦ absurd (
+                  let gone : Item v q.0 = subst (λ (m : List ℤ). Item v m) x.before (put_there x.early b v put r) in
+                  none_taken at.0 i at.1 whole' k b v after_it (subst (λ (m : List ℤ). Item v m) (sym q.1) (Item_late v start q.0 gone)))
+            ]
+            )
+      ]
+
+  not_both : (c d : ℕ) (v : ℤ) → FoundEmpty p c → Puts p d v → c ≢ d
+  not_both c d v found put e =
+      let f : slice_get p.calls d ≡ Some found.0 = subst (λ (n : ℕ). slice_get p.calls n ≡ Some found.0) e found.1 in
+      let g : found.0 ≡ put.0 = (let h = put.1 in cc) in
+      let o : Dequeue ≡ Enqueue v = sym found.2 ∙ ap (λ (x : ProblemCall Op Reply). x.op) g ∙ put.2 in
+      cc
+
+  -- what was taken only after the queue was found empty went in after that
+  pub queue_needs_empty : (a b : ℕ) (v : ℤ) → FoundEmpty p a → Puts p b v → IsTakenAfter p start a b v → Needs p a b
+  queue_needs_empty a b v found put after_it l whole early late eq =
+      let at = stands l a whole (took_completed a found.0 found.3.0 Empty found.1 found.3.1) in
+      let whole' : IsLinearization p (at.0 ++ a ∷ at.1) = subst (λ (m : List ℕ). IsLinearization p m) at.2 whole in
+      let k = moment at.0 a at.1 whole'.continuation in
+      let answer = replied k.so_far.rest k.goes_on.0 a found.0 found.3.0 Empty found.1 found.2 found.3.1 k.goes_on.1 in
+      let none = queue_empty k.so_far.rest k.goes_on.0 answer in
+      elim (either_first at.0 a at.1 early b late (sym at.2 ∙ eq) (not_both a b v found put)) [
+        | inl r ↦ r
+        | inr r ↦ absurd (
+            let all : start ++ puts at.0 ≡ k.so_far.took = k.so_far.same ∙ ap (λ (m : List ℤ). k.so_far.took ++ m) none.0 ∙ append-nil k.so_far.took in
+            none_taken at.0 a at.1 whole' k b v after_it (subst (λ (m : List ℤ). Item v m) all (Item_late v start (puts at.0) (put_there at.0 b v put r))))
+      ]

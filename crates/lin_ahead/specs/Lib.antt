@@ -1,0 +1,5 @@
+pub mod Queue
+pub mod Numbers
+pub mod AnyProblem
+pub mod ItemCalls
+pub mod CallNumbers
