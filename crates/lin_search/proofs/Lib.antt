@@ -12,3 +12,5 @@ pub mod WeightLemmas
 pub mod WindowLemmas
 pub mod CallSetFieldsLemmas
 pub mod ScoutingLemmas
+pub mod NeedsLemmas
+pub mod FirstLemmas

@@ -31,21 +31,21 @@ use Rattle.lin_search.proofs.MemoLemmas.{followed_to, followed_one, followed_nex
 use Rattle.lin_search.proofs.SizeLemmas.{many_none, many_to, many_step, many_all, many_as}
 
 -- the calls that lead on from the levels
-abbrev calls_along : {State : Type 0} → List (Level State) → List ℕ
+abbrev pub calls_along : {State : Type 0} → List (Level State) → List ℕ
 calls_along {State} ls = map (λ (f : Level State). f.call) ls
 
 -- the levels of frames, and of one frame more
 module _ {State : Type 0} where
   -- the frame with the configuration that its call was lifted from
-  abbrev level_of : Configuration State → Frame State → Level State
+  abbrev pub level_of : Configuration State → Frame State → Level State
   level_of here f = record { config = here; call = f.call; longest = f.longest }
 
-  levels_end : (root : List Bool) (fs : List (Frame State)) (f : Frame State) (here : Configuration State) → with_calls root (calls_of fs) ≡ here.lifted → f.state ≡ here.state → levels root (fs ++ f ∷ []) ≡ levels root fs ++ level_of here f ∷ []
+  pub levels_end : (root : List Bool) (fs : List (Frame State)) (f : Frame State) (here : Configuration State) → with_calls root (calls_of fs) ≡ here.lifted → f.state ≡ here.state → levels root (fs ++ f ∷ []) ≡ levels root fs ++ level_of here f ∷ []
   levels_end root [] f here set state = rw (set, state) refl
   levels_end root (g ∷ fs) f here set state =
       ap (λ (l : List (Level State)). record { config = record { lifted = root; state = g.state }; call = g.call; longest = g.longest } ∷ l) (levels_end (with_call root g.call) fs f here set state)
 
-  calls_levels : (root : List Bool) (fs : List (Frame State)) → calls_along (levels root fs) ≡ calls_of fs
+  pub calls_levels : (root : List Bool) (fs : List (Frame State)) → calls_along (levels root fs) ≡ calls_of fs
   calls_levels root [] = refl
   calls_levels root (f ∷ fs) = ap (λ (l : List ℕ). f.call ∷ l) (calls_levels (with_call root f.call) fs)
 
@@ -54,7 +54,7 @@ module _ {State : Type 0} where
   calls_end (g ∷ fs) f = ap (λ (l : List ℕ). g.call ∷ l) (calls_end fs f)
 
   -- the calls of the frames, and of one frame more
-  calls_pushed : (base : List ℕ) (fs : List (Frame State)) (f : Frame State) → base ++ calls_of (fs ++ f ∷ []) ≡ (base ++ calls_of fs) ++ f.call ∷ []
+  pub calls_pushed : (base : List ℕ) (fs : List (Frame State)) (f : Frame State) → base ++ calls_of (fs ++ f ∷ []) ≡ (base ++ calls_of fs) ++ f.call ∷ []
   calls_pushed [] fs f = calls_end fs f
   calls_pushed (c ∷ cs) fs f = ap (λ (l : List ℕ). c ∷ l) (calls_pushed cs fs f)
 
@@ -177,7 +177,7 @@ module _ {State Op Reply : Type 0} (p : Problem State Op Reply) where
       many_as (IsContinuation p root start) (k.on_path + (k.below + 1 + 0)) (n + 1) (omega (arith, d))
       (many_lead fs root start set s k.on_path (k.below + 1 + 0) path k.path (many_all p set s (i + 1) (k.below + 1 + 0) (many_step p set s i t k.below 0 flags next k.many (many_none (IsContinuation p (with_call set i) t)))))
 
-  minimal_of : (set : List Bool) (i : ℕ) (answer : Option ℕ) → IsLeastMinimal p set i answer → IfSome answer (λ (c : ℕ). IsMinimal p set c)
+  pub minimal_of : (set : List Bool) (i : ℕ) (answer : Option ℕ) → IsLeastMinimal p set i answer → IfSome answer (λ (c : ℕ). IsMinimal p set c)
   minimal_of set i None k = tt
   minimal_of set i (Some c) k = k.0
 

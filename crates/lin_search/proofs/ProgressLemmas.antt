@@ -61,7 +61,7 @@ module _ {State Op Reply : Type 0} (p : Problem State Op Reply) where
       greatest (c ∷ cs) k = absurd (let b : c < 0 = k.1 in omega arith)
 
   -- a list whose first call is below i + 1 is below i, or begins with i
-  below_cases : (i : ℕ) (l : List ℕ) → IsBelow (i + 1) l → IsBelow i l ⊎ ((cs : List ℕ) × (l ≡ i ∷ cs))
+  pub below_cases : (i : ℕ) (l : List ℕ) → IsBelow (i + 1) l → IsBelow i l ⊎ ((cs : List ℕ) × (l ≡ i ∷ cs))
   below_cases i [] b = inl tt
   below_cases i (c ∷ cs) b = elim (below_or_last c i b) [ inl h ↦ inl h | inr h ↦ inr (cs, rw h refl) ]
 

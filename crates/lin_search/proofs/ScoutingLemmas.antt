@@ -3,7 +3,7 @@ use Rattle.std.proofs.Common.{◌≡◌, ℕ, ◌+◌, ◌<◌, ◌≤◌, Bool,
 use Rattle.std.specs.Prelude.{IfSome, IfNone, ◌-◌}
 use Rattle.std.proofs.lemmas.Bool.{cases_lt}
 use Rattle.lin_history.specs.Problems.Problem.{Problem}
-use Rattle.lin_history.specs.Problems.Lists.{IsLongest, first_of}
+use Rattle.lin_history.specs.Problems.Lists.{first_of}
 use Rattle.lin_history.specs.Problems.Continuations.{IsContinuation, IsCompletion, no_calls}
 use Rattle.lin_history.specs.Problems.Configurations.{IsReachable}
 use Rattle.lin_search.specs.declared.longest.Longest.{Longest}

@@ -24,3 +24,5 @@ pub mod CountLemmas
 pub mod Path
 pub mod Progress
 pub mod Scouting
+pub mod FirstAnswer
+pub mod FirstProgress

@@ -1,4 +1,4 @@
-use Rattle.std.proofs.Common.{◌∙◌, ◌-◌, arith}
+use Rattle.std.proofs.Common.{◌∙◌, arith}
 use Rattle.lin_search.proofs.WindowLemmas.{opened_one}
 use Rattle.lin_search.proofs.call_set.open_full.Goals as goal
 

@@ -1,4 +1,4 @@
-use Rattle.std.proofs.Common.{◌≡◌, ◌<◌, ◌∙◌, ◌-◌, ◌^◌, false, sym, arith}
+use Rattle.std.proofs.Common.{◌≡◌, ◌<◌, ◌∙◌, ◌^◌, false, sym, arith}
 use Rattle.lin_search.specs.Window.{word_at, has_bit, IsWindow, Adds}
 use Rattle.lin_search.proofs.WindowLemmas.{flags_with, flag_is, opened_within, removed_adds, removed_out, removed_window}
 use Rattle.lin_search.proofs.CallSetFieldsLemmas.{kept_without, sum_holds, bit_seen, call_there}
