@@ -1,24 +1,56 @@
 //! The check of a history: its objects are searched one after another.
 
-ghost use Rattle.std.specs.Prelude.{◌≡◌, ◌<◌, ℕ, List, Option, Some, length, option_map, slice_get, IfOk};
+ghost use Rattle.std.specs.Prelude.{◌≡◌, ◌<◌, ◌≤◌, ℕ, List, Option, Some, length, option_map, slice_get, IfOk, IfSome};
 ghost use Rattle.std.specs.ControlFlow.{ForBreak, ForContinue};
 ghost use Rattle.lin_history.specs.Locality.RecordedWhole.{part_of};
 ghost use Rattle.lin_history.specs.Problems.Linearizations.{IsLinearization};
 ghost use Rattle.lin_history.specs.Problems.Lists.{IsLeast};
 ghost use Rattle.lin_history.specs.Recorder.Parts.{start_of, part_calls};
+ghost use Rattle.lin_ahead.specs.AnyProblem.{any_problem};
 ghost use Rattle.lin_workers.specs.Verdict.{IsObjectVerdict};
 ghost use Rattle.lincheck.specs.Verdict.{AreLeastOf, IsVerdict};
 
 use crate::verdict::{Checked, Verdict};
+use lin_ahead::known_needs;
 use lin_history::{History, Order, Problem, join, place};
 use lin_object::AnyObject;
+use lin_search::{FirstAnswer, search_first};
 use lin_workers::{CheckFault, Gate, ObjectVerdict, Options, check_object};
 use std::alloc::{AllocError, Global};
 use std::ops::ControlFlow;
 use std::thread::Threads;
 
+// The most lifts of a first search, which goes before the search of an object of which it is known which calls need
+// which.
+const LIFTS_AHEAD: u64 = 300_000;
+
+// How many lifts a first search may make: no more than the limit, where there is one.
+fn lifts_ahead(limit: Option<u64>) -> u64
+    ensures within { IfSome limit (λ most. result ≤ most) }
+    ensures few { result ≤ LIFTS_AHEAD }
+{
+    match limit {
+        Some(most) => most.min(LIFTS_AHEAD),
+        None => LIFTS_AHEAD,
+    }
+}
+
+// The least linearization of the problem, where a first search finds it. What else such a search answers is of no use here,
+// nor is it where it was refused memory: the search that follows tells more.
+fn first_order(alloc: Global, problem: &Problem<AnyObject>, limit: Option<u64>) -> Option<Order>
+    ensures { IfSome result (IsLeast (IsLinearization (any_problem problem.now))) }
+{
+    let Ok(Some(rows)) = known_needs(alloc, problem) else {
+        return None;
+    };
+    match search_first(alloc, problem, &rows, lifts_ahead(limit)) {
+        Ok(FirstAnswer::Found(order)) => Some(order),
+        Ok(FirstAnswer::Refuted | FirstAnswer::Exhausted) | Err(AllocError) => None,
+    }
+}
+
 // The verdict on the object of this index, where the part of the history on it is known; and how many configurations were
-// stored.
+// stored: none by a first search, which goes before unless workers are wanted at once.
 fn judge_object<R: AllocGlobal + Threads + Sync, G: Gate>(
     rt: &R,
     history: &History,
@@ -33,6 +65,11 @@ fn judge_object<R: AllocGlobal + Threads + Sync, G: Gate>(
     ensures { IfOk result (λ judged. IsObjectVerdict (part_of history.now object)
         options.now.limit judged.0) }
 {
+    if !gate.wants_workers() {
+        if let Some(order) = first_order(rt.alloc(), problem, options.limit()) {
+            return Ok((ObjectVerdict::Yes(order), 0));
+        }
+    }
     match check_object(rt, problem, options, gate) {
         Ok(judged) => Ok(judged),
         Err(CheckFault::Memory) => Err(AllocError),
@@ -97,7 +134,9 @@ fn judge<R: AllocGlobal + Threads + Sync, G: Gate>(
 }
 
 /// Checks a history. Its objects are searched in the order of declaration, each as `check_object` does with these options;
-/// the first that has no linearization, or that is not decided within the limit, ends the check.
+/// the first that has no linearization, or that is not decided within the limit, ends the check. Before an object of which
+/// it is known which calls need which, a queue that starts empty, a first search is made (`search_first`), unless the gate
+/// wants workers; where that finds the order, nothing is stored for the object.
 ///
 /// The verdict is the same for every number of workers and shards and on every schedule. `CheckFault::Memory` where the
 /// calling thread was refused memory. It may wait, for its workers.
