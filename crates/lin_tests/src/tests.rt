@@ -7,6 +7,7 @@ mod command_line;
 mod cuts;
 mod devices;
 mod fakes;
+mod first_searches;
 mod histories;
 mod objects;
 mod program;

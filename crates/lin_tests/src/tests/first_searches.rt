@@ -1,0 +1,42 @@
+//! The search that passes over calls which need others answers as the search without a memo does.
+
+use super::random::random_history;
+use super::searches::{Part, plainly_searched};
+use lin_ahead::known_needs;
+use lin_object::Kind;
+use lin_search::{FirstAnswer, Outcome, search_first};
+use std::alloc::{AllocError, Global};
+
+// Whether the first search answered what the search without a memo did.
+fn is_as_plain(first: &FirstAnswer, plain: &Outcome) -> bool {
+    match (first, plain) {
+        (FirstAnswer::Found(order), Outcome::Found(least)) => order.calls() == least.calls(),
+        (FirstAnswer::Refuted, Outcome::Refuted(_)) => true,
+        _ => false,
+    }
+}
+
+// Whether both answer the same of a problem of which it is known which calls need which.
+fn first_is_as_plain(alloc: Global, problem: &Part) -> Result<bool, AllocError> {
+    let Some(rows) = known_needs(alloc, problem)? else {
+        return Ok(false);
+    };
+    let first = search_first(alloc, problem, &rows, 1_000_000)?;
+    Ok(is_as_plain(&first, &plainly_searched(alloc, problem)?))
+}
+
+// The same of a random history of a queue.
+fn first_is_as_plain_on(alloc: Global, seed: u64) -> Result<bool, AllocError> {
+    let history = random_history(alloc, Kind::Queue, seed);
+    if history.object_count() == 0 {
+        return Ok(false);
+    }
+    first_is_as_plain(alloc, &history.problem(alloc, 0)?)
+}
+
+#[test]
+fn first_search_answers_as_the_plain_search(rt: HostRuntime) {
+    for seed in 0..200 {
+        assert!(rt; matches!(first_is_as_plain_on(rt.alloc(), seed), Ok(true)));
+    }
+}
