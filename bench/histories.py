@@ -83,6 +83,21 @@ class Queue(Buffer):
     kind, put, take, end = "queue", "enq", "deq", 0
 
 
+class Backlog(Queue):
+    """A queue that is filled up to so many items and then emptied, again and again."""
+
+    def __init__(self, most):
+        super().__init__()
+        self.most, self.is_filling = most, True
+
+    def choose(self, chance, number):
+        if len(self.items) >= self.most:
+            self.is_filling = False
+        elif not self.items:
+            self.is_filling = True
+        return (self.put, number) if self.is_filling else (self.take, None)
+
+
 class Stack(Buffer):
     kind, put, take, end = "stack", "push", "pop", -1
 
@@ -205,6 +220,10 @@ def buffer_swapped(model):
     return lambda calls: lines("b", model.kind, with_swapped_results(simulated(model(), 6, calls), model.take))
 
 
+def backlog(most):
+    return lambda calls: lines("b", Queue.kind, simulated(Backlog(most), 6, calls))
+
+
 def sequential(calls):
     """Writes and reads of one register, of which one in eight overlaps the next."""
     yield declared("x")
@@ -281,6 +300,7 @@ class Family(NamedTuple):
 
 CALLS = [512, 1024, 2048, 4096]
 MORE_CALLS = [*CALLS, 8192, 16384]
+BACKLOG_CALLS = [400, *MORE_CALLS]
 ALL_CALLS = [65536, 131072, 262144]
 FAMILIES = {
     "calls": Family("short lines, registers of 4,096 calls; read only", "calls", ALL_CALLS, 2, calls),
@@ -297,6 +317,10 @@ FAMILIES = {
     "register_10_no": Family("the same, and an impossible read", "calls", CALLS, 1, register_refuted(10)),
     "queue": Family("a queue, 6 processes", "calls", CALLS, 0, buffer(Queue)),
     "queue_no": Family("the same, two results swapped", "calls", CALLS, 1, buffer_swapped(Queue)),
+    **{
+        f"backlog_{most}": Family(f"a queue filled to {most} items and emptied, 6 processes", "calls", BACKLOG_CALLS, 0, backlog(most))
+        for most in (16, 32, 64, 128)
+    },
     "stack": Family("a stack, 6 processes", "calls", CALLS, 0, buffer(Stack)),
     "stack_no": Family("the same, two results swapped", "calls", CALLS, 1, buffer_swapped(Stack)),
     "map": Family("a map of 16 keys, 6 processes", "calls", CALLS, 0, maps),
