@@ -20,18 +20,18 @@ use std::alloc::{AllocError, Global};
 use std::ops::ControlFlow;
 use std::thread::Threads;
 
-// The most lifts of a first search, which goes before the search of an object of which it is known which calls need
-// which.
-const LIFTS_AHEAD: u64 = 300_000;
+// The most lifts of a first search for each call of the object. Where what the calls need is enough to decide it, a queue
+// with a backlog takes one lift for each call; where it is not, a search that goes before another is to cost little.
+const LIFTS_AHEAD: u64 = 8;
 
-// How many lifts a first search may make: no more than the limit, where there is one.
-fn lifts_ahead(limit: Option<u64>) -> u64
-    ensures within { IfSome limit (λ most. result ≤ most) }
-    ensures few { result ≤ LIFTS_AHEAD }
+// How many lifts a first search of so many calls may make: no more than the limit, where there is one.
+fn lifts_ahead(calls: usize, limit: Option<u64>) -> u64
+    ensures { IfSome limit (λ most. result ≤ most) }
 {
+    let lifts = LIFTS_AHEAD.saturating_mul(calls as u64);
     match limit {
-        Some(most) => most.min(LIFTS_AHEAD),
-        None => LIFTS_AHEAD,
+        Some(most) => most.min(lifts),
+        None => lifts,
     }
 }
 
@@ -43,7 +43,8 @@ fn first_order(alloc: Global, problem: &Problem<AnyObject>, limit: Option<u64>) 
     let Ok(Some(rows)) = known_needs(alloc, problem) else {
         return None;
     };
-    match search_first(alloc, problem, &rows, lifts_ahead(limit)) {
+    let lifts = lifts_ahead(problem.len(), limit);
+    match search_first(alloc, problem, &rows, lifts) {
         Ok(FirstAnswer::Found(order)) => Some(order),
         Ok(FirstAnswer::Refuted | FirstAnswer::Exhausted) | Err(AllocError) => None,
     }
