@@ -1,5 +1,6 @@
 pub mod ProgressLemmas
 pub mod LookupLemmas
+pub mod HandedLemmas
 pub mod MemoLemmas
 pub mod LinksLemmas
 pub mod CallEntriesLemmas

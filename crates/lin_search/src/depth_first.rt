@@ -85,6 +85,7 @@ pub(crate) fn note_at<O: SeqObject, M: Memo<O>>(
         root frames config None
         → HoldsSearched (problem_of O.after O.State.eq O.Reply.eq problem.now) (M.holds memo.new)
         root frames config None × M.holds memo.new config.lifted config.state }
+    ensures kept { IsKept result → M.holds memo.new config.lifted config.state }
     ensures changes { M.changes memo.old memo.new }
 {
     lawful::<O>();

@@ -94,6 +94,7 @@ fn check_over_memo<O: SeqObject>(
     ensures bound { IfOk result (λ checked. IfSome checked (λ r. r.1 < 2 ^ 54)) }
     ensures at_most { IfOk result (λ checked. IfSome checked (λ r. (n : ℕ) → IsNumberReachable
         (problem_of O.after O.State.eq O.Reply.eq problem.now) n → r.1 ≤ n)) }
+    ensures memo { memo.new.problem ≡ memo.old.problem }
 {
     lawful::<O>();
     let decided = decide_alone(alloc, problem, memo, lifts, limit)?;
@@ -104,26 +105,27 @@ fn check_over_memo<O: SeqObject>(
     }
 }
 
-// The same over a memo of its own.
-fn check_alone<O: SeqObject>(
+// The same, within the lifts that the calling thread makes by itself; `None` also where the gate wants workers at once.
+fn check_alone<O: SeqObject, G: Gate>(
     alloc: Global,
     problem: &Problem<O>,
-    lifts: Option<u64>,
-    limit: Option<u64>,
+    memo: &mut OwnMemo<'_, O>,
+    options: &Options,
+    gate: &G,
 ) -> Result<Option<(ObjectVerdict, u64)>, AllocError>
+    requires { memo.old.problem ≡ problem.now }
     ensures verdict { IfOk result (λ checked. IfSome checked (λ r. IsObjectVerdict
-        (problem_of O.after O.State.eq O.Reply.eq problem.now) limit r.0)) }
+        (problem_of O.after O.State.eq O.Reply.eq problem.now) options.now.limit r.0)) }
     ensures bound { IfOk result (λ checked. IfSome checked (λ r. r.1 < 2 ^ 54)) }
     ensures at_most { IfOk result (λ checked. IfSome checked (λ r. (n : ℕ) → IsNumberReachable
         (problem_of O.after O.State.eq O.Reply.eq problem.now) n → r.1 ≤ n)) }
+    ensures memo { memo.new.problem ≡ memo.old.problem }
 {
-    check_over_memo(
-        alloc,
-        problem,
-        &mut OwnMemo::new(alloc, problem),
-        lifts,
-        limit,
-    )
+    if gate.wants_workers() {
+        return Ok(None);
+    }
+    let lifts = lifts_alone(options.workers(), options.limit());
+    check_over_memo(alloc, problem, memo, lifts, options.limit())
 }
 
 // The verdict by the tasks of a cut, which workers share that have these hands.
@@ -192,11 +194,19 @@ fn decide_over<O: SharedObject, R: Threads + Sync, G: Gate>(
     decide_with_workers(rt, alloc, problem, table, &mut memo, hands, gate, limit)
 }
 
-// The verdict over the table with these hands, and the hands.
+// Hands what the memo has on to the table, by this hand.
+fn hand_on<O: SeqObject>(memo: OwnMemo<'_, O>, table: &Table<'_, O>, own: &mut Hand<O>)
+    requires { IsHandOf table.now own.old }
+    ensures { IsHandOf table.now own.new }
+{
+    memo.hand_on(&mut SharedMemo::new(table, own));
+}
+
+// The verdict over the table with these hands, and the hands. What the memo has is in the table before workers start.
 fn decide_by_all<O: SharedObject, R: Threads + Sync, G: Gate>(
     rt: &R,
     alloc: Global,
-    problem: &Problem<O>,
+    memo: OwnMemo<'_, O>,
     table: &Table<'_, O>,
     mut hands: Vec<Hand<O>>,
     gate: &G,
@@ -205,36 +215,38 @@ fn decide_by_all<O: SharedObject, R: Threads + Sync, G: Gate>(
     requires count { (2 ≤ vec_len hands) × (vec_len hands ≤ 65) }
     requires hands { All (IsHandOf table.now) hands.items }
     ensures verdict { IfOk result.0 (IsObjectVerdict
-        (problem_of O.after O.State.eq O.Reply.eq problem.now) limit) }
+        (problem_of O.after O.State.eq O.Reply.eq memo.entry.problem) limit) }
     ensures hands { All (IsHandOf table.now) result.1.items }
     ensures count { vec_len result.1 ≡ vec_len hands }
 {
     let Some(mut own) = hands.pop() else {
         unreachable!()
     };
+    let problem = memo.problem();
+    hand_on(memo, table, &mut own);
     let verdict = decide_over(rt, alloc, problem, table, &mut own, &mut hands, gate, limit);
     hands.push_reserved(own);
     (verdict, hands)
 }
 
-// The verdict, and how many configurations were stored, over a table of its own.
+// The verdict, and how many configurations were stored, over a table that has at first what the memo has.
 fn check_over_table<O: SharedObject, R: Threads + Sync, G: Gate>(
     rt: &R,
     alloc: Global,
-    problem: &Problem<O>,
+    memo: OwnMemo<'_, O>,
     options: &Options,
     gate: &G,
 ) -> Result<(ObjectVerdict, u64), AllocError>
     ensures verdict { IfOk result (λ r. IsObjectVerdict
-        (problem_of O.after O.State.eq O.Reply.eq problem.now) options.now.limit r.0) }
+        (problem_of O.after O.State.eq O.Reply.eq memo.entry.problem) options.now.limit r.0) }
     ensures bound { IfOk result (λ r. r.1 < 2 ^ 54) }
     ensures at_most { IfOk result (λ r. (n : ℕ) → IsNumberReachable
-        (problem_of O.after O.State.eq O.Reply.eq problem.now) n → r.1 ≤ n) }
+        (problem_of O.after O.State.eq O.Reply.eq memo.entry.problem) n → r.1 ≤ n) }
 {
     let shards = options.shards() as usize;
     let workers = options.workers() as usize;
-    let (table, hands) = Table::new(alloc, problem, shards, workers + 1)?;
-    let (verdict, hands) = decide_by_all(rt, alloc, problem, &table, hands, gate, options.limit());
+    let (table, hands) = Table::new(alloc, memo.problem(), shards, workers + 1)?;
+    let (verdict, hands) = decide_by_all(rt, alloc, memo, &table, hands, gate, options.limit());
     let Ok(stored) = table.total(hands) else {
         unreachable!()
     };
@@ -242,7 +254,7 @@ fn check_over_table<O: SharedObject, R: Threads + Sync, G: Gate>(
 }
 
 // The verdict, and how many configurations were stored: by the calling thread alone where it has it within its own lifts
-// and the gate wants no workers at once, or else over a table.
+// and the gate wants no workers at once, or else over a table, which has at first what the calling thread refuted.
 fn check_by_any<O: SharedObject, R: Threads + Sync, G: Gate>(
     rt: &R,
     alloc: Global,
@@ -256,13 +268,10 @@ fn check_by_any<O: SharedObject, R: Threads + Sync, G: Gate>(
     ensures at_most { IfOk result (λ r. (n : ℕ) → IsNumberReachable
         (problem_of O.after O.State.eq O.Reply.eq problem.now) n → r.1 ≤ n) }
 {
-    if gate.wants_workers() {
-        return check_over_table(rt, alloc, problem, options, gate);
-    }
-    let lifts = lifts_alone(options.workers(), options.limit());
-    match check_alone(alloc, problem, lifts, options.limit())? {
+    let mut memo = OwnMemo::new(alloc, problem);
+    match check_alone(alloc, problem, &mut memo, options, gate)? {
         Some(checked) => Ok(checked),
-        None => check_over_table(rt, alloc, problem, options, gate),
+        None => check_over_table(rt, alloc, memo, options, gate),
     }
 }
 
@@ -271,10 +280,11 @@ fn check_by_any<O: SharedObject, R: Threads + Sync, G: Gate>(
 ///
 /// The calling thread begins alone, over a memo of its own: for 1,000,000 lifts at most, or without such a bound where there is
 /// one worker. What it has not decided then is cut into tasks, which as many workers share as the options say, but not more
-/// than there are tasks; a gate that wants workers has them at once. The tasks are then taken in their order, and the calling
-/// thread searches each that has no outcome. The verdict is the same for every
-/// number of workers and shards and on every schedule; with a limit, which bounds the search of each task, it may be
-/// `Undecided`, and that only where there are more runs than the limit.
+/// than there are tasks; they begin with what the calling thread refuted, which it hands on to their table as far as there is
+/// memory. A gate that wants workers has them at once. The tasks are then taken in their order, and the calling thread
+/// searches each that has no outcome. The verdict is the same for every number of workers and shards and on every schedule;
+/// with a limit, which bounds the search of each task, it may be `Undecided`, and that only where there are more runs than the
+/// limit.
 ///
 /// The number stored is below 2^54 and at most that of the reachable configurations. `CheckFault::Memory` where the calling
 /// thread was refused memory; a worker that was refused some leaves its task to the calling thread, and where no thread can be

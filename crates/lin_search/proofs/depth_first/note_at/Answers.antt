@@ -15,3 +15,11 @@ returns-else-is_for_problem-clause-holds g c =
       holds_noted (alike_itself c.lawful.ensures c.args.problem.now) _ (g.M.Memo.holds c.args.memo.now) (g.M.Memo.holds c.note_parts.new.self) root frames c.args.config (rw (c.into_parts-lifted.ensures.lifted, c.into_parts-lifted.ensures.state) at c.note_parts.ensures.only) (g.met.M.Memo.lasting _ _ c.note_parts.ensures.changes) (g.met.M.Memo.at_equal c.note_parts.new.self) k,
       rw (c.into_parts-lifted.ensures.lifted, c.into_parts-lifted.ensures.state) at (c.note_parts.ensures.held kept),
     )
+
+pub returns-then-is_for_problem-clause-kept : goal.returns-then-is_for_problem-clause-kept
+returns-then-is_for_problem-clause-kept g c =
+    λ kept. rw (c.into_parts-lifted.ensures.lifted, c.into_parts-lifted.ensures.state) at (c.note_here.ensures.held kept)
+
+pub returns-else-is_for_problem-clause-kept : goal.returns-else-is_for_problem-clause-kept
+returns-else-is_for_problem-clause-kept g c =
+    λ kept. rw (c.into_parts-lifted.ensures.lifted, c.into_parts-lifted.ensures.state) at (c.note_parts.ensures.held kept)
