@@ -4,3 +4,5 @@ pub mod AnyLemmas
 pub mod ToldLemmas
 pub mod RowLemmas
 pub mod ExactLemmas
+pub mod NeedsLemmas
+pub mod FirstLemmas

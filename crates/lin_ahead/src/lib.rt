@@ -1,14 +1,23 @@
-//! What the calls of a queue tell of which calls need which, before any search (this project's own).
+//! What the calls of a queue tell of which calls need which, before any search, and a first search that goes by it (this
+//! project's own).
 //!
 //! - `item_calls`: what the calls tell of one item: how many put it in, and when it was taken out.
 //! - `each_item`: the same of each item, by one pass over the calls.
 //! - `numbers`: the two numbers of a call.
 //! - `look_ahead`: the rows of these numbers for a whole problem.
+//! - `first_search`: a search that passes over calls that need one left out; `needed_calls`: the calls by how early they are
+//!   needed; `refuted_set`: what it has refuted; `first_answer`: what it answers.
 #![tactic(auto)]
 
 mod each_item;
+mod first_answer;
+mod first_search;
 mod item_calls;
 mod look_ahead;
+mod needed_calls;
 mod numbers;
+mod refuted_set;
 
+pub use first_answer::FirstAnswer;
+pub use first_search::search_first;
 pub use look_ahead::known_needs;

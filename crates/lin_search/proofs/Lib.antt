@@ -12,6 +12,3 @@ pub mod LiftedSetLemmas
 pub mod WeightLemmas
 pub mod WindowLemmas
 pub mod CallSetFieldsLemmas
-pub mod ScoutingLemmas
-pub mod NeedsLemmas
-pub mod FirstLemmas

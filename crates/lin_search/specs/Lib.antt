@@ -23,6 +23,3 @@ pub mod ReachableLemmas
 pub mod CountLemmas
 pub mod Path
 pub mod Progress
-pub mod Scouting
-pub mod FirstAnswer
-pub mod FirstProgress

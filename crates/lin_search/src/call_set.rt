@@ -227,7 +227,7 @@ impl CallSet {
         })
     }
 
-    pub(crate) fn copy(&self, alloc: Global) -> Result<CallSet, AllocError>
+    pub fn copy(&self, alloc: Global) -> Result<CallSet, AllocError>
         ensures { IfOk result (λ set. set ≡ self.now) }
     {
         Ok(CallSet {

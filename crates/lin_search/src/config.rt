@@ -249,8 +249,8 @@ impl<O: SeqObject> Config<O> {
         Ok(())
     }
 
-    // The calls that are lifted.
-    pub(crate) fn lifted(&self) -> &CallSet
+    /// The calls that are lifted.
+    pub fn lifted(&self) -> &CallSet
         ensures { result.now ≡ self.now.lifted }
     {
         &self.lifted

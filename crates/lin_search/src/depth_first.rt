@@ -46,8 +46,8 @@ impl Ended {
     }
 }
 
-// Asks the memo for a configuration; `is_for_problem` tells that it names the problem.
-pub(crate) fn look_at<O: SeqObject, M: Memo<O>>(
+/// Asks the memo for a configuration; `is_for_problem` tells that it names the problem.
+pub fn look_at<O: SeqObject, M: Memo<O>>(
     problem: &Problem<O>,
     config: &Config<O>,
     memo: &mut M,
@@ -69,8 +69,8 @@ pub(crate) fn look_at<O: SeqObject, M: Memo<O>>(
     }
 }
 
-// Hands the memo a refuted configuration; `is_for_problem` tells that it names the problem.
-pub(crate) fn note_at<O: SeqObject, M: Memo<O>>(
+/// Hands the memo a refuted configuration; `is_for_problem` tells that it names the problem.
+pub fn note_at<O: SeqObject, M: Memo<O>>(
     problem: &Problem<O>,
     config: Config<O>,
     longest: Longest,
@@ -464,8 +464,8 @@ fn search_on<O: SeqObject, M: Memo<O>, S: Stop>(
     }
 }
 
-// What is known of a configuration before a call is tried: it is complete, or the memo has it.
-pub(crate) fn known_of<O: SeqObject, M: Memo<O>>(
+/// What is known of a configuration before a call is tried: it is complete, or the memo has it.
+pub fn known_of<O: SeqObject, M: Memo<O>>(
     alloc: Global,
     problem: &Problem<O>,
     config: &Config<O>,

@@ -147,7 +147,7 @@ impl<'p, O: SeqObject> Entries<'p, O> {
     }
 
     /// The problem.
-    pub(crate) fn problem(&self) -> &'p Problem<O>
+    pub fn problem(&self) -> &'p Problem<O>
         ensures { result.now ≡ self.now.problem }
     {
         self.problem

@@ -13,8 +13,8 @@ pub struct Longest {
 }
 
 impl Longest {
-    // What is known before a call was tried: the continuation with no call.
-    pub(crate) fn none() -> Longest
+    /// What is known before a call was tried: the continuation with no call.
+    pub fn none() -> Longest
         ensures { result ≡ record { more = 0; first = None } }
     {
         Longest {

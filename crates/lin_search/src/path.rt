@@ -15,10 +15,10 @@ use lin_object::SeqObject;
 use std::alloc::{AllocError, Global};
 use std::marker::Model;
 
-// A state on the path of a search, the call that leads on from it, and what the continuations that begin with a call
-// before that one tell. Its set of calls is not kept: it is the one that the search is at, without the calls since.
+/// A state on the path of a search, the call that leads on from it, and what the continuations that begin with a call
+/// before that one tell. Its set of calls is not kept: it is the one that the search is at, without the calls since.
 #[derive(Drop)]
-pub(crate) struct Frame<O: SeqObject> {
+pub struct Frame<O: SeqObject> {
     state: O::State,
     call: usize,
     longest: Longest,
@@ -33,8 +33,8 @@ impl<O: SeqObject> Model for Frame<O> {
 }
 
 impl<O: SeqObject> Frame<O> {
-    // The state, the call, and what the calls before that one tell.
-    pub(crate) fn new(state: O::State, call: usize, longest: Longest) -> Self
+    /// The state, the call, and what the calls before that one tell.
+    pub fn new(state: O::State, call: usize, longest: Longest) -> Self
         ensures { result ≡ record { state = state; call = call; longest = longest } }
     {
         Frame {
@@ -44,15 +44,15 @@ impl<O: SeqObject> Frame<O> {
         }
     }
 
-    // The call.
-    pub(crate) fn call(&self) -> usize
+    /// The call.
+    pub fn call(&self) -> usize
         ensures { result ≡ self.now.call }
     {
         self.call
     }
 
-    // What the calls before it tell.
-    pub(crate) fn longest(&self) -> Longest
+    /// What the calls before it tell.
+    pub fn longest(&self) -> Longest
         ensures { result ≡ self.now.longest }
     {
         self.longest
@@ -69,8 +69,8 @@ impl<O: SeqObject> Frame<O> {
         self.longest.or_after(self.call, deep)
     }
 
-    // The state.
-    pub(crate) fn into_state(self) -> O::State
+    /// The state.
+    pub fn into_state(self) -> O::State
         ensures { result ≡ self.state }
     {
         self.state
@@ -114,26 +114,31 @@ fn entries_without<'p, O: SeqObject>(
     Ok(entries)
 }
 
-// Which call is tried next, the candidate, and what the calls before it tell.
+/// Which call is tried next, the candidate, and what the calls before it tell.
 #[derive(Clone, Copy, Drop)]
-pub(crate) struct Position {
-    pub(crate) longest: Longest,
-    pub(crate) candidate: Option<usize>,
+pub struct Position {
+    /// What the calls before the candidate tell.
+    pub longest: Longest,
+    /// The call that is tried next; `None` where each was tried.
+    pub candidate: Option<usize>,
 }
 
-// The path of a search from its root: the configuration that it is at, which changes in place, the entries of the
-// problem, without those of the calls lifted, and a frame for each call that the search will come back to.
+/// The path of a search from its root: the configuration that it is at, which changes in place, the entries of the
+/// problem, without those of the calls lifted, and a frame for each call that the search will come back to.
 #[derive(Drop)]
-pub(crate) struct Path<'p, O: SeqObject> {
+pub struct Path<'p, O: SeqObject> {
     alloc: Global,
-    entries: Entries<'p, O>,
-    config: Config<O>,
-    frames: Vec<Frame<O>>,
+    /// The entries of the problem, without those of the calls lifted.
+    pub entries: Entries<'p, O>,
+    /// The configuration that the search is at.
+    pub config: Config<O>,
+    /// A frame for each call that the search will come back to, the latest last.
+    pub frames: Vec<Frame<O>>,
 }
 
 impl<'p, O: SeqObject> Path<'p, O> {
-    // The path of a search from the configuration: no frame yet. There is room for a frame for each call.
-    pub(crate) fn new(
+    /// The path of a search from the configuration: no frame yet. There is room for a frame for each call.
+    pub fn new(
         alloc: Global,
         problem: &'p Problem<O>,
         config: Config<O>,
@@ -154,22 +159,22 @@ impl<'p, O: SeqObject> Path<'p, O> {
         })
     }
 
-    // The problem.
-    pub(crate) fn problem(&self) -> &'p Problem<O>
+    /// The problem.
+    pub fn problem(&self) -> &'p Problem<O>
         ensures { result.now ≡ self.now.entries.problem }
     {
         self.entries.problem()
     }
 
-    // The configuration that the search is at.
-    pub(crate) fn config(&self) -> &Config<O>
+    /// The configuration that the search is at.
+    pub fn config(&self) -> &Config<O>
         ensures { result.now ≡ self.now.config }
     {
         &self.config
     }
 
-    // The entries of the problem that are left.
-    pub(crate) fn entries(&self) -> &Entries<'p, O>
+    /// The entries of the problem that are left.
+    pub fn entries(&self) -> &Entries<'p, O>
         ensures { result.now ≡ self.now.entries }
     {
         &self.entries
@@ -182,8 +187,8 @@ impl<'p, O: SeqObject> Path<'p, O> {
         self.config
     }
 
-    // Whether every completed call is lifted.
-    pub(crate) fn is_complete(&self) -> bool
+    /// Whether every completed call is lifted.
+    pub fn is_complete(&self) -> bool
         ensures { IsTrue result ↔ HasEveryCompleted
             (problem_of O.after O.State.eq O.Reply.eq self.now.entries.problem)
             (lifted_set (problem_of O.after O.State.eq O.Reply.eq self.now.entries.problem)
@@ -192,8 +197,8 @@ impl<'p, O: SeqObject> Path<'p, O> {
         self.entries.is_complete()
     }
 
-    // The state that the call leads to; `None` exactly where the call can't follow.
-    pub(crate) fn next_state(&self, call: usize) -> Result<Option<O::State>, AllocError>
+    /// The state that the call leads to; `None` exactly where the call can't follow.
+    pub fn next_state(&self, call: usize) -> Result<Option<O::State>, AllocError>
         requires reachable { IsReachable (problem_of O.after O.State.eq O.Reply.eq
             self.now.entries.problem) self.now.config.lifted self.now.config.state }
         requires minimal { IsMinimal (problem_of O.after O.State.eq O.Reply.eq
@@ -212,8 +217,8 @@ impl<'p, O: SeqObject> Path<'p, O> {
         self.config.next_state(self.alloc, self.problem(), call)
     }
 
-    // The position at a configuration of which no call was tried.
-    pub(crate) fn enter(&self) -> Position
+    /// The position at a configuration of which no call was tried.
+    pub fn enter(&self) -> Position
         requires { lifted_set (problem_of O.after O.State.eq O.Reply.eq self.now.entries.problem)
             self.now.entries.lifted ≡ self.now.config.lifted }
         ensures longest { result.longest ≡ record { more = 0; first = None } }
@@ -226,8 +231,8 @@ impl<'p, O: SeqObject> Path<'p, O> {
         }
     }
 
-    // The position after the call, with what the calls up to it tell.
-    pub(crate) fn after(&self, call: usize, longest: Longest) -> Position
+    /// The position after the call, with what the calls up to it tell.
+    pub fn after(&self, call: usize, longest: Longest) -> Position
         requires lifted { lifted_set (problem_of O.after O.State.eq O.Reply.eq
             self.now.entries.problem) self.now.entries.lifted ≡ self.now.config.lifted }
         requires minimal { IsMinimal (problem_of O.after O.State.eq O.Reply.eq
@@ -242,8 +247,8 @@ impl<'p, O: SeqObject> Path<'p, O> {
         }
     }
 
-    // Lifts the frame's call, which leads to the frame's state. The state before it comes into the frame.
-    pub(crate) fn lift(&mut self, frame: &mut Frame<O>) -> Result<(), AllocError>
+    /// Lifts the frame's call, which leads to the frame's state. The state before it comes into the frame.
+    pub fn lift(&mut self, frame: &mut Frame<O>) -> Result<(), AllocError>
         requires lifted { lifted_set (problem_of O.after O.State.eq O.Reply.eq
             self.old.entries.problem) self.old.entries.lifted ≡ self.old.config.lifted }
         requires minimal { IsMinimal (problem_of O.after O.State.eq O.Reply.eq
@@ -264,9 +269,9 @@ impl<'p, O: SeqObject> Path<'p, O> {
         self.config.lift(frame.call, &mut frame.state)
     }
 
-    // Takes the frame's call, which was lifted last, back, and puts the frame's state in again. The state that the call
-    // led to comes into the frame.
-    pub(crate) fn unlift(&mut self, frame: &mut Frame<O>) -> Result<(), AllocError>
+    /// Takes the frame's call, which was lifted last, back, and puts the frame's state in again. The state that the call
+    /// led to comes into the frame.
+    pub fn unlift(&mut self, frame: &mut Frame<O>) -> Result<(), AllocError>
         requires lifted { lifted_set (problem_of O.after O.State.eq O.Reply.eq
             self.old.entries.problem) self.old.entries.lifted ≡ self.old.config.lifted }
         requires last { (before : List ℕ)
@@ -369,16 +374,16 @@ impl<'p, O: SeqObject> Path<'p, O> {
         Ok((Config::from_parts(lifted, frame.into_state()), position))
     }
 
-    // The calls on the path, in order, and then this one.
-    pub(crate) fn order_through(&self, call: usize) -> Result<Order, AllocError>
+    /// The calls on the path, in order, and then this one.
+    pub fn order_through(&self, call: usize) -> Result<Order, AllocError>
         ensures { IfOk result (λ order. order ≡ calls_of self.now.frames.items ++ call ∷ []) }
     {
         order_through(self.alloc, self.frames.as_slice(), call)
     }
 
-    // Goes on from the configuration that the frame's call, which was lifted last, led to: to the position there. The
-    // search will come back to the frame.
-    pub(crate) fn descend(&mut self, frame: Frame<O>) -> Result<Position, AllocError>
+    /// Goes on from the configuration that the frame's call, which was lifted last, led to: to the position there. The
+    /// search will come back to the frame.
+    pub fn descend(&mut self, frame: Frame<O>) -> Result<Position, AllocError>
         requires { lifted_set (problem_of O.after O.State.eq O.Reply.eq self.old.entries.problem)
             self.old.entries.lifted ≡ self.old.config.lifted }
         ensures entries { self.new.entries ≡ self.old.entries }
@@ -395,8 +400,8 @@ impl<'p, O: SeqObject> Path<'p, O> {
         Ok(self.enter())
     }
 
-    // The last frame, which is taken off.
-    pub(crate) fn pop(&mut self) -> Option<Frame<O>>
+    /// The last frame, which is taken off.
+    pub fn pop(&mut self) -> Option<Frame<O>>
         ensures entries { self.new.entries ≡ self.old.entries }
         ensures config { self.new.config ≡ self.old.config }
         ensures some { IfSome result (λ frame. self.old.frames.items

@@ -6,3 +6,4 @@ pub mod TaskLemmas
 pub mod ValueLemmas
 mod OutcomeLemmas
 mod VerdictLemmas
+pub mod ScoutingLemmas

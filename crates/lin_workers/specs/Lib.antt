@@ -6,3 +6,4 @@ pub mod Values
 pub mod Options
 pub mod Outcomes
 pub mod Verdict
+pub mod Scouting

@@ -2,8 +2,8 @@
 //!
 //! - `check`: the check of one object, by the calling thread alone or with workers; `verdict`: what it finds.
 //! - `cutting`: the search is cut into tasks; `level`: the levels of configurations that a cut is made of.
-//! - `worker`: a worker claims tasks and searches them; `scouting`: it scouts before, in an order of its own; `stop`: its
-//!   search stops where a smaller task was found.
+//! - `worker`: a worker claims tasks and searches them; `scouting`: it scouts before, in an order of its own; `scouts`: what
+//!   a scout does; `stop`: its search stops where a smaller task was found.
 //! - `sharing`: workers in threads; `gathering`: what they brought is put together; `deciding`: the verdict by the tasks in
 //!   their order.
 //! - `gate`: what a worker passes after each claim.
@@ -18,6 +18,7 @@ mod gathering;
 mod level;
 mod options;
 mod scouting;
+mod scouts;
 mod sharing;
 mod stop;
 mod task;
@@ -28,6 +29,7 @@ pub use check::check_object;
 pub use cutting::{LAST_LEVEL, cut};
 pub use gate::{FreeGate, Gate};
 pub use options::{MAX_LIMIT, MAX_SHARDS, MAX_WORKERS, OptionFault, Options};
+pub use scouts::{Scouting, scout};
 pub use task::Task;
 pub use verdict::{CheckFault, ObjectVerdict};
 pub use worker::{Done, work};

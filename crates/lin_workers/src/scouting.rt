@@ -10,12 +10,13 @@ ghost use Rattle.lin_workers.specs.Cut.{IsCut};
 ghost use Rattle.lin_workers.specs.Heard.{HasHeard};
 ghost use Rattle.lin_workers.specs.Values.{AreValues};
 
+use crate::scouts::{Scouting, scout};
 use crate::stop::FoundBefore;
 use crate::task::Task;
 use lin_board::{Board, Seat};
 use lin_history::Problem;
 use lin_object::SeqObject;
-use lin_search::{Config, Memo, Outcome, Scouting, Stop, scout, search};
+use lin_search::{Config, Memo, Outcome, Stop, search};
 use lin_table::{Hand, SharedMemo, Table};
 use std::alloc::{AllocError, Global};
 

@@ -12,12 +12,13 @@ ghost use Rattle.lin_workers.specs.Values.{HasBrought, found_of};
 
 use crate::gate::Gate;
 use crate::scouting::search_scouted;
+use crate::scouts::Scouting;
 use crate::stop::FoundBefore;
 use crate::task::Task;
 use lin_board::{Board, Seat};
 use lin_history::Problem;
 use lin_object::SeqObject;
-use lin_search::{Outcome, Scouting};
+use lin_search::Outcome;
 use lin_table::{Hand, SharedMemo, Table};
 use std::alloc::Global;
 

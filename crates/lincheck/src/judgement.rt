@@ -11,10 +11,9 @@ ghost use Rattle.lin_workers.specs.Verdict.{IsObjectVerdict};
 ghost use Rattle.lincheck.specs.Verdict.{AreLeastOf, IsVerdict};
 
 use crate::verdict::{Checked, Verdict};
-use lin_ahead::known_needs;
+use lin_ahead::{FirstAnswer, known_needs, search_first};
 use lin_history::{History, Order, Problem, join, place};
 use lin_object::AnyObject;
-use lin_search::{FirstAnswer, search_first};
 use lin_workers::{CheckFault, Gate, ObjectVerdict, Options, check_object};
 use std::alloc::{AllocError, Global};
 use std::ops::ControlFlow;

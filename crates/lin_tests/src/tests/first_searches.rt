@@ -2,9 +2,9 @@
 
 use super::random::random_history;
 use super::searches::{Part, plainly_searched};
-use lin_ahead::known_needs;
+use lin_ahead::{FirstAnswer, known_needs, search_first};
 use lin_object::Kind;
-use lin_search::{FirstAnswer, Outcome, search_first};
+use lin_search::Outcome;
 use std::alloc::{AllocError, Global};
 
 // Whether the first search answered what the search without a memo did.

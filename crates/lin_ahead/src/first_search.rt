@@ -1,0 +1,334 @@
+//! A first search: it passes over calls that need one left out, and tells nothing of longest runs.
+ghost use Rattle.std.specs.Prelude.{◌≡◌, ℕ, ◌+◌, ◌<◌, ◌^◌, ◌++◌, ◌∷◌, [], List, Option, Some, None, length, IfOk, IfSome, IfNone};
+ghost use Rattle.lin_history.specs.Problems.Problem.{problem_of};
+ghost use Rattle.lin_history.specs.Problems.Configurations.{IsReachable, IsRefuted};
+ghost use Rattle.lin_history.specs.Problems.Linearizations.{IsLinearization};
+ghost use Rattle.lin_history.specs.Problems.Lists.{IsLeast};
+ghost use Rattle.lin_history.specs.Problems.Needs.{AreNeeds};
+ghost use Rattle.lin_search.specs.CallSet.{with_call, lifted_set};
+ghost use Rattle.lin_search.specs.Entries.{IsMinimal, IsLeastMinimal};
+ghost use Rattle.lin_ahead.specs.FirstAnswer.{IsFirstAnswer};
+ghost use Rattle.lin_ahead.specs.FirstProgress.{BeginsNone, IsFirstProgress, IsFirstTurn, IsFirstLifted, IsFirstStep, IsFirstVisit, left_to_try};
+ghost use Rattle.lin_search.specs.NextCall.{IsNext, HasEveryCompleted};
+ghost use Rattle.lin_search.specs.Path.{calls_of};
+ghost use Rattle.lin_search.specs.Progress.{bound};
+ghost use Rattle.std.proofs.Common.{Break};
+
+use crate::first_answer::FirstAnswer;
+use crate::needed_calls::NeededCalls;
+use crate::refuted_set::RefutedSet;
+use lin_history::{NeedRows, Order, Problem};
+use lin_object::{SeqObject, lawful};
+use lin_search::{Config, Frame, Longest, Path};
+use std::alloc::{AllocError, Global};
+use std::ops::ControlFlow;
+
+// The state of a first search: its path, what it has refuted, the calls by how early they are needed, and how many lifts
+// were made. Of longest continuations it tells nothing: those of its frames are left at none.
+#[derive(Drop)]
+struct FirstSearch<'p, O: SeqObject> {
+    alloc: Global,
+    path: Path<'p, O>,
+    refuted: RefutedSet<O>,
+    needed: NeededCalls,
+    lifts: u64,
+}
+
+impl<'p, O: SeqObject> FirstSearch<'p, O> {
+    // Takes the frame's call, which was lifted last, back, and goes on after it. The state that the call led to comes into
+    // the frame.
+    fn leave(&mut self, frame: &mut Frame<O>) -> Result<Option<usize>, AllocError>
+        requires lifted { lifted_set (problem_of O.after O.State.eq O.Reply.eq
+            self.old.path.entries.problem) self.old.path.entries.lifted
+            ≡ self.old.path.config.lifted }
+        requires last { (before : List ℕ)
+            × (self.old.path.entries.lifted ≡ before ++ frame.old.call ∷ [])
+            × IsMinimal (problem_of O.after O.State.eq O.Reply.eq self.old.path.entries.problem)
+            (lifted_set (problem_of O.after O.State.eq O.Reply.eq self.old.path.entries.problem)
+            before) frame.old.call }
+        ensures problem { self.new.path.entries.problem ≡ self.old.path.entries.problem }
+        ensures frames { self.new.path.frames ≡ self.old.path.frames }
+        ensures refuted { self.new.refuted ≡ self.old.refuted }
+        ensures lifts { self.new.lifts ≡ self.old.lifts }
+        ensures last { (before : List ℕ)
+            → self.old.path.entries.lifted ≡ before ++ frame.old.call ∷ []
+            → self.new.path.entries.lifted ≡ before }
+        ensures lifted { IfOk result (λ next. lifted_set
+            (problem_of O.after O.State.eq O.Reply.eq self.old.path.entries.problem)
+            self.new.path.entries.lifted ≡ self.new.path.config.lifted) }
+        ensures state { IfOk result (λ next. self.new.path.config.state ≡ frame.old.state) }
+        ensures after { IfOk result (λ next. frame.new.state ≡ self.old.path.config.state) }
+        ensures candidate { IfOk result (λ next. IsLeastMinimal
+            (problem_of O.after O.State.eq O.Reply.eq self.old.path.entries.problem)
+            self.new.path.config.lifted (frame.old.call + 1) next) }
+    {
+        self.path.unlift(frame)?;
+        self.needed.unlifted(frame.call());
+        Ok(self.path.after(frame.call(), Longest::none()).candidate)
+    }
+
+    // Goes on from the configuration that the frame's call, which was lifted last, led to: back where it is known to be
+    // refuted, or else from there.
+    fn go_on(&mut self, frame: Frame<O>) -> Result<Option<usize>, AllocError>
+        requires lifted { IsFirstLifted (problem_of O.after O.State.eq O.Reply.eq
+            self.old.path.entries.problem) self.old.refuted self.old.lifts
+            self.old.path.entries.lifted self.old.path.frames.items frame self.old.path.config }
+        requires incomplete { HasEveryCompleted (problem_of O.after O.State.eq O.Reply.eq
+            self.old.path.entries.problem) self.old.path.config.lifted → ⊥ }
+        ensures problem { self.new.path.entries.problem ≡ self.old.path.entries.problem }
+        ensures lifts { self.new.lifts ≡ self.old.lifts }
+        ensures progress { IfOk result (IsFirstProgress (problem_of O.after O.State.eq O.Reply.eq
+            self.old.path.entries.problem) self.new.refuted self.new.lifts
+            self.new.path.entries.lifted self.new.path.frames.items self.new.path.config) }
+    {
+        if self.refuted.has(self.path.config()) {
+            let mut left = frame;
+            let next = self.leave(&mut left)?;
+            return Ok(next);
+        }
+        self.needed.lifted(self.path.config());
+        Ok(self.path.descend(frame)?.candidate)
+    }
+
+    // The calls on the path, in order, and then this one.
+    fn success(&self, call: usize) -> Result<ControlFlow<Order, Option<usize>>, AllocError>
+        ensures { IfOk result (λ visit. visit
+            ≡ Break (calls_of self.now.path.frames.items ++ call ∷ [])) }
+    {
+        Ok(ControlFlow::Break(self.path.order_through(call)?))
+    }
+
+    // Lifts the frame's call, which leads to the frame's state: that is a success where the configuration is complete then.
+    // Else the search goes on from there.
+    fn visit(&mut self, next: Frame<O>) -> Result<ControlFlow<Order, Option<usize>>, AllocError>
+        requires room { self.old.lifts + 1 < 2 ^ 64 }
+        requires turn { IsFirstTurn (problem_of O.after O.State.eq O.Reply.eq
+            self.old.path.entries.problem) self.old.refuted self.old.lifts
+            self.old.path.entries.lifted self.old.path.frames.items self.old.path.config next }
+        ensures problem { self.new.path.entries.problem ≡ self.old.path.entries.problem }
+        ensures lifts { IfOk result (λ visit. self.new.lifts ≡ self.old.lifts + 1) }
+        ensures visit { IfOk result (IsFirstVisit (problem_of O.after O.State.eq O.Reply.eq
+            self.old.path.entries.problem) self.new.refuted self.new.lifts
+            self.new.path.entries.lifted self.new.path.frames.items self.new.path.config) }
+    {
+        let mut frame = next;
+        self.path.lift(&mut frame)?;
+        self.lifts += 1;
+        if self.path.is_complete() {
+            return self.success(frame.call());
+        }
+        Ok(ControlFlow::Continue(self.go_on(frame)?))
+    }
+
+    // The state that the call, which is minimal, leads to. `None` where no completion begins with the call: where it needs
+    // one that is not lifted, or can't follow.
+    fn follow(&self, rows: &NeedRows, call: usize) -> Result<Option<O::State>, AllocError>
+        requires needs { AreNeeds (problem_of O.after O.State.eq O.Reply.eq
+            self.now.path.entries.problem) rows.now }
+        requires reachable { IsReachable (problem_of O.after O.State.eq O.Reply.eq
+            self.now.path.entries.problem) self.now.path.config.lifted self.now.path.config.state }
+        requires minimal { IsMinimal (problem_of O.after O.State.eq O.Reply.eq
+            self.now.path.entries.problem) self.now.path.config.lifted call }
+        ensures next { IfOk result (λ answer. IfSome answer
+            (λ t. IsNext (problem_of O.after O.State.eq O.Reply.eq self.now.path.entries.problem)
+            self.now.path.config.lifted self.now.path.config.state call t)) }
+        ensures reachable { IfOk result (λ answer. IfSome answer (λ t. IsReachable
+            (problem_of O.after O.State.eq O.Reply.eq self.now.path.entries.problem)
+            (with_call self.now.path.config.lifted call) t)) }
+        ensures none { IfOk result (λ answer. IfNone answer (BeginsNone
+            (problem_of O.after O.State.eq O.Reply.eq self.now.path.entries.problem)
+            self.now.path.config.lifted self.now.path.config.state call)) }
+    {
+        lawful::<O>();
+        let problem = self.path.problem();
+        if self
+            .needed
+            .left_out(problem, rows, self.path.config(), call)
+            .is_some()
+        {
+            return Ok(None);
+        }
+        self.path.next_state(call)
+    }
+
+    // Tries the call, the candidate: passes it over where no completion begins with it.
+    fn try_call(
+        &mut self,
+        rows: &NeedRows,
+        call: usize,
+    ) -> Result<ControlFlow<Option<Frame<O>>, Option<usize>>, AllocError>
+        requires needs { AreNeeds (problem_of O.after O.State.eq O.Reply.eq
+            self.old.path.entries.problem) rows.now }
+        requires progress { IsFirstProgress (problem_of O.after O.State.eq O.Reply.eq
+            self.old.path.entries.problem) self.old.refuted self.old.lifts
+            self.old.path.entries.lifted self.old.path.frames.items self.old.path.config
+            (Some call) }
+        ensures same { self.new ≡ self.old }
+        ensures step { IfOk result (IsFirstStep (problem_of O.after O.State.eq O.Reply.eq
+            self.old.path.entries.problem) self.old.refuted self.old.lifts
+            self.old.path.entries.lifted self.old.path.frames.items self.old.path.config
+            (left_to_try (length self.old.path.entries.problem.calls) self.old.path.frames.items
+            call)) }
+    {
+        match self.follow(rows, call)? {
+            Some(state) => {
+                let next = Frame::new(state, call, Longest::none());
+                Ok(ControlFlow::Break(Some(next)))
+            }
+            None => {
+                let position = self.path.after(call, Longest::none());
+                Ok(ControlFlow::Continue(position.candidate))
+            }
+        }
+    }
+
+    // Goes back from a configuration all of whose calls were tried, and which is so refuted: keeps it, and goes on after the
+    // last frame's call. Where there is no frame, the root is refuted.
+    fn go_back(&mut self) -> Result<ControlFlow<Option<Frame<O>>, Option<usize>>, AllocError>
+        requires progress { IsFirstProgress (problem_of O.after O.State.eq O.Reply.eq
+            self.old.path.entries.problem) self.old.refuted self.old.lifts
+            self.old.path.entries.lifted self.old.path.frames.items self.old.path.config None }
+        ensures problem { self.new.path.entries.problem ≡ self.old.path.entries.problem }
+        ensures lifts { self.new.lifts ≡ self.old.lifts }
+        ensures step { IfOk result (IsFirstStep (problem_of O.after O.State.eq O.Reply.eq
+            self.old.path.entries.problem) self.new.refuted self.new.lifts
+            self.new.path.entries.lifted self.new.path.frames.items self.new.path.config
+            (left_to_try (length self.old.path.entries.problem.calls) self.old.path.frames.items
+            (length self.old.path.entries.problem.calls))) }
+    {
+        let Some(frame) = self.path.pop() else {
+            return Ok(ControlFlow::Break(None));
+        };
+        let lifted = self.path.config().lifted().copy(self.alloc)?;
+        let mut frame = frame;
+        let next = self.leave(&mut frame)?;
+        self.refuted
+            .add(Config::from_parts(lifted, frame.into_state()))?;
+        Ok(ControlFlow::Continue(next))
+    }
+
+    // One step with no lift: tries the candidate, or goes back where there is none.
+    fn step(
+        &mut self,
+        rows: &NeedRows,
+        candidate: Option<usize>,
+    ) -> Result<ControlFlow<Option<Frame<O>>, Option<usize>>, AllocError>
+        requires needs { AreNeeds (problem_of O.after O.State.eq O.Reply.eq
+            self.old.path.entries.problem) rows.now }
+        requires progress { IsFirstProgress (problem_of O.after O.State.eq O.Reply.eq
+            self.old.path.entries.problem) self.old.refuted self.old.lifts
+            self.old.path.entries.lifted self.old.path.frames.items self.old.path.config
+            candidate }
+        ensures problem { self.new.path.entries.problem ≡ self.old.path.entries.problem }
+        ensures lifts { self.new.lifts ≡ self.old.lifts }
+        ensures step { IfOk result (IsFirstStep (problem_of O.after O.State.eq O.Reply.eq
+            self.old.path.entries.problem) self.new.refuted self.new.lifts
+            self.new.path.entries.lifted self.new.path.frames.items self.new.path.config
+            (left_to_try (length self.old.path.entries.problem.calls) self.old.path.frames.items
+            (bound (problem_of O.after O.State.eq O.Reply.eq self.old.path.entries.problem)
+            candidate))) }
+    {
+        match candidate {
+            Some(call) => self.try_call(rows, call),
+            None => self.go_back(),
+        }
+    }
+
+    // The next call that is to be lifted, from the candidate on. `None` where there is none, and so no linearization.
+    fn next_turn(
+        &mut self,
+        rows: &NeedRows,
+        candidate: Option<usize>,
+    ) -> Result<Option<Frame<O>>, AllocError>
+        requires needs { AreNeeds (problem_of O.after O.State.eq O.Reply.eq
+            self.old.path.entries.problem) rows.now }
+        requires progress { IsFirstProgress (problem_of O.after O.State.eq O.Reply.eq
+            self.old.path.entries.problem) self.old.refuted self.old.lifts
+            self.old.path.entries.lifted self.old.path.frames.items self.old.path.config
+            candidate }
+        ensures problem { self.new.path.entries.problem ≡ self.old.path.entries.problem }
+        ensures lifts { self.new.lifts ≡ self.old.lifts }
+        ensures turn { IfOk result (λ answer. IfSome answer (IsFirstTurn
+            (problem_of O.after O.State.eq O.Reply.eq self.old.path.entries.problem)
+            self.new.refuted self.new.lifts self.new.path.entries.lifted
+            self.new.path.frames.items self.new.path.config)) }
+        ensures none { IfOk result (λ answer. IfNone answer ((l : List ℕ)
+            → IsLinearization (problem_of O.after O.State.eq O.Reply.eq
+            self.old.path.entries.problem) l → ⊥)) }
+    {
+        let mut at = candidate;
+        loop {
+            match self.step(rows, at)? {
+                ControlFlow::Continue(next) => at = next,
+                ControlFlow::Break(turn) => return Ok(turn),
+            }
+        }
+    }
+
+    // Searches on from the root, which is not complete, with so many lifts at most.
+    fn go(&mut self, rows: &NeedRows, lifts: u64) -> Result<FirstAnswer, AllocError>
+        requires needs { AreNeeds (problem_of O.after O.State.eq O.Reply.eq
+            self.old.path.entries.problem) rows.now }
+        requires progress { (candidate : Option ℕ)
+            → IsLeastMinimal (problem_of O.after O.State.eq O.Reply.eq
+            self.old.path.entries.problem) self.old.path.config.lifted 0 candidate
+            → IsFirstProgress (problem_of O.after O.State.eq O.Reply.eq
+            self.old.path.entries.problem) self.old.refuted self.old.lifts
+            self.old.path.entries.lifted self.old.path.frames.items self.old.path.config
+            candidate }
+        requires lifted { lifted_set (problem_of O.after O.State.eq O.Reply.eq
+            self.old.path.entries.problem) self.old.path.entries.lifted
+            ≡ self.old.path.config.lifted }
+        ensures { IfOk result (IsFirstAnswer (problem_of O.after O.State.eq O.Reply.eq
+            self.old.path.entries.problem) lifts) }
+    {
+        let mut candidate = self.path.enter().candidate;
+        while self.lifts < lifts {
+            let Some(next) = self.next_turn(rows, candidate)? else {
+                return Ok(FirstAnswer::Refuted);
+            };
+            match self.visit(next)? {
+                ControlFlow::Continue(after) => candidate = after,
+                ControlFlow::Break(order) => return Ok(FirstAnswer::Found(order)),
+            }
+        }
+        let Some(_next) = self.next_turn(rows, candidate)? else {
+            return Ok(FirstAnswer::Refuted);
+        };
+        Ok(FirstAnswer::Exhausted)
+    }
+}
+
+/// The search from the root that only asks whether there is a linearization, and for the least one (this project's
+/// own). It makes at most so many lifts. It passes over each call that needs one that is not lifted, as the rows tell,
+/// before a state is made, and it keeps of a refuted configuration only that it is refuted. So it may meet far fewer
+/// configurations than `search`, and what it keeps is of no use to that one.
+///
+/// `Found` with the least linearization; `Refuted` where there is none; `Exhausted` where as many lifts were made and
+/// another was to be made. `AllocError` where memory was refused.
+///
+/// Condition: the rows are right for the problem.
+pub fn search_first<O: SeqObject>(
+    alloc: Global,
+    problem: &Problem<O>,
+    rows: &NeedRows,
+    lifts: u64,
+) -> Result<FirstAnswer, AllocError>
+    requires { AreNeeds (problem_of O.after O.State.eq O.Reply.eq problem.now) rows.now }
+    ensures { IfOk result (IsFirstAnswer (problem_of O.after O.State.eq O.Reply.eq problem.now)
+        lifts) }
+{
+    lawful::<O>();
+    let root = Config::root(alloc, problem)?;
+    if root.is_complete(problem) {
+        return Ok(FirstAnswer::Found(Order::new(Vec::new(alloc))));
+    }
+    let mut search = FirstSearch {
+        alloc,
+        path: Path::new(alloc, problem, root)?,
+        refuted: RefutedSet::new(alloc),
+        needed: NeededCalls::new(alloc, rows)?,
+        lifts: 0,
+    };
+    search.go(rows, lifts)
+}

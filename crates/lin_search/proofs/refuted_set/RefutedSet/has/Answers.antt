@@ -1,6 +1,0 @@
-use Rattle.std.proofs.Common.{sym, ◌∙◌}
-use Rattle.lin_search.proofs.FirstLemmas.{among_if}
-use Rattle.lin_search.proofs.refuted_set.RefutedSet.has.Goals as goal
-
-pub returns : goal.returns
-returns g c = λ h. rw (← c.self.view_is) (among_if _ _ _ (sym c.contains.ensures ∙ h))
