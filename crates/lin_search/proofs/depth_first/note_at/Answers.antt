@@ -1,3 +1,4 @@
+use Rattle.std.proofs.Common.{rules}
 use Rattle.lin_search.specs.SameLemmas.{alike_itself}
 use Rattle.lin_search.proofs.PathLemmas.{holds_noted}
 use Rattle.lin_search.proofs.depth_first.note_at.Goals as goal
@@ -23,3 +24,6 @@ returns-then-is_for_problem-clause-kept g c =
 pub returns-else-is_for_problem-clause-kept : goal.returns-else-is_for_problem-clause-kept
 returns-else-is_for_problem-clause-kept g c =
     λ kept. rw (c.into_parts-lifted.ensures.lifted, c.into_parts-lifted.ensures.state) at (c.note_parts.ensures.held kept)
+
+pub note_here-requires-clause-refuted : goal.note_here-requires-clause-refuted
+note_here-requires-clause-refuted g c = search rules depth 3
