@@ -1,0 +1,5 @@
+use Rattle.std.proofs.Common.{rules}
+use Rattle.lin_ahead.proofs.look_ahead.rows_of.Goals as goal
+
+pub returns-clause-by : goal.returns-clause-by
+returns-clause-by c = search rules depth 3
