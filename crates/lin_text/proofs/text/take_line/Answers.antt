@@ -1,4 +1,4 @@
-use Rattle.std.proofs.Common.{ap, ◌∙◌, arith}
+use Rattle.std.proofs.Common.{rules, ap, ◌∙◌, arith}
 use Rattle.serde_json.specs.View.{view}
 use Rattle.lin_text.specs.Causes.{cause_of}
 use Rattle.lin_text.specs.Line.{seen}
@@ -24,3 +24,18 @@ returns-clause-err c other =
     record { short = omega arith; there = cc (c.is_blank.ensures, c.if-is_blank.false); value = c.in-Ok.ensures.ok } in
     rw c.cause_of.ensures
     (refused_event c.args.format c.args.builder.now c.args.line.now (view c.in-Ok.value) (seen c.in-Ok-read_value.event) _ read c.in-Ok-read_value.ensures (c.in-Err-take_event.ensures.err (λ memory. other (c.cause_of.ensures ∙ ap cause_of memory))))
+
+pub returns-then-is_blank-clause-ok : goal.returns-then-is_blank-clause-ok
+returns-then-is_blank-clause-ok c = search rules depth 3
+
+pub returns-in-Err-clause-err : goal.returns-in-Err-clause-err
+returns-in-Err-clause-err c = search rules depth 3
+
+pub returns-in-Err-clause-memory : goal.returns-in-Err-clause-memory
+returns-in-Err-clause-memory c = search rules depth 3
+
+pub returns-in-Err-read_value-clause-memory : goal.returns-in-Err-read_value-clause-memory
+returns-in-Err-read_value-clause-memory c = search rules depth 3
+
+pub returns-clause-memory : goal.returns-clause-memory
+returns-clause-memory c = search rules depth 3

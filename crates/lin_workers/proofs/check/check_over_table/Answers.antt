@@ -1,4 +1,4 @@
-use Rattle.std.proofs.Common.{◌≡◌, ◌∙◌, ap, sym, subst}
+use Rattle.std.proofs.Common.{rules, ◌≡◌, ◌∙◌, ap, sym, subst}
 use Rattle.std.proofs.lemmas.List.Elements.{All-weaker}
 use Rattle.lin_table.specs.Hand.{HandFacts, IsHandOf, new_hand}
 use Rattle.lin_history.specs.Problems.Problem.{problem_of}
@@ -12,3 +12,6 @@ returns-clause-at_most g c =
 pub decide_by_all-verdict-requires-clause-hands : goal.decide_by_all-verdict-requires-clause-hands
 decide_by_all-verdict-requires-clause-hands g c κs within =
     All-weaker (λ (h : HandFacts g.row.O.Denot g.row.O-State.Denot g.row.O-Op.Denot g.row.O-Reply.Denot). h ≡ new_hand c.in_ok-table.table) (IsHandOf c.in_ok-table.table) (λ h e. (ap (λ x. x.table) e, ap (λ x. x.problem) e)) _ c.in_ok-table.ensures.hands
+
+pub returns-clause-bound : goal.returns-clause-bound
+returns-clause-bound g c = search rules depth 3

@@ -1,4 +1,4 @@
-use Rattle.std.proofs.Common.{◌≡◌, None, nat_eq, sym}
+use Rattle.std.proofs.Common.{rules, ◌≡◌, None, nat_eq, sym}
 use Rattle.indexmap.specs.IndexMap.{get}
 use Rattle.lin_history.proofs.RecorderLemmas.BuilderLemmas.{find-last, find-idle, idle-unknown}
 use Rattle.lin_history.proofs.recorder.builder.last_in.Goals as goal
@@ -13,3 +13,6 @@ pub returns-in_default-2-clause-none : goal.returns-in_default-2-clause-none
 returns-in_default-2-clause-none c =
     let none : get nat_eq c.args.last.now c.args.process ≡ None = sym (rw c.in_default.is at c.get.ensures.value) in
     idle-unknown (get nat_eq c.args.last.now) c.args.calls.now c.args.process c.requires none
+
+pub returns-in-Some-clause-none : goal.returns-in-Some-clause-none
+returns-in-Some-clause-none c = search rules depth 3

@@ -90,3 +90,6 @@ pub add-requires-clause-room : goal.add-requires-clause-room
 add-requires-clause-room c =
     let counted : slice_get c.self.inside.counts.items c.in_ok-object.object ≡ Some c.next_call-call.result.number = search (rules, slice_get_read) in
     rw (c.as_slice-3.ensures.value, counted) at (c.is_full.ensures.room_on c.if-is_full.false)
+
+pub returns-then-is_full-clause-memory : goal.returns-then-is_full-clause-memory
+returns-then-is_full-clause-memory c not_memory = search rules depth 3

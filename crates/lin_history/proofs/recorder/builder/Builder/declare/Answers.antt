@@ -25,3 +25,6 @@ returns-clause-history c =
     let added : AddsNone old (recorded (map object_view c.put.new.objects.entries) c.self.inside.calls.items c.self.inside.events) =
     rw (not_err c.put.result _ c.put.ensures.objects ok, declared) (adds-object old c.args.name.now c.args.kind c.args.start) in
     rw (← c.self.view_is) added
+
+pub returns-clause-ok : goal.returns-clause-ok
+returns-clause-ok c = search rules depth 3
