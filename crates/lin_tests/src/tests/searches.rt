@@ -7,8 +7,8 @@ use super::random::random_history;
 use lin_history::{History, Order, Placed, Problem, WholeOrder, verify};
 use lin_object::{AnyObject, Kind, ObjState, Op, Reply, SeqObject, start_state};
 use lin_search::{
-    Config, Entries, Longest, Memo, NoStop, Noted, Outcome, OwnMemo, Refutation, Stop,
-    search, search_alone, search_plain,
+    Config, Entries, Longest, Memo, NoStop, Noted, Outcome, OwnMemo, Refutation, Stop, search,
+    search_alone, search_plain,
 };
 use lin_workers::{Scouting, scout};
 use std::alloc::{AllocError, Global};
