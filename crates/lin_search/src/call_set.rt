@@ -227,6 +227,7 @@ impl CallSet {
         })
     }
 
+    /// The same set. `AllocError` where memory was refused.
     pub fn copy(&self, alloc: Global) -> Result<CallSet, AllocError>
         ensures { IfOk result (λ set. set ≡ self.now) }
     {

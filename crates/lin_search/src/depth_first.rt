@@ -46,7 +46,10 @@ impl Ended {
     }
 }
 
-/// Asks the memo for a configuration; `is_for_problem` tells that it names the problem.
+/// What the memo tells of a configuration: its longest where it is refuted. `None` where the memo tells nothing: it does
+/// not have it, was not free, or names another problem. Where `is_for_problem` holds, no problems are compared.
+///
+/// Condition: where `is_for_problem` holds, the memo names the problem.
 pub fn look_at<O: SeqObject, M: Memo<O>>(
     problem: &Problem<O>,
     config: &Config<O>,
@@ -69,7 +72,11 @@ pub fn look_at<O: SeqObject, M: Memo<O>>(
     }
 }
 
-/// Hands the memo a refuted configuration; `is_for_problem` tells that it names the problem.
+/// Hands the memo a refuted configuration with its longest, and tells what the memo did with it. Where `is_for_problem`
+/// holds, no problems are compared.
+///
+/// Conditions: where `is_for_problem` holds, the memo names the problem; the configuration is refuted, and this is its
+/// longest.
 pub fn note_at<O: SeqObject, M: Memo<O>>(
     problem: &Problem<O>,
     config: Config<O>,
@@ -464,8 +471,8 @@ fn search_on<O: SeqObject, M: Memo<O>, S: Stop>(
     }
 }
 
-/// What is known of a configuration before a call is tried: it is complete, or the memo has it.
-pub fn known_of<O: SeqObject, M: Memo<O>>(
+// What is known of a configuration before a call is tried: it is complete, or the memo has it.
+fn known_of<O: SeqObject, M: Memo<O>>(
     alloc: Global,
     problem: &Problem<O>,
     config: &Config<O>,

@@ -21,7 +21,7 @@ mod stop;
 
 pub use call_set::CallSet;
 pub use config::Config;
-pub use depth_first::{known_of, look_at, note_at, search};
+pub use depth_first::{look_at, note_at, search};
 pub use entries::Entries;
 pub use longest::Longest;
 pub use longest_runs::longest_run;

@@ -125,6 +125,9 @@ pub struct Position {
 
 /// The path of a search from its root: the configuration that it is at, which changes in place, the entries of the
 /// problem, without those of the calls lifted, and a frame for each call that the search will come back to.
+///
+/// A path keeps no promise of its own: each of its calls says what it wants of the parts. Its fields are open so
+/// that the contracts of a search in another crate can name them.
 #[derive(Drop)]
 pub struct Path<'p, O: SeqObject> {
     alloc: Global,
@@ -137,7 +140,10 @@ pub struct Path<'p, O: SeqObject> {
 }
 
 impl<'p, O: SeqObject> Path<'p, O> {
-    /// The path of a search from the configuration: no frame yet. There is room for a frame for each call.
+    /// The path of a search from the configuration: no frame yet. There is room for a frame for each call. `AllocError`
+    /// where memory was refused.
+    ///
+    /// Condition: the configuration is over the problem's calls.
     pub fn new(
         alloc: Global,
         problem: &'p Problem<O>,
@@ -197,7 +203,10 @@ impl<'p, O: SeqObject> Path<'p, O> {
         self.entries.is_complete()
     }
 
-    /// The state that the call leads to; `None` exactly where the call can't follow.
+    /// The state that the call leads to; `None` exactly where the call can't follow. `AllocError` where memory was
+    /// refused.
+    ///
+    /// Conditions: the configuration is reachable, and the call is minimal in it.
     pub fn next_state(&self, call: usize) -> Result<Option<O::State>, AllocError>
         requires reachable { IsReachable (problem_of O.after O.State.eq O.Reply.eq
             self.now.entries.problem) self.now.config.lifted self.now.config.state }
@@ -218,6 +227,8 @@ impl<'p, O: SeqObject> Path<'p, O> {
     }
 
     /// The position at a configuration of which no call was tried.
+    ///
+    /// Condition: the calls lifted from the entries are just those of the configuration.
     pub fn enter(&self) -> Position
         requires { lifted_set (problem_of O.after O.State.eq O.Reply.eq self.now.entries.problem)
             self.now.entries.lifted ≡ self.now.config.lifted }
@@ -232,6 +243,8 @@ impl<'p, O: SeqObject> Path<'p, O> {
     }
 
     /// The position after the call, with what the calls up to it tell.
+    ///
+    /// Conditions: the calls lifted from the entries are just those of the configuration, and the call is minimal in it.
     pub fn after(&self, call: usize, longest: Longest) -> Position
         requires lifted { lifted_set (problem_of O.after O.State.eq O.Reply.eq
             self.now.entries.problem) self.now.entries.lifted ≡ self.now.config.lifted }
@@ -247,7 +260,10 @@ impl<'p, O: SeqObject> Path<'p, O> {
         }
     }
 
-    /// Lifts the frame's call, which leads to the frame's state. The state before it comes into the frame.
+    /// Lifts the frame's call, which leads to the frame's state. The state before it comes into the frame. `AllocError`
+    /// where memory was refused; the path is of no more use then.
+    ///
+    /// Conditions: the calls lifted from the entries are just those of the configuration, and the call is minimal in it.
     pub fn lift(&mut self, frame: &mut Frame<O>) -> Result<(), AllocError>
         requires lifted { lifted_set (problem_of O.after O.State.eq O.Reply.eq
             self.old.entries.problem) self.old.entries.lifted ≡ self.old.config.lifted }
@@ -270,7 +286,10 @@ impl<'p, O: SeqObject> Path<'p, O> {
     }
 
     /// Takes the frame's call, which was lifted last, back, and puts the frame's state in again. The state that the call
-    /// led to comes into the frame.
+    /// led to comes into the frame. `AllocError` where memory was refused; the path is of no more use then.
+    ///
+    /// Conditions: the calls lifted from the entries are just those of the configuration, and the call was lifted last,
+    /// from a configuration where it was minimal.
     pub fn unlift(&mut self, frame: &mut Frame<O>) -> Result<(), AllocError>
         requires lifted { lifted_set (problem_of O.after O.State.eq O.Reply.eq
             self.old.entries.problem) self.old.entries.lifted ≡ self.old.config.lifted }
@@ -374,7 +393,7 @@ impl<'p, O: SeqObject> Path<'p, O> {
         Ok((Config::from_parts(lifted, frame.into_state()), position))
     }
 
-    /// The calls on the path, in order, and then this one.
+    /// The calls on the path, in order, and then this one. `AllocError` where memory was refused.
     pub fn order_through(&self, call: usize) -> Result<Order, AllocError>
         ensures { IfOk result (λ order. order ≡ calls_of self.now.frames.items ++ call ∷ []) }
     {
@@ -382,7 +401,9 @@ impl<'p, O: SeqObject> Path<'p, O> {
     }
 
     /// Goes on from the configuration that the frame's call, which was lifted last, led to: to the position there. The
-    /// search will come back to the frame.
+    /// search will come back to the frame. `AllocError` where memory was refused; the frame is gone then.
+    ///
+    /// Condition: the calls lifted from the entries are just those of the configuration.
     pub fn descend(&mut self, frame: Frame<O>) -> Result<Position, AllocError>
         requires { lifted_set (problem_of O.after O.State.eq O.Reply.eq self.old.entries.problem)
             self.old.entries.lifted ≡ self.old.config.lifted }
@@ -400,7 +421,7 @@ impl<'p, O: SeqObject> Path<'p, O> {
         Ok(self.enter())
     }
 
-    /// The last frame, which is taken off.
+    /// The last frame, which is taken off; `None` where there is none.
     pub fn pop(&mut self) -> Option<Frame<O>>
         ensures entries { self.new.entries ≡ self.old.entries }
         ensures config { self.new.config ≡ self.old.config }
