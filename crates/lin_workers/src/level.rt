@@ -50,21 +50,27 @@ fn is_among<O: SeqObject>(tasks: &[Task<O>], config: &Config<O>) -> bool
     false
 }
 
-// The entries of the problem without those of the calls of a run.
-fn entries_after<'p, O: SeqObject>(
-    alloc: Global,
-    problem: &'p Problem<O>,
-    run: &[usize],
-) -> Result<Entries<'p, O>, AllocError>
-    requires { IsRun (problem_of O.after O.State.eq O.Reply.eq problem.now) run.now }
-    ensures { IfOk result (λ entries. entries
-        ≡ record { problem = problem.now; lifted = run.now }) }
+// Lifts the calls of a run, one after another, where no call is lifted.
+fn lift_run<O: SeqObject>(entries: &mut Entries<'_, O>, run: &[usize])
+    requires none { entries.old.lifted ≡ [] }
+    requires run { IsRun (problem_of O.after O.State.eq O.Reply.eq entries.old.problem) run.now }
+    ensures { entries.new ≡ record { problem = entries.old.problem; lifted = run.now } }
 {
-    let mut entries = Entries::new(alloc, problem)?;
     for call in run {
         entries.lift(*call);
     }
-    Ok(entries)
+}
+
+// Puts the calls of a run in again, the last first. They are all that are lifted.
+fn unlift_run<O: SeqObject>(entries: &mut Entries<'_, O>, run: &[usize])
+    requires { entries.old.lifted ≡ run.now }
+    ensures { entries.new ≡ record { problem = entries.old.problem; lifted = [] } }
+{
+    let mut left = run.len();
+    while left > 0 {
+        left -= 1;
+        entries.unlift(run[left]);
+    }
 }
 
 // The run, and then the call.
@@ -110,15 +116,19 @@ fn add_child<O: SeqObject>(
     Ok(())
 }
 
-// Adds what each call leads to from the parent.
+// Adds what each call leads to from the parent. The entries are those of all calls, before, and after unless
+// memory was refused.
 fn add_children<O: SeqObject>(
     alloc: Global,
     problem: &Problem<O>,
     parent: &Task<O>,
+    entries: &mut Entries<'_, O>,
     next: &mut Vec<Task<O>>,
 ) -> Result<(), AllocError>
-    requires { (k : ℕ) × IsTask (problem_of O.after O.State.eq O.Reply.eq problem.now) k
+    requires whole { entries.old ≡ record { problem = problem.now; lifted = [] } }
+    requires task { (k : ℕ) × IsTask (problem_of O.after O.State.eq O.Reply.eq problem.now) k
         parent.now }
+    ensures whole { IfOk result (λ done. entries.new ≡ entries.old) }
     ensures filled { IfOk result (λ done. (k i : ℕ) (parents : List (TaskOf O.State))
         → AreLevel (problem_of O.after O.State.eq O.Reply.eq problem.now) k parents
         → slice_get parents i ≡ Some parent.now
@@ -127,12 +137,14 @@ fn add_children<O: SeqObject>(
         → IsFilled (problem_of O.after O.State.eq O.Reply.eq problem.now) k parents (i + 1) 0
         next.new.items) }
 {
-    let entries = entries_after(alloc, problem, parent.path.calls())?;
+    let run = parent.path.calls();
+    lift_run(entries, run);
     let mut candidate = entries.first_minimal();
     while let Some(call) = candidate {
         add_child(alloc, problem, parent, call, next)?;
         candidate = entries.next_minimal(call);
     }
+    unlift_run(entries, run);
     Ok(())
 }
 
@@ -149,9 +161,10 @@ pub(crate) fn next_level<O: SeqObject>(
         → AreLevel (problem_of O.after O.State.eq O.Reply.eq problem.now) (k + 1) next.items) }
 {
     lawful::<O>();
+    let mut entries = Entries::new(alloc, problem)?;
     let mut next = Vec::new(alloc);
     for parent in level {
-        add_children(alloc, problem, parent, &mut next)?;
+        add_children(alloc, problem, parent, &mut entries, &mut next)?;
     }
     Ok(next)
 }

@@ -2,8 +2,8 @@
 //!
 //! - `check`: the check of one object, by the calling thread alone or with workers; `verdict`: what it finds.
 //! - `cutting`: the search is cut into tasks; `level`: the levels of configurations that a cut is made of.
-//! - `worker`: a worker claims tasks and searches them; `scouting`: it scouts before, in an order of its own; `scouts`: what
-//!   a scout does; `stop`: its search stops where a smaller task was found.
+//! - `worker`: a worker claims tasks and searches them; `scouting`: how each worker scouts; `scouts`: what a scout does;
+//!   `stop`: its search stops where a smaller task was found.
 //! - `sharing`: workers in threads; `gathering`: what they brought is put together; `deciding`: the verdict by the tasks in
 //!   their order.
 //! - `gate`: what a worker passes after each claim.

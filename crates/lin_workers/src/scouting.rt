@@ -1,4 +1,5 @@
-//! A worker scouts before it searches a task, in an order of its own, so that workers do not all walk the same way.
+//! A worker scouts from a task before it searches it, and from all tasks when all are claimed. Each goes its own way, so
+//! that workers do not all walk the same one.
 ghost use Rattle.std.specs.Prelude.{ℕ, ◌<◌, ◌≤◌, IfOk, IfSome, List, Option};
 ghost use Rattle.lin_history.specs.Problems.Problem.{problem_of};
 ghost use Rattle.lin_history.specs.Problems.Configurations.{IsReachable};
@@ -20,7 +21,7 @@ use lin_search::{Config, Memo, Outcome, Stop, search};
 use lin_table::{Hand, SharedMemo, Table};
 use std::alloc::{AllocError, Global};
 
-// How many steps a worker scouts at most before it searches a task.
+// How many steps a worker scouts at most from a task.
 const SCOUTING_STEPS: u64 = 4_000_000;
 
 // How many levels it takes until so many workers have each gone a way of their own.
@@ -60,18 +61,15 @@ fn steps_within(limit: Option<u64>) -> u64
     }
 }
 
-// How the worker of this number among so many scouts, where a search makes so many lifts at most. The first does not scout:
-// it searches in the natural order at once.
-pub(crate) fn scouting_of(worker: usize, workers: usize, limit: Option<u64>) -> Option<Scouting>
-    ensures { IfSome result (λ scouting. IfSome limit (λ most. scouting.steps ≤ most)) }
+// How the worker of this number among so many scouts, where a search makes so many lifts at most. The first goes upwards
+// throughout, as a search does: what it refutes, its search then finds in the table.
+pub(crate) fn scouting_of(worker: usize, workers: usize, limit: Option<u64>) -> Scouting
+    ensures { IfSome limit (λ most. result.steps ≤ most) }
 {
-    if worker == 0 {
-        return None;
-    }
-    Some(Scouting {
+    Scouting {
         directions: directions_of(worker, workers),
         steps: steps_within(limit),
-    })
+    }
 }
 
 // Scouts from the configuration, where it is told how, and then searches it. What is refuted on the way is in the memo.
@@ -139,7 +137,7 @@ fn help_with<O: SeqObject>(
     let _ended = scout(alloc, problem, &task.config, scouting, &mut memo, &mut stop);
 }
 
-// Scouts from each task once more, when all are claimed: so a worker without a task helps the others at theirs. From a task
+// Scouts from each task when all are claimed: so a worker without a task helps the others at theirs. From a task
 // that is refuted by then it goes on to the next at once. What its seat has brought stays as it is.
 pub(crate) fn help<O: SeqObject>(
     alloc: Global,

@@ -10,7 +10,7 @@ ghost use Rattle.lin_workers.specs.Scouting.{IsNextTurn, IsThrough, IsScouted, I
 
 use lin_history::{MAX_CALLS_ON_OBJECT, Problem};
 use lin_object::{SeqObject, lawful};
-use lin_search::{Config, Entries, Frame, Longest, Memo, Path, Stop, known_of, look_at, note_at};
+use lin_search::{Config, Entries, Frame, Longest, Memo, Path, Stop, look_at, note_at};
 use std::alloc::{AllocError, Global};
 use std::marker::Model;
 use std::ops::ControlFlow;
@@ -454,9 +454,9 @@ pub fn scout<O: SeqObject, M: Memo<O>, S: Stop>(
 {
     lawful::<O>();
     let is_for_problem = memo.is_for(problem);
-    let None = known_of(alloc, problem, config, memo, is_for_problem) else {
+    if config.is_complete(problem) || look_at(problem, config, memo, is_for_problem).is_some() {
         return Ok(());
-    };
+    }
     let copy = config.copy(alloc, problem)?;
     let mut walk = Walk {
         alloc,

@@ -56,8 +56,7 @@ fn employ<O: SeqObject>(
     }
 }
 
-// Lets each worker work, in a thread of its own where one can be had. All but the first scout, and help the others in the
-// end.
+// Lets each worker work, in a thread of its own where one can be had. In the end it helps the others.
 fn work_all<O: SharedObject, R: Threads + Sync, G: Gate>(
     rt: &R,
     alloc: Global,
@@ -105,21 +104,19 @@ fn work_all<O: SharedObject, R: Threads + Sync, G: Gate>(
                 &mut worker.seat,
                 &mut worker.values,
                 gate,
-                scouting,
+                Some(scouting),
                 limit,
             );
-            if let Some(scouting) = scouting {
-                help(
-                    alloc,
-                    problem,
-                    tasks,
-                    scouting,
-                    table,
-                    &mut worker.hand,
-                    board,
-                    &mut worker.seat,
-                );
-            }
+            help(
+                alloc,
+                problem,
+                tasks,
+                scouting,
+                table,
+                &mut worker.hand,
+                board,
+                &mut worker.seat,
+            );
         },
     );
 }

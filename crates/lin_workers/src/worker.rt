@@ -1,5 +1,5 @@
 //! What a worker does: it claims tasks and searches them, until there is none left.
-ghost use Rattle.std.specs.Prelude.{◌≡◌, ℕ, ◌++◌, ◌∷◌, [], ◌⊎◌, List, true, length, IfSome, Contains};
+ghost use Rattle.std.specs.Prelude.{◌≡◌, ℕ, ◌++◌, ◌∷◌, [], ◌⊎◌, List, None, Some, true, length, IfSome, Contains};
 ghost use Rattle.lin_history.specs.Problems.Problem.{problem_of};
 ghost use Rattle.lin_history.specs.Problems.Configurations.{IsReachable};
 ghost use Rattle.lin_search.specs.Answer.{IsAnswer};
@@ -91,8 +91,17 @@ fn keep(
     }
 }
 
-// Claims tasks and searches each over the table, after scouting where it is told how, until all are claimed; the values are
-// put to these.
+// The scouting before the search of the task of this number. The first task has none: whoever has claimed it searches it in
+// the natural order at once.
+fn scouting_before(number: u64, scouting: Option<Scouting>) -> Option<Scouting>
+    ensures first { number ≡ 0 → result ≡ None }
+    ensures same { IfSome result (λ told. scouting ≡ Some told) }
+{
+    if number == 0 { None } else { scouting }
+}
+
+// Claims tasks and searches each over the table, until all are claimed; the values are put to these. It scouts before each
+// search but that of the first task, where it is told how.
 pub(crate) fn claim_all<O: SeqObject, G: Gate>(
     alloc: Global,
     problem: &Problem<O>,
@@ -122,7 +131,16 @@ pub(crate) fn claim_all<O: SeqObject, G: Gate>(
         gate.enter(number);
         let task = &tasks[number as usize];
         let searched = search_task(
-            alloc, problem, task, number, table, hand, board, seat, scouting, limit,
+            alloc,
+            problem,
+            task,
+            number,
+            table,
+            hand,
+            board,
+            seat,
+            scouting_before(number, scouting),
+            limit,
         );
         if let Some(outcome) = searched {
             keep(board, seat, values, number, outcome);
