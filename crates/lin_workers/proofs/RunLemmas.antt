@@ -1,6 +1,7 @@
 -- Runs by their last call, and the configurations that they lead to.
 use Rattle.std.proofs.Common.{◌≡◌, ℕ, suc, ◌<◌, Bool, true, false, Option, Some, List, [], ◌∷◌, ◌++◌, length, ◌⊎◌, inl, inr, refl, sym, ◌∙◌, ap, subst, arith}
-use Rattle.std.proofs.Common.{take, drop, slice_index_or, zero}
+use Rattle.std.proofs.Common.{take, drop, slice_index_or, zero, ◌-◌, ◌≤◌}
+use Rattle.std.proofs.Math.Seq.{take-suc}
 use Rattle.std.proofs.lemmas.List.{length-set, length-replicate}
 use Rattle.lin_history.specs.Problems.Problem.{Problem}
 use Rattle.lin_history.specs.Problems.LegalLists.{next, Legal}
@@ -181,3 +182,10 @@ module _ {State Op Reply : Type 0} (p : Problem State Op Reply) where
       k.ends,
     );
   }
+
+-- the first n of a list, and the last of them by itself
+pub last_taken_of : (l : List ℕ) (n : ℕ) → 0 < n → n ≤ length l → take n l ≡ take (n - 1) l ++ slice_index_or l (n - 1) 0 ∷ []
+last_taken_of l zero h k = absurd (omega (arith, h))
+last_taken_of l (suc n) h k =
+    let e : n ≡ suc n - 1 = omega (arith) in
+    subst (λ (i : ℕ). take (suc n) l ≡ take i l ++ slice_index_or l i 0 ∷ []) e (take-suc l n 0 (omega (arith, k)))
