@@ -1,7 +1,8 @@
 #!/usr/bin/env python3
 """Times `lincheck` beside `bench/search.rs`, a fast search without a proof that gives the same answers.
 
-    bench/run.py [--only FAMILY].. [--quick] [--runs N] [--cpu] [--timeout SECONDS] [--bin PATH] [--workers N [--shards N]]
+    bench/run.py [--only FAMILY].. [--quick] [--runs N] [--cpu] [--timeout SECONDS] [--bin PATH] [--beside NAME]
+                 [--workers N [--shards N]]
 
 Needs the built program (`bin/lincheck` builds it), or the one at PATH, and `rustc`. Prints one table for each family of
 `bench/histories.py` (those whose name begins with FAMILY), one line for each size (with --quick the smaller half), and
@@ -19,6 +20,9 @@ one of all families at their last size:
 
 Both programs' answers are compared; `lincheck` runs with one worker. A run that takes longer than the timeout is ended,
 and its numbers are left out.
+
+With --beside layout the second program is `bench/layout.rs`: the same search without a proof, over structures laid out as
+those of `lincheck`.
 
 With --workers N `lincheck` with N workers is timed beside `lincheck` with one, in turn, at the last size of each family:
 the least seconds by the clock and the least processor seconds of each, and how many times the first's the second's are.
@@ -202,6 +206,7 @@ def main():
     parser.add_argument("--cpu", action="store_true", help="processor time in place of wall time")
     parser.add_argument("--timeout", type=float, default=120)
     parser.add_argument("--bin", type=Path, default=LINCHECK)
+    parser.add_argument("--beside", choices=["search", "layout"], default="search", help="the program without a proof")
     parser.add_argument("--workers", type=int, help="one worker beside so many")
     parser.add_argument("--shards", type=int, default=16, help="with --workers: of both")
     options = parser.parse_args()
@@ -216,7 +221,8 @@ def main():
             rows = [["", "1 worker", f"{options.workers} workers", "times"]]
             rows += [workers_row(name, *measure_workers(family, room, options)) for name, family in chosen.items()]
             return tell(f"Seconds by the clock and processor seconds, {options.shards} shards", rows)
-        subprocess.run(["rustc", "--edition", "2021", "-O", "-o", room / "search", HERE / "search.rs"], check=True)
+        source = HERE / f"{options.beside}.rs"
+        subprocess.run(["rustc", "--edition", "2021", "-O", "-o", room / "search", source], check=True)
         last = [["", *HEAD], ["", *UNDER]]
         for name, family in chosen.items():
             rows, before = [HEAD, UNDER], None

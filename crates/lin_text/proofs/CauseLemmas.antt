@@ -10,9 +10,9 @@ use Rattle.lin_text.specs.declared.line.Format.{Format}
 use Rattle.lin_text.specs.Causes.{cause_of}
 use Rattle.lin_text.specs.Events.{TextEvents, told_with, recording_of, IsTold}
 use Rattle.lin_text.proofs.TextLemmas.{recording_told}
-use Rattle.lin_text.specs.Line.{LineEvent, json, conditions_in, IsLineEventIn}
+use Rattle.lin_text.specs.Line.{LineEvent, conditions_in, IsLineEventIn}
 use Rattle.lin_text.specs.declared.text.TheConstants.{MAX_LINE_BYTES}
-use Rattle.lin_text.specs.Text.{is_blank, event_at, as_cause, refusals, refusals_at, causes_of, HasCause, IsToldBy}
+use Rattle.lin_text.specs.Text.{is_blank, event_at, as_cause, refusals, refusals_at, causes_of, IsRead, HasCause, IsToldBy}
 
 head_some : (t : Bool) (y x : Cause) (r s : Option Cause) → (r ≡ Some x → s ≡ Some x) → cond t (Some y) r ≡ Some x → cond t (Some y) s ≡ Some x
 head_some true y x r s h e = e
@@ -29,12 +29,6 @@ some_stays (c ∷ cs) b x e = head_some c.0 c.1 x (first_that_holds cs) (first_t
 pub none_passes : (a b : List (Bool × Cause)) → first_that_holds a ≡ None → first_that_holds (a ++ b) ≡ first_that_holds b
 none_passes [] b e = refl
 none_passes (c ∷ cs) b e = head_none c.0 c.1 (first_that_holds cs) (first_that_holds (cs ++ b)) (first_that_holds b) (none_passes cs b) e
-
--- a line that is neither too long nor blank, with a value
-pub record IsRead (line : List ℕ) (d : Data) : Type 0 where
-  pub short : length line ≤ MAX_LINE_BYTES
-  pub there : is_blank line ≡ false
-  pub value : json line ≡ Some d
 
 of_value : (format : Format) (r : Recording) (line : List ℕ) (d : Data) → IsRead line d → first_that_holds (causes_of format r line) ≡ first_that_holds (conditions_in format (kind_named r) d ++ refusals_at r (event_at format r line))
 of_value format r line d is =

@@ -1,9 +1,11 @@
 -- The first line of a text, by the place of its first newline.
-use Rattle.std.proofs.Common.{◌≡◌, ℕ, suc, ◌<◌, ◌≤◌, Bool, true, false, List, [], ◌∷◌, ◌++◌, length, take, drop, cond, nat_lt, Some, None, refl, ap, ◌∙◌, append_assoc, arith}
-use Rattle.std.proofs.lemmas.Bool.{ltb-false}
+use Rattle.std.proofs.Common.{◌≡◌, ℕ, suc, ◌<◌, ◌≤◌, Bool, true, false, List, [], ◌∷◌, ◌++◌, length, take, drop, cond, nat_lt, Option, Some, None, refl, ap, ◌∙◌, append_assoc, arith}
+use Rattle.std.proofs.lemmas.Bool.{ltb-false, le-ltb, lt-ltb}
 use borrow.Author.Tests.{ltb-true}
 use Rattle.std.proofs.lemmas.Option.{cond_some}
 use Rattle.std.specs.List.{position, position_or_len}
+use Rattle.std.proofs.lemmas.List.Sums.{position_or_len_is}
+use Rattle.memchr.specs.Find.{IsFirstByte, is_byte}
 use Rattle.lin_text.specs.Text.{is_newline, split, lines}
 
 split_step : (front : List ℕ) (b : ℕ) (bytes : List ℕ) → split front (b ∷ bytes) ≡ cond (is_newline b) (front ∷ split [] bytes) (split (front ++ b ∷ []) bytes)
@@ -78,3 +80,21 @@ lines_at text n h =
 
 pub lines_whole : (text : List ℕ) → 0 < length text → position is_newline text ≡ None → lines text ≡ text ∷ lines []
 lines_whole text some h = lines_last text some (not_less (position_or_len is_newline text) (length text) _ refl h)
+
+-- ---- where the first newline is
+
+not_passed : (b : Bool) → (b ≡ true → ⊥) → b ≡ false
+not_passed true never = absurd (never refl)
+not_passed false never = refl
+
+-- the place of the first byte that is a newline is that of the first newline
+pub newline_at : (text : List ℕ) (place : Option ℕ) → IsFirstByte (is_byte 10) text place → place ≡ position is_newline text
+newline_at text None none =
+    let at_end : position_or_len is_newline text ≡ length text =
+    position_or_len_is is_newline text (length text) 0 (omega arith) (λ k h. not_passed _ (none k (omega arith) h)) (λ h. absurd (omega arith)) in
+    rw (at_end, le-ltb (length text) (length text) (omega arith)) refl
+newline_at text (Some k) first =
+    let there : position_or_len is_newline text ≡ k =
+    position_or_len_is is_newline text k 0 (let h = first.0.high in omega (arith, h)) (λ i h. not_passed _ (first.0.before i (omega arith) h)) (λ h. first.1) in
+    let within = first.0.high in
+    rw (there, lt-ltb k (length text) within) refl

@@ -1,6 +1,7 @@
 -- What a text means: the history of its events, or the first line with a cause and that line's first cause.
-use Rattle.std.specs.Prelude.{◌≡◌, ℕ, ◌+◌, ◌<◌, ◌≤◌, ◌==◌, ◌||◌, ◌⊎◌, Bool, List, [], ◌∷◌, ◌++◌, length, map, nat_lt, Option, Some, None, option_and_then, if◌then◌else◌}
+use Rattle.std.specs.Prelude.{◌≡◌, ℕ, ◌+◌, ◌<◌, ◌≤◌, ◌==◌, ◌||◌, ◌⊎◌, Bool, false, List, [], ◌∷◌, ◌++◌, length, map, nat_lt, Option, Some, None, option_and_then, if◌then◌else◌}
 use Rattle.std.specs.List.{list_all}
+use Rattle.serde_json.specs.Data.{Data}
 use Rattle.lin_text.specs.declared.text.TheConstants.{MAX_LINE_BYTES, MAX_INPUT_BYTES}
 use Rattle.lin_text.specs.declared.cause.Cause.{Cause}
 use Rattle.lin_text.specs.declared.cause.Cause.TheVariants.{LineTooLong, InputTooLong}
@@ -61,6 +62,12 @@ refusals r (ends process name) = end_refusals r process name
 abbrev pub refusals_at : Recording → Option LineEvent → List (Bool × Cause)
 refusals_at r None = []
 refusals_at r (Some event) = map as_cause (refusals r event)
+
+-- A line that is neither too long nor blank, and its JSON value.
+pub record IsRead (line : List ℕ) (d : Data) : Type 0 where
+  pub short : length line ≤ MAX_LINE_BYTES
+  pub there : is_blank line ≡ false
+  pub value : json line ≡ Some d
 
 -- The causes that a line can have, in order, each with whether it holds.
 abbrev pub causes_of : Format → Recording → List ℕ → List (Bool × Cause)

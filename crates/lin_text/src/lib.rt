@@ -3,9 +3,12 @@
 
 mod cause;
 mod fields;
+mod flat_object;
 mod line;
+mod line_value;
 mod reading;
 mod text;
+mod wholes;
 
 pub use cause::{Cause, TextFault, write_cause};
 pub use text::{MAX_INPUT_BYTES, MAX_LINE_BYTES, read_history};

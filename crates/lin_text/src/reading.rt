@@ -2,7 +2,6 @@
 
 ghost use Rattle.std.specs.Prelude.{◌≡◌, is_some, true, Some, Ok, Err};
 ghost use Rattle.serde_json.specs.Find.{as_object};
-ghost use Rattle.serde_json.specs.View.{view};
 ghost use Rattle.lin_history.specs.Recorder.Recording.{kind_named};
 ghost use Rattle.lin_text.specs.Fields.{event_kind_in};
 ghost use Rattle.lin_text.specs.Line.{Tells};
@@ -12,19 +11,19 @@ use crate::fields::{
     event_kind_of, kind_of, name_of, op_of, process_of, reply_of, start_of, states_two,
 };
 use crate::line::{EventKind, Format, Line};
+use crate::line_value::LineValue;
 use lin_history::Builder;
-use serde_json::Value;
 use std::alloc::Global;
 
 // The declaration that a value is, or its first cause.
-fn declaration_of<'v>(
+fn declaration_of<'v, V: LineValue>(
     format: Format,
     builder: &Builder,
-    value: &'v Value,
+    value: &'v V,
 ) -> Result<Line<'v>, Cause>
-    requires object { is_some (as_object (view value.now)) ≡ true }
-    requires kind { event_kind_in format (view value.now) ≡ Some EventKind.Declaration }
-    ensures { Tells format (kind_named builder.now) (view value.now) result }
+    requires object { is_some (as_object (V.json value.now)) ≡ true }
+    requires kind { event_kind_in format (V.json value.now) ≡ Some EventKind.Declaration }
+    ensures { Tells format (kind_named builder.now) (V.json value.now) result }
 {
     let Some(name) = name_of(value) else {
         return Err(Cause::BadObject);
@@ -39,15 +38,15 @@ fn declaration_of<'v>(
 }
 
 // The call that a value is, or its first cause.
-fn call_of<'v>(
+fn call_of<'v, V: LineValue>(
     alloc: Global,
     format: Format,
     builder: &Builder,
-    value: &'v Value,
+    value: &'v V,
 ) -> Result<Line<'v>, Cause>
-    requires object { is_some (as_object (view value.now)) ≡ true }
-    requires kind { event_kind_in format (view value.now) ≡ Some EventKind.Call }
-    ensures { Tells format (kind_named builder.now) (view value.now) result }
+    requires object { is_some (as_object (V.json value.now)) ≡ true }
+    requires kind { event_kind_in format (V.json value.now) ≡ Some EventKind.Call }
+    ensures { Tells format (kind_named builder.now) (V.json value.now) result }
 {
     let Some(process) = process_of(value) else {
         return Err(Cause::BadProcess);
@@ -65,10 +64,14 @@ fn call_of<'v>(
 }
 
 // The return that a value is, or its first cause.
-fn return_of<'v>(format: Format, builder: &Builder, value: &'v Value) -> Result<Line<'v>, Cause>
-    requires object { is_some (as_object (view value.now)) ≡ true }
-    requires kind { event_kind_in format (view value.now) ≡ Some EventKind.Return }
-    ensures { Tells format (kind_named builder.now) (view value.now) result }
+fn return_of<'v, V: LineValue>(
+    format: Format,
+    builder: &Builder,
+    value: &'v V,
+) -> Result<Line<'v>, Cause>
+    requires object { is_some (as_object (V.json value.now)) ≡ true }
+    requires kind { event_kind_in format (V.json value.now) ≡ Some EventKind.Return }
+    ensures { Tells format (kind_named builder.now) (V.json value.now) result }
 {
     let Some(process) = process_of(value) else {
         return Err(Cause::BadProcess);
@@ -86,10 +89,14 @@ fn return_of<'v>(format: Format, builder: &Builder, value: &'v Value) -> Result<
 }
 
 // The failure of a call that a value is, or its first cause.
-fn fail_of<'v>(format: Format, builder: &Builder, value: &'v Value) -> Result<Line<'v>, Cause>
-    requires object { is_some (as_object (view value.now)) ≡ true }
-    requires kind { event_kind_in format (view value.now) ≡ Some EventKind.Fail }
-    ensures { Tells format (kind_named builder.now) (view value.now) result }
+fn fail_of<'v, V: LineValue>(
+    format: Format,
+    builder: &Builder,
+    value: &'v V,
+) -> Result<Line<'v>, Cause>
+    requires object { is_some (as_object (V.json value.now)) ≡ true }
+    requires kind { event_kind_in format (V.json value.now) ≡ Some EventKind.Fail }
+    ensures { Tells format (kind_named builder.now) (V.json value.now) result }
 {
     let Some(process) = process_of(value) else {
         return Err(Cause::BadProcess);
@@ -104,10 +111,14 @@ fn fail_of<'v>(format: Format, builder: &Builder, value: &'v Value) -> Result<Li
 }
 
 // The end of a process that a value is, or its first cause.
-fn info_of<'v>(format: Format, builder: &Builder, value: &'v Value) -> Result<Line<'v>, Cause>
-    requires object { is_some (as_object (view value.now)) ≡ true }
-    requires kind { event_kind_in format (view value.now) ≡ Some EventKind.Info }
-    ensures { Tells format (kind_named builder.now) (view value.now) result }
+fn info_of<'v, V: LineValue>(
+    format: Format,
+    builder: &Builder,
+    value: &'v V,
+) -> Result<Line<'v>, Cause>
+    requires object { is_some (as_object (V.json value.now)) ≡ true }
+    requires kind { event_kind_in format (V.json value.now) ≡ Some EventKind.Info }
+    ensures { Tells format (kind_named builder.now) (V.json value.now) result }
 {
     let Some(process) = process_of(value) else {
         return Err(Cause::BadProcess);
@@ -122,10 +133,14 @@ fn info_of<'v>(format: Format, builder: &Builder, value: &'v Value) -> Result<Li
 }
 
 // The header that a value is, or its first cause.
-fn header_of<'v>(format: Format, builder: &Builder, value: &'v Value) -> Result<Line<'v>, Cause>
-    requires object { is_some (as_object (view value.now)) ≡ true }
-    requires kind { event_kind_in format (view value.now) ≡ Some EventKind.Header }
-    ensures { Tells format (kind_named builder.now) (view value.now) result }
+fn header_of<'v, V: LineValue>(
+    format: Format,
+    builder: &Builder,
+    value: &'v V,
+) -> Result<Line<'v>, Cause>
+    requires object { is_some (as_object (V.json value.now)) ≡ true }
+    requires kind { event_kind_in format (V.json value.now) ≡ Some EventKind.Header }
+    ensures { Tells format (kind_named builder.now) (V.json value.now) result }
 {
     if states_two(value) {
         Ok(Line::Header)
@@ -135,13 +150,13 @@ fn header_of<'v>(format: Format, builder: &Builder, value: &'v Value) -> Result<
 }
 
 /// The event that a value is in a text of this format, or the header, or the first cause that it has.
-pub(crate) fn read_value<'v>(
+pub(crate) fn read_value<'v, V: LineValue>(
     alloc: Global,
     format: Format,
     builder: &Builder,
-    value: &'v Value,
+    value: &'v V,
 ) -> Result<Line<'v>, Cause>
-    ensures { Tells format (kind_named builder.now) (view value.now) result }
+    ensures { Tells format (kind_named builder.now) (V.json value.now) result }
 {
     if !value.is_object() {
         return Err(Cause::NotObject);

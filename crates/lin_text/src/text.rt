@@ -1,19 +1,24 @@
 //! A text, line by line: the history that it means, or its first fault.
 
-ghost use Rattle.std.specs.Prelude.{position, IfSome, ◌≡◌, ◌≢◌, ◌<◌, ◌≤◌, ◌∷◌, length, Some, None, Ok, Err, IfOk, IfErr, OnOk, OnErr};
+ghost use Rattle.std.specs.Prelude.{position, IfSome, ◌≡◌, ◌≢◌, ℕ, ◌<◌, ◌≤◌, ◌∷◌, List, length, Some, None, Ok, Err, IfOk, IfErr, OnOk, OnErr};
 ghost use Rattle.serde_json.specs.View.{view};
+ghost use Rattle.lin_text.specs.FlatObject.{object_of};
 ghost use Rattle.lin_text.specs.Line.{json, seen};
 ghost use Rattle.lin_history.specs.Recorder.Recording.{no_event};
 ghost use Rattle.lin_text.specs.Events.{TextEvents, IsTold, format_after, told_with};
-ghost use Rattle.lin_text.specs.Text.{is_newline, lines, is_blank, refusals, HasCause, IsToldBy, MeansHistory, MeansRecording, MeansFault, RanOutAt};
+ghost use Rattle.lin_text.specs.Text.{is_newline, lines, is_blank, refusals, IsRead, HasCause, IsToldBy, MeansHistory, MeansRecording, MeansFault, RanOutAt};
 ghost use Rattle.lin_history.specs.Refusals.{first_that_holds};
 
 use crate::cause::{Cause, TextFault, cause_of};
+use crate::flat_object::FlatObject;
 use crate::line::{Format, Line};
+use crate::line_value::LineValue;
 use crate::reading::read_value;
+use json::Scratch;
 use lin_history::{BuildFault, Builder, History};
+use memchr::memchr;
 use serde_json::{Category, Value};
-use std::alloc::Global;
+use std::alloc::{AllocError, Global};
 
 /// The most bytes of a line, without its line feed.
 pub const MAX_LINE_BYTES: usize = 65_536;
@@ -83,11 +88,53 @@ fn format_after(format: Format, event: &Line<'_>) -> Format
     }
 }
 
-// Takes the event of a line, and tells the format after it. An `Err` changes nothing.
+// Takes the event of a line with this JSON value, and tells the format after it. An `Err` changes nothing.
+fn take_value<V: LineValue>(
+    alloc: Global,
+    format: Format,
+    builder: &mut Builder,
+    value: &V,
+) -> Result<Format, Cause>
+    ensures ok { IfOk result (λ after. (line : List ℕ) → IsRead line (V.json value.now)
+        → (told : TextEvents) → IsTold told format builder.old
+        → (more : TextEvents) × IsToldBy told line more × IsTold more after builder.new) }
+    ensures err { IfErr result (λ cause. cause ≢ Cause.OutOfMemory → (line : List ℕ)
+        → IsRead line (V.json value.now) → HasCause format builder.old line cause) }
+    ensures same { OnErr result (builder.new ≡ builder.old) }
+{
+    let event = match read_value(alloc, format, builder, value) {
+        Ok(event) => event,
+        Err(cause) => return Err(cause),
+    };
+    let after = format_after(format, &event);
+    match take_event(alloc, builder, event) {
+        Ok(()) => Ok(after),
+        Err(fault) => Err(cause_of(fault)),
+    }
+}
+
+// The JSON object of a line, where its members are flat; most lines are such. Of other lines nothing is told.
+fn flat_object_of<'l>(
+    alloc: Global,
+    scratch: &'l mut Scratch,
+    line: &'l [u8],
+) -> Result<Option<FlatObject<'l>>, AllocError>
+    ensures { IfOk result (λ answer. IfSome answer (λ object. json line.now
+        ≡ Some (object_of object.members.items))) }
+{
+    match str::from_utf8(line) {
+        Ok(text) => FlatObject::read(alloc, text, scratch),
+        Err(_) => Ok(None),
+    }
+}
+
+// Takes the event of a line, and tells the format after it. An `Err` changes nothing. A line that is no flat object is
+// read into an owned value.
 fn take_line(
     alloc: Global,
     format: Format,
     builder: &mut Builder,
+    scratch: &mut Scratch,
     line: &[u8],
 ) -> Result<Format, Cause>
     ensures ok { IfOk result (λ after. (told : TextEvents) → IsTold told format builder.old
@@ -104,18 +151,13 @@ fn take_line(
     if is_blank(line) {
         return Ok(format);
     }
-    let value = match json_of(alloc, line) {
-        Ok(value) => value,
-        Err(cause) => return Err(cause),
-    };
-    let event = match read_value(alloc, format, builder, &value) {
-        Ok(event) => event,
-        Err(cause) => return Err(cause),
-    };
-    let after = format_after(format, &event);
-    match take_event(alloc, builder, event) {
-        Ok(()) => Ok(after),
-        Err(fault) => Err(cause_of(fault)),
+    match flat_object_of(alloc, scratch, line) {
+        Ok(Some(object)) => take_value(alloc, format, builder, &object),
+        Ok(None) => match json_of(alloc, line) {
+            Ok(value) => take_value(alloc, format, builder, &value),
+            Err(cause) => Err(cause),
+        },
+        Err(_) => Err(Cause::OutOfMemory),
     }
 }
 
@@ -124,7 +166,7 @@ fn newline_in(text: &[u8]) -> Option<usize>
     ensures value { result ≡ position is_newline text.now }
     ensures within { IfSome result (λ end. end < length text.now) }
 {
-    text.iter().position(|byte| *byte == b'\n')
+    memchr(b'\n', text)
 }
 
 /// The first line of a text that is not empty, and what stands after it.
@@ -151,11 +193,12 @@ fn read_lines(alloc: Global, builder: &mut Builder, text: &[u8]) -> Result<(), T
 {
     let mut rest = text;
     let mut number = 0u64;
+    let mut scratch = Scratch::new(alloc);
     let mut format = Format::Unstated;
     'lines: while !rest.is_empty() {
         let (line, more) = first_line(rest);
         number += 1;
-        match take_line(alloc, format, builder, line) {
+        match take_line(alloc, format, builder, &mut scratch, line) {
             Ok(after) => format = after,
             Err(cause) => {
                 return Err(TextFault {

@@ -2,7 +2,7 @@ use Rattle.std.proofs.Common.{◌≡◌, ◌<◌, Some, length, ◌++◌, ◌∷
 use Rattle.serde_json.specs.View.{view}
 use Rattle.lin_text.specs.Fields.{whole}
 use Rattle.lin_text.proofs.WholeNumberLemmas.{goes_on}
-use Rattle.lin_text.proofs.fields.wholes_of.Goals as goal
+use Rattle.lin_text.proofs.line_value.wholes_of.Goals as goal
 
 pub loop-item-preserved : goal.loop-item-preserved
 loop-item-preserved c =
