@@ -7,7 +7,7 @@ use Rattle.json.specs.Lex.{tokens}
 use Rattle.json.specs.Json as json
 use Rattle.json.specs.Json.{Parse, parse_map, after_end_array, read_key, items, members, value, if_last}
 use Rattle.json.proofs.Grammar.{value_is, value-begin_array, value-begin_object, items_end, items_more, members_end, members_more}
-use Rattle.serde_json.specs.Data.{Data, null, boolean, number, string, array, object, Items, no_items, item, Members, no_members, put}
+use Rattle.serde_json.specs.Data.{Num, Data, null, boolean, number, string, array, object, Items, no_items, item, Members, no_members, put}
 use Rattle.serde_json.specs.Find.{of_integer, get_member}
 use Rattle.serde_json.specs.Read.{read, number_of, of_json, of_items, of_members, converted}
 use Rattle.serde_json.proofs.Views.{get_member-put, get_member-put_other}
@@ -103,15 +103,15 @@ none_before None = refl
 none_before (Some p) = refl
 
 -- A number's token is the value that it writes.
-pub number_read : (depth : ℕ) (s : List ℕ) (r : List Token) (z : ℤ) → number_of s ≡ Some (of_integer z) → converted of_json (value depth (Token.number s ∷ r)) ≡ Some (number (of_integer z), r)
-number_read depth s r z e = ap (converted of_json) (value_is depth (Token.number s ∷ r)) ∙ rw e
+pub number_read : (depth : ℕ) (s : List ℕ) (r : List Token) (n : Num) → number_of s ≡ Some n → converted of_json (value depth (Token.number s ∷ r)) ≡ Some (number n, r)
+number_read depth s r n e = ap (converted of_json) (value_is depth (Token.number s ∷ r)) ∙ rw e
 
 -- One turn of the loop over whole numbers.
 pub whole_read : (depth n : ℕ) (zs : List ℤ) (z : ℤ) (s : List ℕ) (ts r : List Token) → 0 < n → ts ≡ Token.number s ∷ r → number_of s ≡ Some (of_integer z)
     → parse_map (items_before zs) (converted of_items (items (value depth) n ts)) ≡ parse_map (items_before (zs ++ z ∷ [])) (converted of_items (items (value depth) (n - 1) r))
 whole_read depth n zs z s ts r some first e =
     let going : after_end_array ts ≡ None = ap after_end_array first in
-    let item = ap (λ ts. converted of_json (value depth ts)) first ∙ number_read depth s r z e in
+    let item = ap (λ ts. converted of_json (value depth ts)) first ∙ number_read depth s r (of_integer z) e in
     ap (parse_map (items_before zs)) (item_read (value depth) n ts r (number (of_integer z)) some going item) ∙ parse_map-push zs z _
 
 -- The end of the loop over whole numbers.

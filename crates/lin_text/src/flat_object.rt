@@ -2,7 +2,7 @@
 
 ghost use Rattle.std.specs.Prelude.{◌≡◌, ℕ, ◌<◌, ◌==◌, length, slice_index, option_map, true, false, Some, IfOk, IfSome, IsTrue};
 ghost use Rattle.json.specs.Json.{value, items, members};
-ghost use Rattle.serde_json.specs.Data.{no_members};
+ghost use Rattle.serde_json.specs.Data.{no_members, float};
 ghost use Rattle.serde_json.specs.Find.{of_integer, as_str, get_member};
 ghost use Rattle.serde_json.specs.Read.{read, number_of, number_from, of_json, of_items, of_members, converted};
 ghost use Rattle.lin_text.specs.Fields.{whole, reply_of, arguments_of};
@@ -16,7 +16,8 @@ use json::{Reader, Scratch, Token};
 use lin_object::Reply;
 use std::alloc::{AllocError, Global};
 
-/// The value of a member that is flat: no object, and no array but one of whole numbers of 64 bits.
+/// The value of a member that is flat: no object, no array but one of whole numbers of 64 bits, and no
+/// whole number beyond them.
 #[derive(Debug, Drop)]
 pub(crate) enum Field<'l> {
     /// `null`.
@@ -25,6 +26,8 @@ pub(crate) enum Field<'l> {
     Flag(bool),
     /// A whole number.
     Whole(i64),
+    /// A number with a point or an exponent.
+    Float(f64),
     /// A text, without its escapes.
     Text(&'l str),
     /// An array of whole numbers.
@@ -51,7 +54,8 @@ impl Field<'_> {
     {
         match self {
             Field::Text(text) => Some(text),
-            Field::Null | Field::Flag(_) | Field::Whole(_) | Field::Wholes(_) => None,
+            Field::Null | Field::Flag(_) | Field::Whole(_) | Field::Float(_) | Field::Wholes(_) =>
+                None,
         }
     }
 
@@ -61,7 +65,8 @@ impl Field<'_> {
     {
         match self {
             Field::Whole(number) => Some(*number),
-            Field::Null | Field::Flag(_) | Field::Text(_) | Field::Wholes(_) => None,
+            Field::Null | Field::Flag(_) | Field::Float(_) | Field::Text(_) | Field::Wholes(_) =>
+                None,
         }
     }
 
@@ -80,7 +85,7 @@ impl Field<'_> {
                     None
                 }
             }
-            Field::Wholes(_) => None,
+            Field::Float(_) | Field::Wholes(_) => None,
         }
     }
 
@@ -91,7 +96,9 @@ impl Field<'_> {
     {
         match self {
             Field::Wholes(numbers) => Ok(Some(numbers.copy(alloc)?)),
-            Field::Null | Field::Flag(_) | Field::Whole(_) | Field::Text(_) => Ok(None),
+            Field::Null | Field::Flag(_) | Field::Whole(_) | Field::Float(_) | Field::Text(_) => Ok(
+                None,
+            ),
         }
     }
 }
@@ -121,17 +128,50 @@ fn negative(numeral: &Numeral<'_>) -> Option<i64>
     }
 }
 
+// The float of 64 bits nearest to a numeral that has a point or an exponent, where it is finite.
+fn nearest(negative: bool, numeral: &Numeral<'_>) -> Option<f64>
+    ensures { IfSome result (λ x. number_from negative numeral.now ≡ Some (float x)) }
+{
+    if !numeral.has_point() && numeral.exponent().is_empty() {
+        return None;
+    }
+    let nearest = numeral.to_float::<f64>(negative);
+    if nearest.is_finite() {
+        Some(nearest)
+    } else {
+        None
+    }
+}
+
+// Whether a JSON number has a minus sign, and the numeral behind it.
+fn numeral_of(text: &str) -> (bool, Numeral<'_>)
+    ensures { number_of text.now ≡ number_from result.0 result.1 }
+{
+    let bytes = text.as_bytes();
+    if has_minus(bytes) {
+        (true, Numeral::scan(&bytes[1..]))
+    } else {
+        (false, Numeral::scan(bytes))
+    }
+}
+
 // The whole number that a JSON number is, where it is one of 64 bits and has neither a point nor an
 // exponent.
 fn whole_of(text: &str) -> Option<i64>
     ensures { IfSome result (λ n. number_of text.now ≡ Some (of_integer n)) }
 {
-    let bytes = text.as_bytes();
-    if has_minus(bytes) {
-        negative(&Numeral::scan(&bytes[1..]))
-    } else {
-        unsigned(&Numeral::scan(bytes))
+    match numeral_of(text) {
+        (true, numeral) => negative(&numeral),
+        (false, numeral) => unsigned(&numeral),
     }
+}
+
+// The float that a JSON number with a point or an exponent is.
+fn float_of(text: &str) -> Option<f64>
+    ensures { IfSome result (λ x. number_of text.now ≡ Some (float x)) }
+{
+    let (has_minus, numeral) = numeral_of(text);
+    nearest(has_minus, &numeral)
 }
 
 // The whole numbers up to the end of an array; `None` where something else stands among them.
@@ -171,7 +211,10 @@ fn field_of<'l>(alloc: Global, reader: &mut Reader<'l>) -> Result<Option<Field<'
         Token::String(text) => Ok(Some(Field::Text(text))),
         Token::Number(text) => match whole_of(text) {
             Some(number) => Ok(Some(Field::Whole(number))),
-            None => Ok(None),
+            None => match float_of(text) {
+                Some(number) => Ok(Some(Field::Float(number))),
+                None => Ok(None),
+            },
         },
         Token::BeginArray => match wholes_of(alloc, reader)? {
             Some(numbers) => Ok(Some(Field::Wholes(numbers))),

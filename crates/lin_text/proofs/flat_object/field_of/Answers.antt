@@ -31,8 +31,15 @@ returns-in-Some-whole_of-clause-value c = λ depth some.
     let r = c.next.new.self in
     let first : c.args.reader.now ≡ Token.number text ∷ r = c.in-Some.ensures.value ∙ ap (λ t. token_of t ∷ r) c.in-Number.is in
     let fits : SFits w64 z = search rules in
-    ap (λ ts. converted of_json (value depth ts)) first ∙ number_read depth text r z c.in-Some-whole_of.ensures
+    ap (λ ts. converted of_json (value depth ts)) first ∙ number_read depth text r (of_integer z) c.in-Some-whole_of.ensures
     ∙ ap (λ y. Some (number (of_integer y), r)) (sym (to_z-of_z w64 z fits))
+
+pub returns-in-Some-float_of-clause-value : goal.returns-in-Some-float_of-clause-value
+returns-in-Some-float_of-clause-value c = λ depth some.
+    let text = c.in-Number.text.now in
+    let r = c.next.new.self in
+    let first : c.args.reader.now ≡ Token.number text ∷ r = c.in-Some.ensures.value ∙ ap (λ t. token_of t ∷ r) c.in-Number.is in
+    ap (λ ts. converted of_json (value depth ts)) first ∙ number_read depth text r _ c.in-Some-float_of.ensures
 
 pub returns-in-Some-2-clause-value : goal.returns-in-Some-2-clause-value
 returns-in-Some-2-clause-value c = λ depth some.

@@ -1,8 +1,7 @@
 use Rattle.std.proofs.Common.{◌≡◌, drop, get_or, true, false, ◌==◌, sym, ap, ◌∙◌, arith, take_all, length-drop}
-use Rattle.std.proofs.lemmas.Option.{IfSome_then}
 use Rattle.fast_float.specs.Text.{scan}
-use Rattle.serde_json.specs.Read.{number_of, number_from}
-use Rattle.lin_text.proofs.flat_object.whole_of.Goals as goal
+use Rattle.serde_json.specs.Read.{number_of}
+use Rattle.lin_text.proofs.flat_object.numeral_of.Goals as goal
 
 pub returns-then-has_minus : goal.returns-then-has_minus
 unfolding number_of
@@ -10,8 +9,7 @@ returns-then-has_minus c =
     let s = c.as_bytes-bytes.result.now in
     let signed : (get_or s 0 0 == 45) ≡ true = sym c.if-has_minus.ensures.value in
     let parts : c.scan.result ≡ scan (drop 1 s) = c.scan.ensures.parts ∙ ap scan (take_all _ (drop 1 s) (omega (arith, length-drop 1 s))) in
-    let text : number_of c.args.text.now ≡ number_from true c.scan.result = ap number_of (sym c.as_bytes-bytes.ensures.value) ∙ rw (signed, parts) in
-    IfSome_then c.negative.result c.negative.ensures (λ n e. text ∙ e)
+    ap number_of (sym c.as_bytes-bytes.ensures.value) ∙ rw (signed, parts)
 
 pub returns-else-has_minus : goal.returns-else-has_minus
 unfolding number_of
@@ -19,5 +17,4 @@ returns-else-has_minus c =
     let s = c.as_bytes-bytes.result.now in
     let unsigned : (get_or s 0 0 == 45) ≡ false = sym c.if-has_minus.ensures.value in
     let parts : c.scan-else-has_minus.result ≡ scan s = c.scan-else-has_minus.ensures.parts in
-    let text : number_of c.args.text.now ≡ number_from false c.scan-else-has_minus.result = ap number_of (sym c.as_bytes-bytes.ensures.value) ∙ rw (unsigned, parts) in
-    IfSome_then c.unsigned.result c.unsigned.ensures (λ n e. text ∙ e)
+    ap number_of (sym c.as_bytes-bytes.ensures.value) ∙ rw (unsigned, parts)
