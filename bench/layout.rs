@@ -7,12 +7,12 @@
 //! - The map's hash is fed the set's hash and the state, field by field.
 //! - A step makes a new state; the state before it stands in the frame.
 //! - The links both ways, the events and the places of the calls' entries are vectors of their own.
+mod answer;
 mod reader;
 
-use reader::{History, Kind, Object, Op, Reply};
+use answer::Done;
+use reader::{Kind, Object, Op, Reply};
 use std::arch::x86_64::{_mm_cmpeq_epi8, _mm_loadu_si128, _mm_movemask_epi8, _mm_set1_epi8};
-use std::io::Read;
-use std::time::{Duration, Instant};
 
 const MULTIPLIER: u64 = 0x9E37_79B9_7F4A_7C15;
 
@@ -642,66 +642,15 @@ impl<'o> Search<'o> {
     }
 }
 
-/// What was done, over all objects and searches.
-#[derive(Default)]
-struct Done {
-    lifts: u64,
-    stored: usize,
-    /// The most that one table held.
-    held: usize,
-}
-
-impl Done {
-    fn add(&mut self, search: &Search) {
-        self.lifts += search.lifts;
-        self.stored += search.table.keys.len();
-        self.held = self.held.max(search.table.keys.len());
-    }
-}
-
 /// `None` where the object has a linearization, else its longest run.
 fn check(object: &Object, done: &mut Done) -> Option<Vec<usize>> {
     let mut search = Search::new(object);
     let refuted = search.run();
-    done.add(&search);
+    done.add(search.lifts, search.table.keys.len());
     refuted?;
     Some(search.longest_run())
 }
 
-fn tell(reading: Duration, searching: Duration, done: &Done) {
-    eprintln!("reading {:.6}", reading.as_secs_f64());
-    eprintln!("search {:.6}", searching.as_secs_f64());
-    eprintln!("lifts {}", done.lifts);
-    eprintln!("stored {}", done.stored);
-    eprintln!("held {}", done.held);
-}
-
 fn main() {
-    let started = Instant::now();
-    let mut text = Vec::new();
-    std::io::stdin()
-        .read_to_end(&mut text)
-        .expect("standard input");
-    let history = match History::of_text(&text) {
-        Ok(history) => history,
-        Err(line) => {
-            println!("line {line}: refused");
-            std::process::exit(2);
-        }
-    };
-    let reading = started.elapsed();
-    let mut done = Done::default();
-    let refuted = history
-        .objects
-        .iter()
-        .find_map(|object| Some((object, check(object, &mut done)?)));
-    tell(reading, started.elapsed() - reading, &done);
-    match refuted {
-        None => println!("linearizable"),
-        Some((object, run)) => {
-            println!("not linearizable: {}", object.name);
-            println!("longest run: {} of {} calls", run.len(), object.calls.len());
-            std::process::exit(1);
-        }
-    }
+    answer::print(check);
 }

@@ -8,11 +8,11 @@
 //! the calls that may be next are those before the first return entry. A table keeps the configurations (set of lifted
 //! calls, and state) that are refuted (Lowe 2017), each with its longest continuation; the longest run of a refuted object
 //! is read off it. There is one configuration, which changes in place and is taken back.
+mod answer;
 mod reader;
 
-use reader::{History, Kind, Object, Op, Reply};
-use std::io::Read;
-use std::time::{Duration, Instant};
+use answer::Done;
+use reader::{Kind, Object, Op, Reply};
 
 /// A hash with one word more: a product, folded.
 fn fold(hash: u64, word: u64) -> u64 {
@@ -628,66 +628,15 @@ impl<'o> Search<'o> {
     }
 }
 
-/// What was done, over all objects and searches.
-#[derive(Default)]
-struct Done {
-    lifts: u64,
-    stored: usize,
-    /// The most that one table held.
-    held: usize,
-}
-
-impl Done {
-    fn add(&mut self, search: &Search) {
-        self.lifts += search.lifts;
-        self.stored += search.table.count;
-        self.held = self.held.max(search.table.count);
-    }
-}
-
 /// `None` where the object has a linearization, else its longest run.
 fn check(object: &Object, done: &mut Done) -> Option<Vec<usize>> {
     let mut search = Search::new(object);
     let refuted = search.run();
-    done.add(&search);
+    done.add(search.lifts, search.table.count);
     refuted?;
     Some(search.longest_run())
 }
 
-fn tell(reading: Duration, searching: Duration, done: &Done) {
-    eprintln!("reading {:.6}", reading.as_secs_f64());
-    eprintln!("search {:.6}", searching.as_secs_f64());
-    eprintln!("lifts {}", done.lifts);
-    eprintln!("stored {}", done.stored);
-    eprintln!("held {}", done.held);
-}
-
 fn main() {
-    let started = Instant::now();
-    let mut text = Vec::new();
-    std::io::stdin()
-        .read_to_end(&mut text)
-        .expect("standard input");
-    let history = match History::of_text(&text) {
-        Ok(history) => history,
-        Err(line) => {
-            println!("line {line}: refused");
-            std::process::exit(2);
-        }
-    };
-    let reading = started.elapsed();
-    let mut done = Done::default();
-    let refuted = history
-        .objects
-        .iter()
-        .find_map(|object| Some((object, check(object, &mut done)?)));
-    tell(reading, started.elapsed() - reading, &done);
-    match refuted {
-        None => println!("linearizable"),
-        Some((object, run)) => {
-            println!("not linearizable: {}", object.name);
-            println!("longest run: {} of {} calls", run.len(), object.calls.len());
-            std::process::exit(1);
-        }
-    }
+    answer::print(check);
 }
