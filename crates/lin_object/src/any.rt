@@ -11,6 +11,7 @@ use crate::state::ObjState;
 use std::alloc::{AllocError, Global};
 
 // What the step replies. It needs no memory: no state with items is made.
+#[inline(always)]
 fn reply_of(state: &ObjState, process: u32, op: &Op) -> Option<Reply>
     ensures { result ≡ step_reply (step_of state.now process op.now) }
 {
@@ -59,6 +60,7 @@ impl SeqObject for AnyObject {
 
     ghost may_allocate = { holds_items };
 
+    #[inline(always)]
     fn step(
         &self,
         alloc: Global,
@@ -77,6 +79,7 @@ impl SeqObject for AnyObject {
         }
     }
 
+    #[inline(always)]
     fn step_with(
         &self,
         alloc: Global,

@@ -123,6 +123,7 @@ fn is_minimal<O: SeqObject>(problem: &Problem<O>, set: &CallSet, call: usize) ->
 }
 
 // The state after the call, where it has a step whose reply is the recorded one.
+#[inline(always)]
 fn state_after<O: SeqObject>(
     alloc: Global,
     problem: &Problem<O>,
@@ -198,6 +199,7 @@ impl<O: SeqObject> Config<O> {
 
     // The state that the call, which is minimal, leads to. `None` exactly where it has no step from the state, or its
     // step's reply is not the recorded one.
+    #[inline(always)]
     pub(crate) fn next_state(
         &self,
         alloc: Global,
@@ -223,6 +225,7 @@ impl<O: SeqObject> Config<O> {
     }
 
     // Lifts the call, which is not lifted and leads to the state. The state before it comes in that one's place.
+    #[inline(always)]
     pub(crate) fn lift(&mut self, call: usize, state: &mut O::State) -> Result<(), AllocError>
         requires within { call < length self.old.lifted }
         requires outside { has self.old.lifted call ≡ false }
@@ -237,6 +240,7 @@ impl<O: SeqObject> Config<O> {
 
     // Takes the call, which is lifted, out again, and puts the state before it in. The state that it led to comes in
     // that one's place.
+    #[inline(always)]
     pub(crate) fn unlift(&mut self, call: usize, state: &mut O::State) -> Result<(), AllocError>
         requires { has self.old.lifted call ≡ true }
         ensures lifted { IfOk result (λ done. with_call self.new.lifted call ≡ self.old.lifted) }

@@ -1,4 +1,6 @@
 //! The depth-first search over a memo (Wing and Gong 1993; Lowe 2017), step by step.
+//!
+//! The parts of a step are inlined always, as those of a path are.
 ghost use Rattle.std.specs.Prelude.{◌≡◌, ℕ, ◌++◌, ◌∷◌, Bool, List, Option, Some, None, [], length, true, IfOk, IfSome, IfNone, IsTrue};
 ghost use Rattle.lin_history.specs.Problems.Problem.{problem_of};
 ghost use Rattle.lin_history.specs.Problems.Configurations.{IsReachable};
@@ -50,6 +52,7 @@ impl Ended {
 /// not have it, was not free, or names another problem. Where `is_for_problem` holds, no problems are compared.
 ///
 /// Condition: where `is_for_problem` holds, the memo names the problem.
+#[inline(always)]
 pub fn look_at<O: SeqObject, M: Memo<O>>(
     problem: &Problem<O>,
     config: &Config<O>,
@@ -77,6 +80,7 @@ pub fn look_at<O: SeqObject, M: Memo<O>>(
 ///
 /// Conditions: where `is_for_problem` holds, the memo names the problem; the configuration is refuted, and this is its
 /// longest.
+#[inline(always)]
 pub fn note_at<O: SeqObject, M: Memo<O>>(
     problem: &Problem<O>,
     config: Config<O>,
@@ -105,6 +109,7 @@ pub fn note_at<O: SeqObject, M: Memo<O>>(
 }
 
 // Takes one of the lifts that are left. Without a limit nothing is counted.
+#[inline(always)]
 fn take_lift(left: &mut Option<u64>) -> bool
     ensures taken { IsTrue result → IsTaken left.old left.new }
     ensures none { (IsTrue result → ⊥) → left.old ≡ Some 0 }
@@ -120,6 +125,7 @@ fn take_lift(left: &mut Option<u64>) -> bool
 }
 
 // Why no call may be lifted: no lift is left, or the stop answers. Else one of the lifts left is taken.
+#[inline(always)]
 fn refusal<S: Stop>(left: &mut Option<u64>, stop: &mut S) -> Option<Outcome>
     ensures refused { IfSome result (IsRefusal left.old (S.tells stop.new)) }
     ensures taken { IfNone result (IsTaken left.old left.new) }
@@ -136,6 +142,7 @@ fn refusal<S: Stop>(left: &mut Option<u64>, stop: &mut S) -> Option<Outcome>
 
 // Goes on from the configuration that the frame's call, which was lifted last, led to: asks the memo for it, and goes
 // on after the call where the memo has it, or else from there.
+#[inline(always)]
 fn go_on<O: SeqObject, M: Memo<O>>(
     path: &mut Path<'_, O>,
     frame: Frame<O>,
@@ -189,6 +196,7 @@ fn success<O: SeqObject>(
 
 // Lifts the call, which leads to the frame's state: that is a success where the configuration is complete then. Else
 // the search goes on from there.
+#[inline(always)]
 fn visit<O: SeqObject, M: Memo<O>>(
     path: &mut Path<'_, O>,
     next: Frame<O>,
@@ -280,6 +288,7 @@ struct Candidate {
 
 // Tries the call: passes it over where it can't follow, and else visits what it leads to, where another call may be
 // lifted.
+#[inline(always)]
 fn try_call<O: SeqObject, M: Memo<O>, S: Stop>(
     path: &mut Path<'_, O>,
     candidate: Candidate,
@@ -329,6 +338,7 @@ fn try_call<O: SeqObject, M: Memo<O>, S: Stop>(
 // Goes back from a configuration all of whose calls were tried, and which is so refuted with this longest: hands it to
 // the memo, and goes on after the last frame's call. Where there is no frame, the root is refuted. `AllocError` also where
 // the memo did not keep it and the search needs all.
+#[inline(always)]
 fn go_back<O: SeqObject, M: Memo<O>>(
     path: &mut Path<'_, O>,
     longest: Longest,
@@ -375,6 +385,7 @@ fn go_back<O: SeqObject, M: Memo<O>>(
 }
 
 // One step of a search: tries the candidate, or goes back where none is left.
+#[inline(always)]
 fn step<O: SeqObject, M: Memo<O>, S: Stop>(
     path: &mut Path<'_, O>,
     position: Position,

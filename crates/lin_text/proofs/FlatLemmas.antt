@@ -97,11 +97,6 @@ parse_map-push : (zs : List ℤ) (z : ℤ) (o : Option (Items × List Token)) �
 parse_map-push zs z None = refl
 parse_map-push zs z (Some p) = ap (λ ds. Some (ds, p.1)) (items_before-push zs z p.0)
 
--- No numbers in front change nothing.
-pub none_before : (o : Option (Items × List Token)) → o ≡ parse_map (items_before []) o
-none_before None = refl
-none_before (Some p) = refl
-
 -- A number's token is the value that it writes.
 pub number_read : (depth : ℕ) (s : List ℕ) (r : List Token) (n : Num) → number_of s ≡ Some n → converted of_json (value depth (Token.number s ∷ r)) ≡ Some (number n, r)
 number_read depth s r n e = ap (converted of_json) (value_is depth (Token.number s ∷ r)) ∙ rw e
