@@ -20,8 +20,8 @@ use std::ops::ControlFlow;
 use std::thread::Threads;
 
 // The most lifts of a first search for each call of the object. Where what the calls need is enough to decide it, a queue
-// with a backlog takes one lift for each call; where it is not, a search that goes before another is to cost little.
-const LIFTS_AHEAD: u64 = 8;
+// takes little more than one lift for each call; where it is not, a search that goes before another is to cost little.
+const LIFTS_AHEAD: u64 = 3;
 
 // How many lifts a first search of so many calls may make: no more than the limit, where there is one.
 fn lifts_ahead(calls: usize, limit: Option<u64>) -> u64
