@@ -3,7 +3,7 @@
 
     bench/table.py [RUNS]
 
-Builds `bench/table.rt` by `bench/as_if_proved.py` (two minutes), and runs it RUNS times (9) in each way, in turn. A pair is
+Builds `bench/table.program` by `bench/as_if_proved.py` (two minutes), and runs it RUNS times (9) in each way, in turn. A pair is
 a look that finds its configuration and a note of it, which is known. Prints the nanoseconds of a pair, the least and the
 middle of the runs: of processor time with one thread, and of the time by the clock with four. Run it with nothing beside.
 """
@@ -42,7 +42,7 @@ def main():
     runs = int(sys.argv[1]) if len(sys.argv) > 1 else 9
     with tempfile.TemporaryDirectory() as folder:
         program = Path(folder) / "table"
-        as_if_proved.build(program, Path(__file__).resolve().parent / "table.rt")
+        as_if_proved.build(program, Path(__file__).resolve().parent / "table.program")
         told = {way: [] for way in WAYS}
         for _ in range(runs):
             for way in WAYS:
