@@ -28,7 +28,7 @@ module _ (p : Problem ObjState Op Reply) where
       let same : x ≡ y = one_call (slice_get p.calls i) x y there here in
       same_event n k r q (sym back ∙ ap (λ (z : ProblemCall Op Reply). z.returned) same ∙ returns)
 
-  alone : (a : ℕ) (v : ℤ) → Puts p a v → OnlyPuts p a v → goes_in_once (told p.calls v).putters ≡ true
+  pub alone : (a : ℕ) (v : ℤ) → Puts p a v → OnlyPuts p a v → goes_in_once (told p.calls v).putters ≡ true
   alone a v puts only = alone_once nothing_told p.calls v refl a puts only
 
   -- no lesser number of an event is one by which the call is needed

@@ -6,3 +6,4 @@ pub mod RowLemmas
 pub mod ExactLemmas
 pub mod NeedsLemmas
 pub mod FirstLemmas
+pub mod OwedLemmas

@@ -1,4 +1,4 @@
--- A completion of a reachable configuration, put behind its run, is a linearization: so none begins with a call that needs one that is left out.
+-- A completion of a reachable configuration, put behind its run, is a linearization: so none begins with a call that needs one that is left out, or with a pending one that would get a reply which is owed.
 use Rattle.std.proofs.Common.{◌≡◌, ℕ, Bool, true, false, Some, List, [], ◌∷◌, ◌++◌, length, ◌⊎◌, inl, inr, refl, sym, ap, subst}
 use Rattle.std.specs.Prelude.{Option, None, is_some, IfSome}
 use Rattle.lin_history.specs.Problems.Problem.{Problem}
@@ -11,7 +11,9 @@ use Rattle.lin_history.specs.Problems.Configurations.{IsReachable}
 use Rattle.lin_history.specs.Problems.Needs.{Needs}
 use Rattle.lin_search.specs.CallSetLemmas.{no_calls_has}
 use Rattle.lin_search.specs.AlikeLemmas.{AreAlike, turned, like_completion}
+use Rattle.lin_object.specs.StepAnswers.{SameStep}
 use Rattle.lin_ahead.specs.FirstProgress.{BeginsNone}
+use Rattle.lin_ahead.specs.Owed.{IsPendingAnswer, IsOwed}
 
 in_early : (c : ℕ) (xs ys : List ℕ) → In c xs → In c (xs ++ ys)
 in_early c [] ys h = absurd h
@@ -33,7 +35,7 @@ distinct_joined (x ∷ xs) ys d e apart = (
 )
 
 -- a place in a list of two parts is in the first or in the second
-place_split : (xs ys early : List ℕ) (b : ℕ) (late : List ℕ) → xs ++ ys ≡ early ++ b ∷ late → ((rest : List ℕ) × (xs ≡ early ++ b ∷ rest)) ⊎ ((front : List ℕ) × (early ≡ xs ++ front) × (ys ≡ front ++ b ∷ late))
+pub place_split : (xs ys early : List ℕ) (b : ℕ) (late : List ℕ) → xs ++ ys ≡ early ++ b ∷ late → ((rest : List ℕ) × (xs ≡ early ++ b ∷ rest)) ⊎ ((front : List ℕ) × (early ≡ xs ++ front) × (ys ≡ front ++ b ∷ late))
 place_split [] ys early b late e = inr (early, refl, e)
 place_split (x ∷ xs) ys [] b late e = inl (xs, (let h : x ≡ b = cc in ap (λ (y : ℕ). y ∷ xs) h))
 place_split (x ∷ xs) ys (d ∷ early) b late e =
@@ -96,3 +98,20 @@ module _ {State Op Reply : Type 0} (p : Problem State Op Reply) where
   pub begins_left_out : AreAlike p p → (set : List Bool) (s : State) → IsReachable p set s → (found : Option ℕ) (b : ℕ) → IfSome found (λ (a : ℕ). Needs p a b × (has set a ≡ false)) → is_some found ≡ true → BeginsNone p set s b
   begins_left_out alike set s k None b h e = absurd (cc)
   begins_left_out alike set s k (Some a) b h e = needs_left_out alike set s k a b h.0 h.1
+
+-- a step that is alike has such a reply too
+alike_answer : {State Reply : Type 0} (same_state : State → State → Bool) (same_reply : Reply → Reply → Bool) (m n : Option (State × Reply)) (t : State) (r : Reply) → SameStep same_state same_reply m n → n ≡ Some (t, r) → (u : State) × (q : Reply) × (m ≡ Some (u, q)) × (same_reply q r ≡ true)
+alike_answer ss sr None None t r k e = absurd (cc)
+alike_answer ss sr (Some a) None t r k e = absurd k
+alike_answer ss sr None (Some b) t r k e = absurd k
+alike_answer {State} {Reply} ss sr (Some a) (Some b) t r k e =
+    let same : b ≡ (t, r) = cc in
+    (a.0, a.1, refl, subst (λ (q : Reply). sr a.1 q ≡ true) (ap (λ (answer : State × Reply). answer.1) same) k.1)
+
+module _ {State Op Reply : Type 0} (p : Problem State Op Reply) where
+  -- no completion begins with a pending call whose reply would be one that is owed
+  pub owed_begins_none : AreAlike p p → ((e s : State) (process : ℕ) (op : Op) → p.same_state e s ≡ true → SameStep p.same_state p.same_reply (p.after e process op) (p.after s process op)) → (set : List Bool) (s : State) → IsReachable p set s → (c : ℕ) (r : Reply) → IsPendingAnswer p s c r → IsOwed p r → BeginsNone p set s c
+  owed_begins_none alike steps set s k c r answer owed cs h =
+      let x = answer.0 in
+      let there = alike_answer p.same_state p.same_reply (p.after k.run.3.0 x.process x.op) (p.after s x.process x.op) answer.3.0 r (steps k.run.3.0 s x.process x.op k.run.3.2) answer.3.1 in
+      owed (k.run.0 ++ c ∷ cs) k.run.0 cs c k.run.3.0 there.1 (joined p alike set s k (c ∷ cs) h) refl k.run.3.1 (x, answer.1, answer.2, (there.0, there.2)) there.3

@@ -1,4 +1,4 @@
--- What the order of dequeues tells of the order of enqueues.
+-- What the order of dequeues tells of the order of enqueues, and that no two of them take an item that goes in once.
 use Rattle.std.proofs.Common.{◌≡◌, ◌≢◌, ℕ, zero, suc, Bool, true, false, Option, Some, None, List, [], ◌∷◌, ◌++◌, length, ◌⊎◌, inl, inr, refl, sym, ◌∙◌, ap, subst, append_assoc, append-nil, replicate}
 use Rattle.std.specs.Prelude.{ℤ, slice_get, IfSome, if◌then◌else◌}
 use Rattle.lin_object.specs.declared.op.Op.{Op}
@@ -17,6 +17,9 @@ use Rattle.lin_history.specs.Problems.Continuations.{has}
 use Rattle.lin_history.specs.Problems.Linearizations.{IsRun, IsLinearization}
 use Rattle.lin_history.specs.Problems.Needs.{Needs}
 use Rattle.lin_ahead.specs.Queue.{Item, IsOfQueue, Puts, Took, FoundEmpty, MayTake, OnlyPuts, IsTakenAfter}
+use Rattle.lin_ahead.specs.Owed.{IsPendingAnswer, IsOwed}
+use Rattle.lin_ahead.specs.OwedCalls.{PutOnce}
+use Rattle.lin_ahead.proofs.NeedsLemmas.{place_split}
 
 -- ---- items
 
@@ -152,6 +155,27 @@ queue_answered (u ∷ items) m w e = (items, (let f = reply_of e in let g : u �
 queue_empty : (items : List ℤ) (m : ObjState) → Is (queue_step items Dequeue) m Empty → (items ≡ []) × (m ≡ Queue [])
 queue_empty [] m e = (refl, sym (state_of e))
 queue_empty (u ∷ items) m e = absurd (let f = reply_of e in cc)
+
+-- only a dequeue answers with an item
+only_dequeues : (items : List ℤ) (op : Op) (m : ObjState) (v : ℤ) → Is (queue_step items op) m (Int v) → op ≡ Dequeue
+only_dequeues items (Enqueue w) m v e = absurd (let f = reply_of e in cc)
+only_dequeues items Dequeue m v e = refl
+only_dequeues items (Write w) m v e = absurd (cc)
+only_dequeues items Read m v e = absurd (cc)
+only_dequeues items (Cas a b) m v e = absurd (cc)
+only_dequeues items (Add d) m v e = absurd (cc)
+only_dequeues items Get m v e = absurd (cc)
+only_dequeues items (Push w) m v e = absurd (cc)
+only_dequeues items Pop m v e = absurd (cc)
+only_dequeues items (Insert w) m v e = absurd (cc)
+only_dequeues items (Remove w) m v e = absurd (cc)
+only_dequeues items (Contains w) m v e = absurd (cc)
+only_dequeues items Lock m v e = absurd (cc)
+only_dequeues items Unlock m v e = absurd (cc)
+only_dequeues items TryLock m v e = absurd (cc)
+only_dequeues items (Put k w) m v e = absurd (cc)
+only_dequeues items (Lookup k) m v e = absurd (cc)
+only_dequeues items (Delete k) m v e = absurd (cc)
 
 module _ {p : Problem ObjState Op Reply} {start : List ℤ} (of_queue : IsOfQueue p start) where
   fits_some : (answer : Option (ObjState × Reply)) (recorded : Option (ℕ × Reply)) (m : ObjState) → state_if_fits p.same_reply recorded answer ≡ Some m → (r : Reply) × Is answer m r × (fits p.same_reply r recorded ≡ true)
@@ -481,3 +505,108 @@ module _ {p : Problem ObjState Op Reply} {start : List ℤ} (of_queue : IsOfQueu
             let all : start ++ puts at.0 ≡ k.so_far.took = k.so_far.same ∙ ap (λ (m : List ℤ). k.so_far.took ++ m) none.0 ∙ append-nil k.so_far.took in
             none_taken at.0 a at.1 whole' k b v after_it (subst (λ (m : List ℤ). Item v m) all (Item_late v start (puts at.0) (put_there at.0 b v put r))))
       ]
+
+  -- ---- an item that goes in once does not come out twice
+
+  puts_none : (c : ℕ) (x : ProblemCall Op Reply) → slice_get p.calls c ≡ Some x → x.op ≡ Dequeue → puts_by (slice_get p.calls c) ≡ []
+  puts_none c x there op = ap puts_by there ∙ ap put_in_by op
+
+  legal_one : (l : List ℕ) (s t u : ObjState) → Legal p s l t → Legal p s l u → t ≡ u
+  legal_one [] s t u a b = sym a ∙ b
+  legal_one (c ∷ cs) s t u a b = legal_one cs a.0 t u a.2 (subst (λ (m : ObjState). Legal p m cs u) (let f = a.1 in let g = b.1 in cc) b.2)
+
+  -- what comes after a run goes on from the state that the run ends in
+  goes_on_from : (early late : List ℕ) (s u : ObjState) → Legal p p.start (early ++ late) u → Legal p p.start early s → Legal p s late u
+  goes_on_from early late s u whole so_far =
+      let k = legal_split early late p.start u whole in
+      subst (λ (m : ObjState). Legal p m late u) (legal_one early p.start k.0 s k.1 so_far) k.2
+
+  from_start : (l : List ℕ) (s : ObjState) → Legal p p.start l s → Legal p (Queue start) l s
+  from_start l s k = subst (λ (u : ObjState). Legal p u l s) of_queue.start_is k
+
+  -- not before a call that takes it, and once more after that
+  twice : (xs : List ℕ) (a : ℕ) (ys : List ℕ) (m t : ObjState) (v : ℤ) (left : List ℤ) → IsDistinct (xs ++ a ∷ ys) → PutOnce p v → (Item v start → ⊥) → puts_by (slice_get p.calls a) ≡ [] → (f : Fifo start xs m) → f.rest ≡ v ∷ left → (g : Fifo left ys t) → Item v g.rest → ⊥
+  twice xs a ys m t v left distinct unique fresh none f first g last =
+      elim (Item_either v start (puts (xs ++ a ∷ ys)) (subst (λ (l : List ℤ). Item v l) (sym all) (Item_early v (f.took ++ v ∷ []) (g.took ++ g.rest) there))) [
+        | inl q ↦ fresh q
+        | inr q ↦ (
+            let b = putter (xs ++ a ∷ ys) v q in
+            once (xs ++ a ∷ ys) b.0 v (f.took ++ v ∷ []) (g.took ++ g.rest) distinct (λ d put. unique d b.0 put b.2) fresh all there (Item_late v g.took g.rest last))
+      ]
+    where
+      there : Item v (f.took ++ v ∷ [])
+      there = Item_late v f.took (v ∷ []) (inl refl)
+
+      all : start ++ puts (xs ++ a ∷ ys) ≡ (f.took ++ v ∷ []) ++ (g.took ++ g.rest)
+      all =
+          ap (λ (l : List ℤ). start ++ l) (puts_joined xs (a ∷ ys))
+          ∙ sym (append_assoc start (puts xs) (puts (a ∷ ys)))
+          ∙ ap (λ (l : List ℤ). l ++ puts (a ∷ ys)) (f.same ∙ ap (λ (l : List ℤ). f.took ++ l) first)
+          ∙ ap (λ (l : List ℤ). (f.took ++ v ∷ left) ++ (l ++ puts ys)) none
+          ∙ ap (λ (l : List ℤ). l ++ puts ys) (sym (append_assoc f.took (v ∷ []) left))
+          ∙ append_assoc (f.took ++ v ∷ []) left (puts ys)
+          ∙ ap (λ (l : List ℤ). (f.took ++ v ∷ []) ++ l) g.same
+
+  -- a pending call can't take it where another call returned with it
+  pub owed_item : (v : ℤ) (j : ℕ) → PutOnce p v → (Item v start → ⊥) → Took p j v → IsOwed p (Int v)
+  owed_item v j unique fresh took l early late c s q whole eq legal answer same =
+      elim (place_split early (c ∷ late) at.0 j at.1 (sym eq ∙ at.2)) [
+        | inl before ↦ taken_before before.0 before.1
+        | inr later ↦ taken_after later.0 later.1 later.2
+      ]
+    where
+      at : WithIn j l
+      at = stands l j whole (took_completed j took.0 took.3.0 (Int v) took.1 took.3.1)
+
+      x : ProblemCall Op Reply
+      x = answer.0
+
+      distinct : IsDistinct l
+      distinct = whole.continuation.distinct
+
+      end : ObjState
+      end = whole.continuation.legal.0
+
+      -- the pending call's step, which takes the item
+      takes : (items : List ℤ) → s ≡ Queue items → Is (queue_step items x.op) answer.3.0 (Int v)
+      takes items e =
+          let step : p.after (Queue items) x.process x.op ≡ Some (answer.3.0, q) = subst (λ (u : ObjState). p.after u x.process x.op ≡ Some (answer.3.0, q)) e answer.3.1 in
+          subst (λ (r : Reply). Is (queue_step items x.op) answer.3.0 r) (of_queue.exact q (Int v) same) (sym (of_queue.after_is (Queue items) x.process x.op) ∙ step)
+
+      first : (items : List ℤ) → s ≡ Queue items → (x.op ≡ Dequeue) × ((rest : List ℤ) × (items ≡ v ∷ rest) × (answer.3.0 ≡ Queue rest))
+      first items e =
+          let step = takes items e in
+          let op = only_dequeues items x.op answer.3.0 v step in
+          (op, queue_answered items answer.3.0 v (subst (λ (o : Op). Is (queue_step items o) answer.3.0 (Int v)) op step))
+
+      taken_before : (rest : List ℕ) → early ≡ at.0 ++ j ∷ rest → ⊥
+      taken_before rest e =
+          let k = legal_split at.0 (j ∷ rest) (Queue start) s (subst (λ (m : List ℕ). Legal p (Queue start) m s) e (from_start early s legal)) in
+          let f = fifo at.0 start k.0 k.1 in
+          let goes : Legal p (Queue f.rest) (j ∷ rest) s = subst (λ (u : ObjState). Legal p u (j ∷ rest) s) f.ends k.2 in
+          let front = queue_answered f.rest goes.0 v (replied f.rest goes.0 j took.0 took.3.0 (Int v) took.1 took.2 took.3.1 goes.1) in
+          let g = fifo rest front.0 s (subst (λ (u : ObjState). Legal p u rest s) front.2 goes.2) in
+          let again = (first g.rest g.ends).1 in
+          twice at.0 j rest k.0 s v front.0 (subst IsDistinct e (distinct_early early (c ∷ late) (subst IsDistinct eq distinct))) unique fresh (puts_none j took.0 took.1 took.2) f front.1 g (subst (λ (m : List ℤ). Item v m) (sym again.1) (inl refl))
+
+      taken_after : (front : List ℕ) → at.0 ≡ early ++ front → c ∷ late ≡ front ++ j ∷ at.1 → ⊥
+      taken_after [] e split =
+          let call : c ≡ j = cc in
+          let there : slice_get p.calls j ≡ Some x = subst (λ (n : ℕ). slice_get p.calls n ≡ Some x) call answer.1 in
+          let one : x ≡ took.0 = (let a = took.1 in cc) in
+          let none : ◌≡◌ {A = Option (ℕ × Reply)} None (Some (took.3.0, Int v)) = sym answer.2 ∙ ap (λ (y : ProblemCall Op Reply). y.returned) one ∙ took.3.1 in
+          cc
+      taken_after (d ∷ mid) e split =
+          let call : c ≡ d = cc in
+          let rest : late ≡ mid ++ j ∷ at.1 = cc in
+          let f = fifo early start s (from_start early s legal) in
+          let taken = first f.rest f.ends in
+          let goes : Legal p s (c ∷ late) end = goes_on_from early (c ∷ late) s end (subst (λ (m : List ℕ). Legal p p.start m end) eq whole.continuation.legal.1) legal in
+          let step = stepped f.rest goes.0 c x answer.1 (subst (λ (u : ObjState). next p u c ≡ Some goes.0) f.ends goes.1) in
+          let same_end : goes.0 ≡ answer.3.0 = (let a = step.1 in let b = takes f.rest f.ends in state_of (sym a ∙ b)) in
+          let more : Legal p (Queue taken.1.0) (mid ++ j ∷ at.1) end = subst (λ (u : ObjState). Legal p u (mid ++ j ∷ at.1) end) (same_end ∙ taken.1.2) (subst (λ (m : List ℕ). Legal p goes.0 m end) rest goes.2) in
+          let two = legal_split mid (j ∷ at.1) (Queue taken.1.0) end more in
+          let g = fifo mid taken.1.0 two.0 two.1 in
+          let last : Legal p (Queue g.rest) (j ∷ at.1) end = subst (λ (u : ObjState). Legal p u (j ∷ at.1) end) g.ends two.2 in
+          let again = queue_answered g.rest last.0 v (replied g.rest last.0 j took.0 took.3.0 (Int v) took.1 took.2 took.3.1 last.1) in
+          twice early d mid s two.0 v taken.1.0 (subst IsDistinct e (distinct_early at.0 (j ∷ at.1) (subst IsDistinct at.2 distinct))) unique fresh (subst (λ (n : ℕ). puts_by (slice_get p.calls n) ≡ []) call (puts_none c x answer.1 taken.0)) f taken.1.1 g (subst (λ (m : List ℤ). Item v m) (sym again.1) (inl refl))

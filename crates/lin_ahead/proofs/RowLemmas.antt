@@ -29,6 +29,11 @@ through f [] i y e = absurd (cc)
 through f (x ∷ xs) zero y e = (x, refl, cc)
 through f (x ∷ xs) (suc i) y e = through f xs i y e
 
+pub seen_through : {A B : Type 0} (f : A → B) (xs : List A) (i : ℕ) (x : A) → slice_get xs i ≡ Some x → slice_get (map f xs) i ≡ Some (f x)
+seen_through f [] i x e = absurd (cc)
+seen_through {A} f (y ∷ xs) zero x e = (let h : y ≡ x = cc in ap (λ (z : A). Some (f z)) h)
+seen_through f (y ∷ xs) (suc i) x e = seen_through f xs i x e
+
 module _ (p : Problem ObjState Op Reply) where
   -- ---- the number by which a call is needed
 

@@ -5,3 +5,5 @@ pub mod ItemCalls
 pub mod CallNumbers
 pub mod FirstProgress
 pub mod FirstAnswer
+pub mod Owed
+pub mod OwedCalls

@@ -1,5 +1,5 @@
-//! A first search: it passes over calls that need one left out, and tells nothing of longest runs.
-ghost use Rattle.std.specs.Prelude.{◌≡◌, ℕ, ◌+◌, ◌<◌, ◌^◌, ◌++◌, ◌∷◌, [], List, Option, Some, None, length, IfOk, IfSome, IfNone};
+//! A first search: it passes over calls that are known to begin no completion, and tells nothing of longest runs.
+ghost use Rattle.std.specs.Prelude.{◌≡◌, ℕ, ◌+◌, ◌<◌, ◌^◌, ◌++◌, ◌∷◌, [], List, Option, Some, None, length, IfOk, IfSome, IfNone, IsTrue};
 ghost use Rattle.lin_history.specs.Problems.Problem.{problem_of};
 ghost use Rattle.lin_history.specs.Problems.Configurations.{IsReachable, IsRefuted};
 ghost use Rattle.lin_history.specs.Problems.Linearizations.{IsLinearization};
@@ -8,29 +8,34 @@ ghost use Rattle.lin_history.specs.Problems.Needs.{AreNeeds};
 ghost use Rattle.lin_search.specs.CallSet.{with_call, lifted_set};
 ghost use Rattle.lin_search.specs.Entries.{IsMinimal, IsLeastMinimal};
 ghost use Rattle.lin_ahead.specs.FirstAnswer.{IsFirstAnswer};
+ghost use Rattle.lin_ahead.specs.Owed.{AreOwed};
 ghost use Rattle.lin_ahead.specs.FirstProgress.{BeginsNone, IsFirstProgress, IsFirstTurn, IsFirstLifted, IsFirstStep, IsFirstVisit, left_to_try};
 ghost use Rattle.lin_search.specs.NextCall.{IsNext, HasEveryCompleted};
 ghost use Rattle.lin_search.specs.Path.{calls_of};
 ghost use Rattle.lin_search.specs.Progress.{bound};
 ghost use Rattle.std.proofs.Common.{Break};
 
+use crate::calls_in_turn::CallsInTurn;
 use crate::first_answer::FirstAnswer;
-use crate::needed_calls::NeededCalls;
+use crate::look_ahead::KnownAhead;
+use crate::needed_calls::{left_out, needed_in_turn};
+use crate::owed_replies::{is_owed, owed_in_turn, pending_answer};
 use crate::refuted_set::RefutedSet;
-use lin_history::{NeedRows, Order, Problem};
+use lin_history::{Order, Problem};
 use lin_object::{SeqObject, lawful};
 use lin_search::{Config, Frame, Longest, Path};
 use std::alloc::{AllocError, Global};
 use std::ops::ControlFlow;
 
-// The state of a first search: its path, what it has refuted, the calls by how early they are needed, and how many lifts
-// were made. Of longest continuations it tells nothing: those of its frames are left at none.
+// The state of a first search: its path, what it has refuted, the calls by how early they are needed, those that are owed
+// a reply, and how many lifts were made. Of longest continuations it tells nothing: those of its frames are left at none.
 #[derive(Drop)]
 struct FirstSearch<'p, O: SeqObject> {
     alloc: Global,
     path: Path<'p, O>,
     refuted: RefutedSet<O>,
-    needed: NeededCalls,
+    needed: CallsInTurn,
+    owed: CallsInTurn,
     lifts: u64,
 }
 
@@ -64,6 +69,7 @@ impl<'p, O: SeqObject> FirstSearch<'p, O> {
     {
         self.path.unlift(frame)?;
         self.needed.unlifted(frame.call());
+        self.owed.unlifted(frame.call());
         Ok(self.path.after(frame.call(), Longest::none()).candidate)
     }
 
@@ -87,6 +93,7 @@ impl<'p, O: SeqObject> FirstSearch<'p, O> {
             return Ok(next);
         }
         self.needed.lifted(self.path.config());
+        self.owed.lifted(self.path.config());
         Ok(self.path.descend(frame)?.candidate)
     }
 
@@ -120,11 +127,60 @@ impl<'p, O: SeqObject> FirstSearch<'p, O> {
         Ok(ControlFlow::Continue(self.go_on(frame)?))
     }
 
-    // The state that the call, which is minimal, leads to. `None` where no completion begins with the call: where it needs
-    // one that is not lifted, or can't follow.
-    fn follow(&self, rows: &NeedRows, call: usize) -> Result<Option<O::State>, AllocError>
+    // Whether the call is pending, and would get a reply that is owed to another call.
+    fn takes_what_is_owed(&self, ahead: &KnownAhead, call: usize) -> Result<bool, AllocError>
+        requires owed { AreOwed (problem_of O.after O.State.eq O.Reply.eq
+            self.now.path.entries.problem) ahead.now.owed.items }
+        requires reachable { IsReachable (problem_of O.after O.State.eq O.Reply.eq
+            self.now.path.entries.problem) self.now.path.config.lifted self.now.path.config.state }
+        ensures { IfOk result (λ takes. IsTrue takes → BeginsNone
+            (problem_of O.after O.State.eq O.Reply.eq self.now.path.entries.problem)
+            self.now.path.config.lifted self.now.path.config.state call) }
+    {
+        lawful::<O>();
+        let problem = self.path.problem();
+        match pending_answer(self.alloc, problem, self.path.config(), call)? {
+            Some(reply) => Ok(is_owed(problem, ahead.owed.as_slice(), &self.owed, &reply)),
+            None => Ok(false),
+        }
+    }
+
+    // Whether the call, which is minimal, is known to begin no completion: it needs one that is not lifted, or would take a
+    // reply that is owed to another.
+    fn begins_none(&self, ahead: &KnownAhead, call: usize) -> Result<bool, AllocError>
         requires needs { AreNeeds (problem_of O.after O.State.eq O.Reply.eq
-            self.now.path.entries.problem) rows.now }
+            self.now.path.entries.problem) ahead.now.needs }
+        requires owed { AreOwed (problem_of O.after O.State.eq O.Reply.eq
+            self.now.path.entries.problem) ahead.now.owed.items }
+        requires reachable { IsReachable (problem_of O.after O.State.eq O.Reply.eq
+            self.now.path.entries.problem) self.now.path.config.lifted self.now.path.config.state }
+        ensures { IfOk result (λ known. IsTrue known → BeginsNone
+            (problem_of O.after O.State.eq O.Reply.eq self.now.path.entries.problem)
+            self.now.path.config.lifted self.now.path.config.state call) }
+    {
+        lawful::<O>();
+        let config = self.path.config();
+        if left_out(
+            self.path.problem(),
+            &ahead.needs,
+            &self.needed,
+            config,
+            call,
+        )
+        .is_some()
+        {
+            return Ok(true);
+        }
+        self.takes_what_is_owed(ahead, call)
+    }
+
+    // The state that the call, which is minimal, leads to. `None` where no completion begins with the call: where that is
+    // known ahead, or it can't follow.
+    fn follow(&self, ahead: &KnownAhead, call: usize) -> Result<Option<O::State>, AllocError>
+        requires needs { AreNeeds (problem_of O.after O.State.eq O.Reply.eq
+            self.now.path.entries.problem) ahead.now.needs }
+        requires owed { AreOwed (problem_of O.after O.State.eq O.Reply.eq
+            self.now.path.entries.problem) ahead.now.owed.items }
         requires reachable { IsReachable (problem_of O.after O.State.eq O.Reply.eq
             self.now.path.entries.problem) self.now.path.config.lifted self.now.path.config.state }
         requires minimal { IsMinimal (problem_of O.after O.State.eq O.Reply.eq
@@ -139,13 +195,7 @@ impl<'p, O: SeqObject> FirstSearch<'p, O> {
             (problem_of O.after O.State.eq O.Reply.eq self.now.path.entries.problem)
             self.now.path.config.lifted self.now.path.config.state call)) }
     {
-        lawful::<O>();
-        let problem = self.path.problem();
-        if self
-            .needed
-            .left_out(problem, rows, self.path.config(), call)
-            .is_some()
-        {
+        if self.begins_none(ahead, call)? {
             return Ok(None);
         }
         self.path.next_state(call)
@@ -154,11 +204,13 @@ impl<'p, O: SeqObject> FirstSearch<'p, O> {
     // Tries the call, the candidate: passes it over where no completion begins with it.
     fn try_call(
         &mut self,
-        rows: &NeedRows,
+        ahead: &KnownAhead,
         call: usize,
     ) -> Result<ControlFlow<Option<Frame<O>>, Option<usize>>, AllocError>
         requires needs { AreNeeds (problem_of O.after O.State.eq O.Reply.eq
-            self.old.path.entries.problem) rows.now }
+            self.old.path.entries.problem) ahead.now.needs }
+        requires owed { AreOwed (problem_of O.after O.State.eq O.Reply.eq
+            self.old.path.entries.problem) ahead.now.owed.items }
         requires progress { IsFirstProgress (problem_of O.after O.State.eq O.Reply.eq
             self.old.path.entries.problem) self.old.refuted self.old.lifts
             self.old.path.entries.lifted self.old.path.frames.items self.old.path.config
@@ -170,7 +222,7 @@ impl<'p, O: SeqObject> FirstSearch<'p, O> {
             (left_to_try (length self.old.path.entries.problem.calls) self.old.path.frames.items
             call)) }
     {
-        match self.follow(rows, call)? {
+        match self.follow(ahead, call)? {
             Some(state) => {
                 let next = Frame::new(state, call, Longest::none());
                 Ok(ControlFlow::Break(Some(next)))
@@ -210,11 +262,13 @@ impl<'p, O: SeqObject> FirstSearch<'p, O> {
     // One step with no lift: tries the candidate, or goes back where there is none.
     fn step(
         &mut self,
-        rows: &NeedRows,
+        ahead: &KnownAhead,
         candidate: Option<usize>,
     ) -> Result<ControlFlow<Option<Frame<O>>, Option<usize>>, AllocError>
         requires needs { AreNeeds (problem_of O.after O.State.eq O.Reply.eq
-            self.old.path.entries.problem) rows.now }
+            self.old.path.entries.problem) ahead.now.needs }
+        requires owed { AreOwed (problem_of O.after O.State.eq O.Reply.eq
+            self.old.path.entries.problem) ahead.now.owed.items }
         requires progress { IsFirstProgress (problem_of O.after O.State.eq O.Reply.eq
             self.old.path.entries.problem) self.old.refuted self.old.lifts
             self.old.path.entries.lifted self.old.path.frames.items self.old.path.config
@@ -229,7 +283,7 @@ impl<'p, O: SeqObject> FirstSearch<'p, O> {
             candidate))) }
     {
         match candidate {
-            Some(call) => self.try_call(rows, call),
+            Some(call) => self.try_call(ahead, call),
             None => self.go_back(),
         }
     }
@@ -237,11 +291,13 @@ impl<'p, O: SeqObject> FirstSearch<'p, O> {
     // The next call that is to be lifted, from the candidate on. `None` where there is none, and so no linearization.
     fn next_turn(
         &mut self,
-        rows: &NeedRows,
+        ahead: &KnownAhead,
         candidate: Option<usize>,
     ) -> Result<Option<Frame<O>>, AllocError>
         requires needs { AreNeeds (problem_of O.after O.State.eq O.Reply.eq
-            self.old.path.entries.problem) rows.now }
+            self.old.path.entries.problem) ahead.now.needs }
+        requires owed { AreOwed (problem_of O.after O.State.eq O.Reply.eq
+            self.old.path.entries.problem) ahead.now.owed.items }
         requires progress { IsFirstProgress (problem_of O.after O.State.eq O.Reply.eq
             self.old.path.entries.problem) self.old.refuted self.old.lifts
             self.old.path.entries.lifted self.old.path.frames.items self.old.path.config
@@ -258,7 +314,7 @@ impl<'p, O: SeqObject> FirstSearch<'p, O> {
     {
         let mut at = candidate;
         loop {
-            match self.step(rows, at)? {
+            match self.step(ahead, at)? {
                 ControlFlow::Continue(next) => at = next,
                 ControlFlow::Break(turn) => return Ok(turn),
             }
@@ -266,9 +322,11 @@ impl<'p, O: SeqObject> FirstSearch<'p, O> {
     }
 
     // Searches on from the root, which is not complete, with so many lifts at most.
-    fn go(&mut self, rows: &NeedRows, lifts: u64) -> Result<FirstAnswer, AllocError>
+    fn go(&mut self, ahead: &KnownAhead, lifts: u64) -> Result<FirstAnswer, AllocError>
         requires needs { AreNeeds (problem_of O.after O.State.eq O.Reply.eq
-            self.old.path.entries.problem) rows.now }
+            self.old.path.entries.problem) ahead.now.needs }
+        requires owed { AreOwed (problem_of O.after O.State.eq O.Reply.eq
+            self.old.path.entries.problem) ahead.now.owed.items }
         requires progress { (candidate : Option ℕ)
             → IsLeastMinimal (problem_of O.after O.State.eq O.Reply.eq
             self.old.path.entries.problem) self.old.path.config.lifted 0 candidate
@@ -284,7 +342,7 @@ impl<'p, O: SeqObject> FirstSearch<'p, O> {
     {
         let mut candidate = self.path.enter().candidate;
         while self.lifts < lifts {
-            let Some(next) = self.next_turn(rows, candidate)? else {
+            let Some(next) = self.next_turn(ahead, candidate)? else {
                 return Ok(FirstAnswer::Refuted);
             };
             match self.visit(next)? {
@@ -292,7 +350,7 @@ impl<'p, O: SeqObject> FirstSearch<'p, O> {
                 ControlFlow::Break(order) => return Ok(FirstAnswer::Found(order)),
             }
         }
-        let Some(_next) = self.next_turn(rows, candidate)? else {
+        let Some(_next) = self.next_turn(ahead, candidate)? else {
             return Ok(FirstAnswer::Refuted);
         };
         Ok(FirstAnswer::Exhausted)
@@ -300,21 +358,24 @@ impl<'p, O: SeqObject> FirstSearch<'p, O> {
 }
 
 /// The search from the root that only asks whether there is a linearization, and for the least one (this project's
-/// own). It makes at most so many lifts. It passes over each call that needs one that is not lifted, as the rows tell,
-/// before a state is made, and it keeps of a refuted configuration only that it is refuted. So it may meet far fewer
-/// configurations than `search`, and what it keeps is of no use to that one.
+/// own). It makes at most so many lifts. It passes over each call that needs one that is not lifted, before a state is made,
+/// and each pending call that would get a reply which is owed to another; and it keeps of a refuted configuration only that
+/// it is refuted. So it may meet far fewer configurations than `search`, and what it keeps is of no use to that one.
 ///
 /// `Found` with the least linearization; `Refuted` where there is none; `Exhausted` where as many lifts were made and
 /// another was to be made. `AllocError` where memory was refused.
 ///
-/// Condition: the rows are right for the problem.
+/// Condition: what is known ahead is right for the problem.
 pub fn search_first<O: SeqObject>(
     alloc: Global,
     problem: &Problem<O>,
-    rows: &NeedRows,
+    ahead: &KnownAhead,
     lifts: u64,
 ) -> Result<FirstAnswer, AllocError>
-    requires { AreNeeds (problem_of O.after O.State.eq O.Reply.eq problem.now) rows.now }
+    requires needs { AreNeeds (problem_of O.after O.State.eq O.Reply.eq problem.now)
+        ahead.now.needs }
+    requires owed { AreOwed (problem_of O.after O.State.eq O.Reply.eq problem.now)
+        ahead.now.owed.items }
     ensures { IfOk result (IsFirstAnswer (problem_of O.after O.State.eq O.Reply.eq problem.now)
         lifts) }
 {
@@ -327,8 +388,9 @@ pub fn search_first<O: SeqObject>(
         alloc,
         path: Path::new(alloc, problem, root)?,
         refuted: RefutedSet::new(alloc),
-        needed: NeededCalls::new(alloc, rows)?,
+        needed: needed_in_turn(alloc, &ahead.needs)?,
+        owed: owed_in_turn(alloc, ahead.owed.as_slice())?,
         lifts: 0,
     };
-    search.go(rows, lifts)
+    search.go(ahead, lifts)
 }

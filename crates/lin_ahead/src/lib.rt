@@ -5,10 +5,13 @@
 //! - `each_item`: the same of each item, by one pass over the calls.
 //! - `numbers`: the two numbers of a call.
 //! - `look_ahead`: the rows of these numbers for a whole problem.
-//! - `first_search`: a search that passes over calls that need one left out; `needed_calls`: the calls by how early they are
-//!   needed; `refuted_set`: what it has refuted; `first_answer`: what it answers.
+//! - `first_search`: a search that passes over calls that need one left out, or that would take a reply which is owed to
+//!   another; `needed_calls`: the calls by how early they are needed; `owed_replies`: the replies that are owed;
+//!   `calls_in_turn`: calls in an order, and the first that is not lifted; `refuted_set`: what it has refuted;
+//!   `first_answer`: what it answers.
 #![tactic(auto)]
 
+mod calls_in_turn;
 mod each_item;
 mod first_answer;
 mod first_search;
@@ -16,8 +19,9 @@ mod item_calls;
 mod look_ahead;
 mod needed_calls;
 mod numbers;
+mod owed_replies;
 mod refuted_set;
 
 pub use first_answer::FirstAnswer;
 pub use first_search::search_first;
-pub use look_ahead::known_needs;
+pub use look_ahead::{KnownAhead, known_ahead};

@@ -1,4 +1,4 @@
-//! The rows of numbers that tell which calls of a queue's problem need which.
+//! What the calls of a queue's problem tell before any search: which calls need which, and which are owed their replies.
 
 ghost use Rattle.std.specs.Prelude.{◌≡◌, ◌↔◌, [], IfOk, IfSome, IsSome, IsTrue};
 ghost use Rattle.std.specs.Ordering.{int_eq};
@@ -8,11 +8,13 @@ ghost use Rattle.lin_history.specs.Problems.Needs.{AreNeeds};
 ghost use Rattle.lin_ahead.specs.ItemCalls.{told, told_in, least_pending};
 ghost use Rattle.lin_ahead.specs.CallNumbers.{by_row, from_row};
 ghost use Rattle.lin_ahead.specs.Numbers.{AreNumbers};
+ghost use Rattle.lin_ahead.specs.Owed.{AreOwed};
+ghost use Rattle.lin_ahead.specs.OwedCalls.{once_row, AreOnceTaken};
 ghost use Rattle.lin_ahead.specs.AnyProblem.{any_problem};
 
 use crate::each_item::told_by_calls;
 use crate::item_calls::{ItemCalls, least_pending};
-use crate::numbers::{by_of, from_of};
+use crate::numbers::{by_of, from_of, took_once};
 use indexmap::IndexMap;
 use lin_history::{NeedRows, Problem, ProblemCall};
 use lin_object::{AnyObject, Items, ObjState, Op, Reply};
@@ -67,32 +69,69 @@ fn from_row(
     Ok(row)
 }
 
-// The two numbers of each of these calls.
-fn rows_of(alloc: Global, calls: &[ProblemCall<Op, Reply>]) -> Result<NeedRows, AllocError>
-    ensures by { IfOk result (λ rows. rows.by ≡ by_row (told calls.now) calls.now) }
-    ensures from { IfOk result (λ rows. rows.from
+// For each call whether it took an item that goes in once.
+fn once_row(
+    alloc: Global,
+    items: &IndexMap<i64, ItemCalls>,
+    calls: &[ProblemCall<Op, Reply>],
+) -> Result<Vec<bool>, AllocError>
+    ensures { IfOk result (λ row. row.items
+        ≡ once_row (told_in (get int_eq items.now)) calls.now) }
+{
+    let mut row = Vec::with_capacity(alloc, calls.len())?;
+    for call in calls {
+        row.push(took_once(items, call))?;
+    }
+    Ok(row)
+}
+
+/// What is known of a problem before any search: which calls need which, and which are owed their replies.
+#[derive(Debug, Drop)]
+pub struct KnownAhead {
+    /// Two numbers for each call, by which one call is known to need another.
+    pub needs: NeedRows,
+    /// For each call, whether it returned with a reply that no pending call can be answered with.
+    pub owed: Vec<bool>,
+}
+
+// What these calls tell.
+fn told_ahead(alloc: Global, calls: &[ProblemCall<Op, Reply>]) -> Result<KnownAhead, AllocError>
+    ensures by { IfOk result (λ ahead. ahead.needs.by ≡ by_row (told calls.now) calls.now) }
+    ensures from { IfOk result (λ ahead. ahead.needs.from
         ≡ from_row (told calls.now) (least_pending calls.now) calls.now) }
+    ensures owed { IfOk result (λ ahead. ahead.owed.items
+        ≡ once_row (told calls.now) calls.now) }
 {
     let items = told_by_calls(alloc, calls)?;
     let by = by_row(alloc, &items, calls)?;
     let from = from_row(alloc, &items, calls)?;
-    Ok(NeedRows::new(by, from))
+    let owed = once_row(alloc, &items, calls)?;
+    Ok(KnownAhead {
+        needs: NeedRows::new(by, from),
+        owed,
+    })
 }
 
-/// What is known of which calls need which, before any search: for a problem that starts with an empty queue two
-/// numbers for each call, and `None` for every other problem. Of the numbers that tell of items by real time (as
-/// `IsBy` and `IsFrom` say) these tell most. `AllocError` where memory was refused. (This project's own.)
-pub fn known_needs(
+/// What is known of a problem before any search: of one that starts with an empty queue two numbers for each call, by which
+/// calls need others, and which calls are owed their replies; `None` of every other problem. Of the numbers that tell of
+/// items by real time (as `IsBy` and `IsFrom` say) these tell most. A call is owed an item with which it returned and which
+/// goes in once. `AllocError` where memory was refused. (This project's own.)
+pub fn known_ahead(
     alloc: Global,
     problem: &Problem<AnyObject>,
-) -> Result<Option<NeedRows>, AllocError>
-    ensures needed { IfOk result (λ known. IfSome known (AreNeeds (any_problem problem.now))) }
-    ensures numbers { IfOk result (λ known. IfSome known
-        (AreNumbers (any_problem problem.now))) }
+) -> Result<Option<KnownAhead>, AllocError>
+    ensures needed { IfOk result (λ known. IfSome known (λ ahead.
+        AreNeeds (any_problem problem.now) ahead.needs)) }
+    ensures numbers { IfOk result (λ known. IfSome known (λ ahead.
+        AreNumbers (any_problem problem.now) ahead.needs)) }
+    ensures owed { IfOk result (λ known. IfSome known (λ ahead.
+        AreOwed (any_problem problem.now) ahead.owed.items)) }
+    ensures takers { IfOk result (λ known. IfSome known (λ ahead.
+        AreOnceTaken (any_problem problem.now) ahead.owed.items)) }
     ensures when { IfOk result (λ known. IsSome known ↔ (problem.now.start ≡ Queue [])) }
 {
     if !is_empty_queue(problem.start()) {
         return Ok(None);
     }
-    Ok(Some(rows_of(alloc, problem.calls())?))
+    Ok(Some(told_ahead(alloc, problem.calls())?))
 }

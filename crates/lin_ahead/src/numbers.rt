@@ -1,10 +1,11 @@
-//! The two numbers of a call, by what the calls tell of its item.
+//! What a call is known by ahead, by what the calls tell of its item: its two numbers, and whether it is owed its reply.
 
 ghost use Rattle.std.specs.Prelude.{◌≡◌};
 ghost use Rattle.std.specs.Ordering.{int_eq};
 ghost use Rattle.indexmap.specs.IndexMap.{get};
 ghost use Rattle.lin_ahead.specs.ItemCalls.{told_in};
 ghost use Rattle.lin_ahead.specs.CallNumbers.{by_item, from_item, by_number, from_number};
+ghost use Rattle.lin_ahead.specs.OwedCalls.{took_once};
 
 use crate::each_item::told_of;
 use crate::item_calls::{BEYOND, ItemCalls};
@@ -57,5 +58,15 @@ pub(crate) fn from_of(
     match &call.op {
         Op::Enqueue(item) => from_item(&told_of(items, *item), pending),
         _ => 0,
+    }
+}
+
+/// Whether the call returned with an item that goes in once.
+pub(crate) fn took_once(items: &IndexMap<i64, ItemCalls>, call: &ProblemCall<Op, Reply>) -> bool
+    ensures { result ≡ took_once (told_in (get int_eq items.now)) call.now.op call.now.returned }
+{
+    match (&call.op, &call.returned) {
+        (Op::Dequeue, Some((_, Reply::Int(item)))) => told_of(items, *item).goes_in_once(),
+        _ => false,
     }
 }

@@ -11,7 +11,7 @@ ghost use Rattle.lin_workers.specs.Verdict.{IsObjectVerdict};
 ghost use Rattle.lincheck.specs.Verdict.{AreLeastOf, IsVerdict};
 
 use crate::verdict::{Checked, Verdict};
-use lin_ahead::{FirstAnswer, known_needs, search_first};
+use lin_ahead::{FirstAnswer, known_ahead, search_first};
 use lin_history::{History, Order, Problem, join, place};
 use lin_object::AnyObject;
 use lin_workers::{CheckFault, Gate, ObjectVerdict, Options, check_object};
@@ -39,11 +39,11 @@ fn lifts_ahead(calls: usize, limit: Option<u64>) -> u64
 fn first_order(alloc: Global, problem: &Problem<AnyObject>, limit: Option<u64>) -> Option<Order>
     ensures { IfSome result (IsLeast (IsLinearization (any_problem problem.now))) }
 {
-    let Ok(Some(rows)) = known_needs(alloc, problem) else {
+    let Ok(Some(ahead)) = known_ahead(alloc, problem) else {
         return None;
     };
     let lifts = lifts_ahead(problem.len(), limit);
-    match search_first(alloc, problem, &rows, lifts) {
+    match search_first(alloc, problem, &ahead, lifts) {
         Ok(FirstAnswer::Found(order)) => Some(order),
         Ok(FirstAnswer::Refuted | FirstAnswer::Exhausted) | Err(AllocError) => None,
     }
@@ -135,7 +135,7 @@ fn judge<R: AllocGlobal + Threads + Sync, G: Gate>(
 
 /// Checks a history. Its objects are searched in the order of declaration, each as `check_object` does with these options;
 /// the first that has no linearization, or that is not decided within the limit, ends the check. Before an object of which
-/// it is known which calls need which, a queue that starts empty, a first search is made (`search_first`), unless the gate
+/// something is known ahead, a queue that starts empty, a first search is made (`search_first`), unless the gate
 /// wants workers; where that finds the order, nothing is stored for the object.
 ///
 /// The verdict is the same for every number of workers and shards and on every schedule. `CheckFault::Memory` where the

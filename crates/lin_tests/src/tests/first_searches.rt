@@ -1,8 +1,8 @@
-//! The search that passes over calls which need others answers as the search without a memo does.
+//! The search that passes over calls by what is known ahead answers as the search without a memo does.
 
 use super::random::random_history;
 use super::searches::{Part, plainly_searched};
-use lin_ahead::{FirstAnswer, known_needs, search_first};
+use lin_ahead::{FirstAnswer, known_ahead, search_first};
 use lin_object::Kind;
 use lin_search::Outcome;
 use std::alloc::{AllocError, Global};
@@ -16,12 +16,12 @@ fn is_as_plain(first: &FirstAnswer, plain: &Outcome) -> bool {
     }
 }
 
-// Whether both answer the same of a problem of which it is known which calls need which.
+// Whether both answer the same of a problem of which something is known ahead.
 fn first_is_as_plain(alloc: Global, problem: &Part) -> Result<bool, AllocError> {
-    let Some(rows) = known_needs(alloc, problem)? else {
+    let Some(ahead) = known_ahead(alloc, problem)? else {
         return Ok(false);
     };
-    let first = search_first(alloc, problem, &rows, 1_000_000)?;
+    let first = search_first(alloc, problem, &ahead, 1_000_000)?;
     Ok(is_as_plain(&first, &plainly_searched(alloc, problem)?))
 }
 
