@@ -57,7 +57,7 @@ module _ (p : Problem ObjState Op Reply) where
   called_after k i x there h = rw there at h
 
   -- no number is greater than the first call of those that took the item, if it is right
-  below_takers : (k : ℕ) (v : ℤ) → k ≤ 2 ^ 32 → ((j : ℕ) → Took p j v → CalledFrom p k j) → k ≤ (told p.calls v).called
+  pub below_takers : (k : ℕ) (v : ℤ) → k ≤ 2 ^ 32 → ((j : ℕ) → Took p j v → CalledFrom p k j) → k ≤ (told p.calls v).called
   below_takers k v few takers = elim (called_there nothing_told p.calls v) [
     | inl e ↦ omega (arith, few, e)
     | inr (n, (i, x, there, took, e)) ↦ (let h = called_after k i x there (takers i (x, there, took.0, (n, took.1))) in omega (arith, h, e))

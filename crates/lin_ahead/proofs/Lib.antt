@@ -6,4 +6,4 @@ pub mod RowLemmas
 pub mod ExactLemmas
 pub mod NeedsLemmas
 pub mod FirstLemmas
-pub mod OwedLemmas
+pub mod AheadLemmas

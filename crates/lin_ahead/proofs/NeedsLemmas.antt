@@ -8,11 +8,11 @@ use Rattle.lin_history.specs.Problems.Precedence.{Before}
 use Rattle.lin_history.specs.Problems.Continuations.{has, no_calls, IsCompletion}
 use Rattle.lin_history.specs.Problems.Linearizations.{IsRun, IsLinearization}
 use Rattle.lin_history.specs.Problems.Configurations.{IsReachable}
-use Rattle.lin_history.specs.Problems.Needs.{Needs}
 use Rattle.lin_search.specs.CallSetLemmas.{no_calls_has}
 use Rattle.lin_search.specs.AlikeLemmas.{AreAlike, turned, like_completion}
 use Rattle.lin_object.specs.StepAnswers.{SameStep}
 use Rattle.lin_ahead.specs.FirstProgress.{BeginsNone}
+use Rattle.lin_ahead.specs.Behind.{NeedsBehind}
 use Rattle.lin_ahead.specs.Owed.{IsPendingAnswer, IsOwed}
 
 in_early : (c : ℕ) (xs ys : List ℕ) → In c xs → In c (xs ++ ys)
@@ -88,14 +88,14 @@ module _ {State Op Reply : Type 0} (p : Problem State Op Reply) where
       ]
 
   -- no completion of a reachable configuration begins with a call that needs one that is left out
-  pub needs_left_out : AreAlike p p → (set : List Bool) (s : State) → IsReachable p set s → (a b : ℕ) → Needs p a b → has set a ≡ false → BeginsNone p set s b
+  needs_left_out : AreAlike p p → (set : List Bool) (s : State) → IsReachable p set s → (a b : ℕ) → NeedsBehind p set a b → has set a ≡ false → BeginsNone p set s b
   needs_left_out alike set s k a b needs out c h =
-      let there : In a k.run.0 = needs (k.run.0 ++ b ∷ c) (joined alike set s k (b ∷ c) h) k.run.0 c refl in
+      let there : In a k.run.0 = needs (k.run.0 ++ b ∷ c) k.run.0 c (joined alike set s k (b ∷ c) h) refl (λ d i. h.continuation.outside d (inr i)) in
       let inside = (k.run.2 a).1 there in
       cc
 
   -- the same, of a call that may have been found
-  pub begins_left_out : AreAlike p p → (set : List Bool) (s : State) → IsReachable p set s → (found : Option ℕ) (b : ℕ) → IfSome found (λ (a : ℕ). Needs p a b × (has set a ≡ false)) → is_some found ≡ true → BeginsNone p set s b
+  pub begins_left_out : AreAlike p p → (set : List Bool) (s : State) → IsReachable p set s → (found : Option ℕ) (b : ℕ) → IfSome found (λ (a : ℕ). NeedsBehind p set a b × (has set a ≡ false)) → is_some found ≡ true → BeginsNone p set s b
   begins_left_out alike set s k None b h e = absurd (cc)
   begins_left_out alike set s k (Some a) b h e = needs_left_out alike set s k a b h.0 h.1
 

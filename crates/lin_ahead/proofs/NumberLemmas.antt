@@ -1,6 +1,6 @@
 -- The numbers tell what is needed.
-use Rattle.std.proofs.Common.{◌≡◌, ◌≢◌, ℕ, ◌<◌, ◌≤◌, ◌^◌, Option, Some, None, List, inl, inr, sym, ◌∙◌, ap, subst, arith}
-use Rattle.std.specs.Prelude.{ℤ, slice_get, IsSomeAnd}
+use Rattle.std.proofs.Common.{◌≡◌, ◌≢◌, ℕ, ◌<◌, ◌≤◌, ◌^◌, Bool, Option, Some, None, List, inl, inr, refl, sym, ◌∙◌, ap, subst, arith}
+use Rattle.std.specs.Prelude.{ℤ, slice_get, IfSome, IsSomeAnd}
 use Rattle.lin_object.specs.declared.op.Op.{Op}
 use Rattle.lin_object.specs.declared.op.Op.TheVariants.{Enqueue}
 use Rattle.lin_object.specs.declared.reply.Reply.{Reply}
@@ -9,9 +9,13 @@ use Rattle.lin_history.specs.declared.problems.problem.ProblemCall.{ProblemCall}
 use Rattle.lin_history.specs.Problems.Problem.{Problem}
 use Rattle.lin_history.specs.Problems.Precedence.{Before}
 use Rattle.lin_history.specs.Problems.Needs.{Needs}
-use Rattle.lin_ahead.specs.Queue.{IsOfQueue, Puts, Took, IsTakenAfter}
-use Rattle.lin_ahead.proofs.QueueLemmas.{queue_needs_item, queue_needs_empty}
+use Rattle.lin_ahead.specs.Queue.{IsOfQueue, Puts, Took, MayTake, IsTakenAfter}
+use Rattle.lin_object.specs.declared.reply.Reply.TheVariants.{Int}
+use Rattle.lin_history.specs.Problems.Lists.{In}
+use Rattle.lin_ahead.proofs.QueueLemmas.{queue_needs_item, queue_needs_empty, behind_item, behind_empty}
 use Rattle.lin_ahead.specs.Numbers.{ReturnsAt, CalledFrom, IsBy, IsFrom}
+use Rattle.lin_ahead.specs.Behind.{NeedsBehind, OthersCalledAfter}
+use Rattle.lin_ahead.specs.ToldAhead.{IsTaker}
 
 same_item : (v w : ℤ) → Enqueue v ≡ Enqueue w → v ≡ w
 same_item v w e = cc
@@ -54,3 +58,26 @@ module _ {p : Problem ObjState Op Reply} {start : List ℤ} (of_queue : IsOfQueu
           let same : w ≡ v = one_item b w v (subst (λ (c : ℕ). Puts p c w) e puts) put in
           let least : n ≤ m = (bounds i (subst (λ (u : ℤ). Took p i u) same took)).1 m at in
           omega (arith, least, below)
+
+  -- the same behind a set, by the number of b's takers that have returned, where those of the takers that the set lacks were called later
+  pub taken_need : (set : List Bool) (a b m n : ℕ) (v : ℤ) (takers : List ℕ) → IsBy p start a m → m < 2 ^ 32 → Puts p b v
+      → ((j : ℕ) → Took p j v → CalledFrom p n j × ((k : ℕ) → ReturnsAt p j k → n ≤ k)) → m < n
+      → ((c : ℕ) → IsTaker p c → (i : ℕ) × (slice_get takers i ≡ Some c)) → OthersCalledAfter p set m takers → NeedsBehind p set a b
+  taken_need set a b m n v takers by event put bounds below every others l early late whole eq outside = elim by [
+    | inl many ↦ absurd (omega (arith, many, event))
+    | inr (i, at, inl (empty, same)) ↦ subst (λ (c : ℕ). In c early) same (behind_empty of_queue i b v empty put l early late whole eq (later_takers i at))
+    | inr (i, at, inr (w, puts, only, fresh, took)) ↦ behind_item of_queue a b i v w (other i at w puts took) only fresh took put l early late whole eq (later_takers i at)
+  ]
+    where
+      other : (i : ℕ) → ReturnsAt p i m → (w : ℤ) → Puts p a w → Took p i w → a ≢ b
+      other i at w puts took e =
+          let same : w ≡ v = one_item b w v (subst (λ (c : ℕ). Puts p c w) e puts) put in
+          let least : n ≤ m = (bounds i (subst (λ (u : ℤ). Took p i u) same took)).1 m at in
+          omega (arith, least, below)
+
+      later_takers : (i : ℕ) → ReturnsAt p i m → (j : ℕ) → In j late → MayTake p j v → Before p i j
+      later_takers i at j there (x, is, op, fits) = go x.returned refl fits
+        where
+          go : (back : Option (ℕ × Reply)) → x.returned ≡ back → IfSome back (λ r. r.1 ≡ Int v) → Before p i j
+          go None e f = let k = every j (x, is, op, e) in rw (at.1, at.2.1) (others k.0 j k.1 (outside j there))
+          go (Some (k, r)) e f = before_of i j m n at below (bounds j (x, is, op, (k, e ∙ ap (λ (q : Reply). Some (k, q)) f))).0

@@ -17,8 +17,8 @@ use Rattle.lin_history.specs.Problems.Continuations.{has}
 use Rattle.lin_history.specs.Problems.Linearizations.{IsRun, IsLinearization}
 use Rattle.lin_history.specs.Problems.Needs.{Needs}
 use Rattle.lin_ahead.specs.Queue.{Item, IsOfQueue, Puts, Took, FoundEmpty, MayTake, OnlyPuts, IsTakenAfter}
-use Rattle.lin_ahead.specs.Owed.{IsPendingAnswer, IsOwed}
-use Rattle.lin_ahead.specs.OwedCalls.{PutOnce}
+use Rattle.lin_ahead.specs.Owed.{IsOwed}
+use Rattle.lin_ahead.specs.ToldAhead.{PutOnce}
 use Rattle.lin_ahead.proofs.NeedsLemmas.{place_split}
 
 -- ---- items
@@ -54,6 +54,11 @@ item_split (x ∷ xs) ys (z ∷ front) w rest e =
       | inl q ↦ inl (inr q)
       | inr q ↦ (let r = q.1 in inr (q.0, cc, q.2))
     ]
+
+-- the items with one more are what came out and one that is left: that one is the one more, or it came out
+one_more_or_out : (xs : List ℤ) (v w : ℤ) (ys took more rest : List ℤ) → took ≡ xs ++ more → v ∷ ys ≡ more ++ w ∷ rest → (v ≡ w) ⊎ Item v took
+one_more_or_out xs v w ys took [] rest e f = inl (cc)
+one_more_or_out xs v w ys took (u ∷ more) rest e f = inr (subst (λ (l : List ℤ). Item v l) (sym e) (Item_late v xs (u ∷ more) (inl (cc))))
 
 -- ---- calls
 
@@ -610,3 +615,118 @@ module _ {p : Problem ObjState Op Reply} {start : List ℤ} (of_queue : IsOfQueu
           let last : Legal p (Queue g.rest) (j ∷ at.1) end = subst (λ (u : ObjState). Legal p u (j ∷ at.1) end) g.ends two.2 in
           let again = queue_answered g.rest last.0 v (replied g.rest last.0 j took.0 took.3.0 (Int v) took.1 took.2 took.3.1 last.1) in
           twice early d mid s two.0 v taken.1.0 (subst IsDistinct e (distinct_early at.0 (j ∷ at.1) (subst IsDistinct at.2 distinct))) unique fresh (subst (λ (n : ℕ). puts_by (slice_get p.calls n) ≡ []) call (puts_none c x answer.1 taken.0)) f taken.1.1 g (subst (λ (m : List ℤ). Item v m) (sym again.1) (inl refl))
+
+  -- ---- what stands behind an enqueue
+
+  not_taker : (b j : ℕ) (v : ℤ) → Puts p b v → MayTake p j v → j ≡ b → ⊥
+  not_taker b j v put take e =
+      let f : slice_get p.calls b ≡ Some take.0 = subst (λ (n : ℕ). slice_get p.calls n ≡ Some take.0) e take.1 in
+      let g : take.0 ≡ put.0 = (let h = put.1 in cc) in
+      let o : Dequeue ≡ Enqueue v = sym take.2 ∙ ap (λ (x : ProblemCall Op Reply). x.op) g ∙ put.2 in
+      cc
+
+  -- the calls up to one that stands behind an enqueue, in two parts
+  record Behind (early : List ℕ) (b : ℕ) (mid : List ℕ) (i : ℕ) (late : List ℕ) : Type 0 where
+    passed : ObjState
+    reached : ObjState
+    end : ObjState
+    before : Fifo start early passed
+    between : Fifo before.rest (b ∷ mid) reached
+    goes_on : Legal p (Queue between.rest) (i ∷ late) end
+
+  behind : (early : List ℕ) (b : ℕ) (mid : List ℕ) (i : ℕ) (late : List ℕ) → IsRun p ((early ++ b ∷ mid) ++ i ∷ late) → Behind early b mid i late
+  behind early b mid i late run =
+      let one = legal_split (early ++ b ∷ mid) (i ∷ late) (Queue start) run.legal.0 (from_start ((early ++ b ∷ mid) ++ i ∷ late) run.legal.0 run.legal.1) in
+      let two = legal_split early (b ∷ mid) (Queue start) one.0 one.1 in
+      let f = fifo early start two.0 two.1 in
+      let g = fifo (b ∷ mid) f.rest one.0 (subst (λ (s : ObjState). Legal p s (b ∷ mid) one.0) f.ends two.2) in
+      record { passed = two.0; reached = one.0; end = run.legal.0; before = f; between = g; goes_on = subst (λ (s : ObjState). Legal p s (i ∷ late) run.legal.0) g.ends one.2 }
+
+  -- the item that call b puts in does not come out before call i, where all that may take it behind b were called after i returned
+  stays : (early : List ℕ) (b : ℕ) (mid : List ℕ) (i : ℕ) (late : List ℕ) (v : ℤ) → IsRun p ((early ++ b ∷ mid) ++ i ∷ late) → (k : Behind early b mid i late) → Puts p b v → ((j : ℕ) → In j mid → MayTake p j v → Before p i j) → Item v k.between.took → ⊥
+  stays early b mid i late v run k put after_it h =
+      let t = k.between.taker v h in
+      elim t.1 [
+        | inl e ↦ not_taker b t.0 v put t.2 e
+        | inr more ↦ not_before (early ++ b ∷ mid) i late run t.0 (after_it t.0 more t.2) (In_late t.0 early (b ∷ mid) (inr more))
+      ]
+
+  same_behind : (b : ℕ) (mid : List ℕ) (v : ℤ) (items took rest : List ℤ) → Puts p b v → items ++ puts (b ∷ mid) ≡ took ++ rest → items ++ (v ∷ puts mid) ≡ took ++ rest
+  same_behind b mid v items took rest put e = ap (λ (l : List ℤ). items ++ (l ++ puts mid)) (sym (put_by b v put)) ∙ e
+
+  -- where i took w, which a alone puts in, and what b puts in stays till then, a stands before b
+  pub behind_item : (a b i : ℕ) (v w : ℤ) → a ≢ b → OnlyPuts p a w → (Item w start → ⊥) → Took p i w → Puts p b v → (l early late : List ℕ) → IsLinearization p l → l ≡ early ++ b ∷ late → ((j : ℕ) → In j late → MayTake p j v → Before p i j) → In a early
+  behind_item a b i v w other only fresh took put l early late whole eq after_it =
+      elim (place_split early (b ∷ late) at.0 i at.1 (sym eq ∙ at.2)) [
+        | inl q ↦ taken_before q.0 q.1
+        | inr q ↦ taken_after q.0 q.1 q.2
+      ]
+    where
+      at : WithIn i l
+      at = stands l i whole (took_completed i took.0 took.3.0 (Int w) took.1 took.3.1)
+
+      run : IsRun p (at.0 ++ i ∷ at.1)
+      run = subst (λ (m : List ℕ). IsRun p m) at.2 whole.continuation
+
+      put_in : (m : List ℕ) → Item w (start ++ puts m) → In a m
+      put_in m h = elim (Item_either w start (puts m) h) [
+        | inl q ↦ absurd (fresh q)
+        | inr q ↦ (let k = putter m w q in subst (λ (n : ℕ). In n m) (only k.0 k.2) k.1)
+      ]
+
+      taken_before : (rest : List ℕ) → early ≡ at.0 ++ i ∷ rest → In a early
+      taken_before rest e =
+          let k = moment at.0 i at.1 run in
+          let front = queue_answered k.so_far.rest k.goes_on.0 w (replied k.so_far.rest k.goes_on.0 i took.0 took.3.0 (Int w) took.1 took.2 took.3.1 k.goes_on.1) in
+          let there : Item w (start ++ puts at.0) = subst (λ (m : List ℤ). Item w m) (sym k.so_far.same) (Item_late w k.so_far.took k.so_far.rest (subst (λ (m : List ℤ). Item w m) (sym front.1) (inl refl))) in
+          subst (λ (m : List ℕ). In a m) (sym e) (In_early a at.0 (i ∷ rest) (put_in at.0 there))
+
+      taken_after : (front : List ℕ) → at.0 ≡ early ++ front → b ∷ late ≡ front ++ i ∷ at.1 → In a early
+      taken_after [] e split = absurd (
+          let call : b ≡ i = cc in
+          let there : slice_get p.calls i ≡ Some put.0 = subst (λ (n : ℕ). slice_get p.calls n ≡ Some put.0) call put.1 in
+          let one : put.0 ≡ took.0 = (let k = took.1 in cc) in
+          let op : Enqueue v ≡ Dequeue = sym put.2 ∙ ap (λ (x : ProblemCall Op Reply). x.op) one ∙ took.2 in
+          cc)
+      taken_after (d ∷ mid) e split =
+          let call : d ≡ b = cc in
+          let rest : late ≡ mid ++ i ∷ at.1 = cc in
+          let place : at.0 ≡ early ++ b ∷ mid = e ∙ ap (λ (n : ℕ). early ++ n ∷ mid) call in
+          let run' : IsRun p ((early ++ b ∷ mid) ++ i ∷ at.1) = subst (λ (m : List ℕ). IsRun p (m ++ i ∷ at.1)) place run in
+          let k = behind early b mid i at.1 run' in
+          let front = queue_answered k.between.rest k.goes_on.0 w (replied k.between.rest k.goes_on.0 i took.0 took.3.0 (Int w) took.1 took.2 took.3.1 k.goes_on.1) in
+          let all = same_behind b mid v k.before.rest k.between.took k.between.rest put k.between.same ∙ ap (λ (m : List ℤ). k.between.took ++ m) front.1 in
+          elim (item_split k.before.rest (v ∷ puts mid) k.between.took w front.0 all) [
+            | inl q ↦ put_in early (subst (λ (m : List ℤ). Item w m) (sym k.before.same) (Item_late w k.before.took k.before.rest q))
+            | inr q ↦ elim (one_more_or_out k.before.rest v w (puts mid) k.between.took q.0 front.0 q.1 q.2) [
+              | inl same ↦ absurd (other (sym (only b (subst (λ (u : ℤ). Puts p b u) same put))))
+              | inr out ↦ absurd (stays early b mid i at.1 v run' k put (λ j h t. after_it j (subst (λ (m : List ℕ). In j m) (sym rest) (In_early j mid (i ∷ at.1) h)) t) out)
+            ]
+          ]
+
+  -- where a found the queue empty, and what b puts in stays till then, a stands before b
+  pub behind_empty : (a b : ℕ) (v : ℤ) → FoundEmpty p a → Puts p b v → (l early late : List ℕ) → IsLinearization p l → l ≡ early ++ b ∷ late → ((j : ℕ) → In j late → MayTake p j v → Before p a j) → In a early
+  behind_empty a b v found put l early late whole eq after_it =
+      elim (place_split early (b ∷ late) at.0 a at.1 (sym eq ∙ at.2)) [
+        | inl q ↦ subst (λ (m : List ℕ). In a m) (sym q.1) (In_late a at.0 (a ∷ q.0) (inl refl))
+        | inr q ↦ found_after q.0 q.1 q.2
+      ]
+    where
+      at : WithIn a l
+      at = stands l a whole (took_completed a found.0 found.3.0 Empty found.1 found.3.1)
+
+      run : IsRun p (at.0 ++ a ∷ at.1)
+      run = subst (λ (m : List ℕ). IsRun p m) at.2 whole.continuation
+
+      found_after : (front : List ℕ) → at.0 ≡ early ++ front → b ∷ late ≡ front ++ a ∷ at.1 → In a early
+      found_after [] e split = absurd (not_both a b v found put (cc))
+      found_after (d ∷ mid) e split =
+          let call : d ≡ b = cc in
+          let rest : late ≡ mid ++ a ∷ at.1 = cc in
+          let place : at.0 ≡ early ++ b ∷ mid = e ∙ ap (λ (n : ℕ). early ++ n ∷ mid) call in
+          let run' : IsRun p ((early ++ b ∷ mid) ++ a ∷ at.1) = subst (λ (m : List ℕ). IsRun p (m ++ a ∷ at.1)) place run in
+          let k = behind early b mid a at.1 run' in
+          let none = queue_empty k.between.rest k.goes_on.0 (replied k.between.rest k.goes_on.0 a found.0 found.3.0 Empty found.1 found.2 found.3.1 k.goes_on.1) in
+          let all = same_behind b mid v k.before.rest k.between.took k.between.rest put k.between.same ∙ ap (λ (m : List ℤ). k.between.took ++ m) none.0 ∙ append-nil k.between.took in
+          let out : Item v k.between.took = subst (λ (m : List ℤ). Item v m) all (Item_late v k.before.rest (v ∷ puts mid) (inl refl)) in
+          absurd (stays early b mid a at.1 v run' k put (λ j h t. after_it j (subst (λ (m : List ℕ). In j m) (sym rest) (In_early j mid (a ∷ at.1) h)) t) out)

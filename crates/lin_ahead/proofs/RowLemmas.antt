@@ -91,7 +91,7 @@ module _ (p : Problem ObjState Op Reply) where
   called_from n c x there h = rw there h
 
   -- no call took the item before the least event that is told
-  bounds : (timed : AreTimed p.calls) (v : ℤ) (n : ℕ) → n ≤ (told p.calls v).called → (j : ℕ) → Took p j v → CalledFrom p n j × ((m : ℕ) → ReturnsAt p j m → n ≤ m)
+  pub bounds : (timed : AreTimed p.calls) (v : ℤ) (n : ℕ) → n ≤ (told p.calls v).called → (j : ℕ) → Took p j v → CalledFrom p n j × ((m : ℕ) → ReturnsAt p j m → n ≤ m)
   bounds timed v n h j (x, there, op, (at, back)) =
       let k : (told p.calls v).called ≤ x.called = (within nothing_told p.calls v j x at there (op, back)).1 in
       (called_from n j x there (omega (arith, h, k)), λ m r. later m r (omega (arith, h, k)))

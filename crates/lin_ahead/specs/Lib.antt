@@ -6,4 +6,5 @@ pub mod CallNumbers
 pub mod FirstProgress
 pub mod FirstAnswer
 pub mod Owed
-pub mod OwedCalls
+pub mod Behind
+pub mod ToldAhead

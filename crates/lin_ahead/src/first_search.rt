@@ -4,11 +4,10 @@ ghost use Rattle.lin_history.specs.Problems.Problem.{problem_of};
 ghost use Rattle.lin_history.specs.Problems.Configurations.{IsReachable, IsRefuted};
 ghost use Rattle.lin_history.specs.Problems.Linearizations.{IsLinearization};
 ghost use Rattle.lin_history.specs.Problems.Lists.{IsLeast};
-ghost use Rattle.lin_history.specs.Problems.Needs.{AreNeeds};
 ghost use Rattle.lin_search.specs.CallSet.{with_call, lifted_set};
 ghost use Rattle.lin_search.specs.Entries.{IsMinimal, IsLeastMinimal};
 ghost use Rattle.lin_ahead.specs.FirstAnswer.{IsFirstAnswer};
-ghost use Rattle.lin_ahead.specs.Owed.{AreOwed};
+ghost use Rattle.lin_ahead.specs.Behind.{IsRightAhead};
 ghost use Rattle.lin_ahead.specs.FirstProgress.{BeginsNone, IsFirstProgress, IsFirstTurn, IsFirstLifted, IsFirstStep, IsFirstVisit, left_to_try};
 ghost use Rattle.lin_search.specs.NextCall.{IsNext, HasEveryCompleted};
 ghost use Rattle.lin_search.specs.Path.{calls_of};
@@ -129,8 +128,8 @@ impl<'p, O: SeqObject> FirstSearch<'p, O> {
 
     // Whether the call is pending, and would get a reply that is owed to another call.
     fn takes_what_is_owed(&self, ahead: &KnownAhead, call: usize) -> Result<bool, AllocError>
-        requires owed { AreOwed (problem_of O.after O.State.eq O.Reply.eq
-            self.now.path.entries.problem) ahead.now.owed.items }
+        requires ahead { IsRightAhead (problem_of O.after O.State.eq O.Reply.eq
+            self.now.path.entries.problem) ahead.now }
         requires reachable { IsReachable (problem_of O.after O.State.eq O.Reply.eq
             self.now.path.entries.problem) self.now.path.config.lifted self.now.path.config.state }
         ensures { IfOk result (λ takes. IsTrue takes → BeginsNone
@@ -148,10 +147,8 @@ impl<'p, O: SeqObject> FirstSearch<'p, O> {
     // Whether the call, which is minimal, is known to begin no completion: it needs one that is not lifted, or would take a
     // reply that is owed to another.
     fn begins_none(&self, ahead: &KnownAhead, call: usize) -> Result<bool, AllocError>
-        requires needs { AreNeeds (problem_of O.after O.State.eq O.Reply.eq
-            self.now.path.entries.problem) ahead.now.needs }
-        requires owed { AreOwed (problem_of O.after O.State.eq O.Reply.eq
-            self.now.path.entries.problem) ahead.now.owed.items }
+        requires ahead { IsRightAhead (problem_of O.after O.State.eq O.Reply.eq
+            self.now.path.entries.problem) ahead.now }
         requires reachable { IsReachable (problem_of O.after O.State.eq O.Reply.eq
             self.now.path.entries.problem) self.now.path.config.lifted self.now.path.config.state }
         ensures { IfOk result (λ known. IsTrue known → BeginsNone
@@ -160,15 +157,7 @@ impl<'p, O: SeqObject> FirstSearch<'p, O> {
     {
         lawful::<O>();
         let config = self.path.config();
-        if left_out(
-            self.path.problem(),
-            &ahead.needs,
-            &self.needed,
-            config,
-            call,
-        )
-        .is_some()
-        {
+        if left_out(self.path.problem(), ahead, &self.needed, config, call).is_some() {
             return Ok(true);
         }
         self.takes_what_is_owed(ahead, call)
@@ -177,10 +166,8 @@ impl<'p, O: SeqObject> FirstSearch<'p, O> {
     // The state that the call, which is minimal, leads to. `None` where no completion begins with the call: where that is
     // known ahead, or it can't follow.
     fn follow(&self, ahead: &KnownAhead, call: usize) -> Result<Option<O::State>, AllocError>
-        requires needs { AreNeeds (problem_of O.after O.State.eq O.Reply.eq
-            self.now.path.entries.problem) ahead.now.needs }
-        requires owed { AreOwed (problem_of O.after O.State.eq O.Reply.eq
-            self.now.path.entries.problem) ahead.now.owed.items }
+        requires ahead { IsRightAhead (problem_of O.after O.State.eq O.Reply.eq
+            self.now.path.entries.problem) ahead.now }
         requires reachable { IsReachable (problem_of O.after O.State.eq O.Reply.eq
             self.now.path.entries.problem) self.now.path.config.lifted self.now.path.config.state }
         requires minimal { IsMinimal (problem_of O.after O.State.eq O.Reply.eq
@@ -207,10 +194,8 @@ impl<'p, O: SeqObject> FirstSearch<'p, O> {
         ahead: &KnownAhead,
         call: usize,
     ) -> Result<ControlFlow<Option<Frame<O>>, Option<usize>>, AllocError>
-        requires needs { AreNeeds (problem_of O.after O.State.eq O.Reply.eq
-            self.old.path.entries.problem) ahead.now.needs }
-        requires owed { AreOwed (problem_of O.after O.State.eq O.Reply.eq
-            self.old.path.entries.problem) ahead.now.owed.items }
+        requires ahead { IsRightAhead (problem_of O.after O.State.eq O.Reply.eq
+            self.old.path.entries.problem) ahead.now }
         requires progress { IsFirstProgress (problem_of O.after O.State.eq O.Reply.eq
             self.old.path.entries.problem) self.old.refuted self.old.lifts
             self.old.path.entries.lifted self.old.path.frames.items self.old.path.config
@@ -265,10 +250,8 @@ impl<'p, O: SeqObject> FirstSearch<'p, O> {
         ahead: &KnownAhead,
         candidate: Option<usize>,
     ) -> Result<ControlFlow<Option<Frame<O>>, Option<usize>>, AllocError>
-        requires needs { AreNeeds (problem_of O.after O.State.eq O.Reply.eq
-            self.old.path.entries.problem) ahead.now.needs }
-        requires owed { AreOwed (problem_of O.after O.State.eq O.Reply.eq
-            self.old.path.entries.problem) ahead.now.owed.items }
+        requires ahead { IsRightAhead (problem_of O.after O.State.eq O.Reply.eq
+            self.old.path.entries.problem) ahead.now }
         requires progress { IsFirstProgress (problem_of O.after O.State.eq O.Reply.eq
             self.old.path.entries.problem) self.old.refuted self.old.lifts
             self.old.path.entries.lifted self.old.path.frames.items self.old.path.config
@@ -294,10 +277,8 @@ impl<'p, O: SeqObject> FirstSearch<'p, O> {
         ahead: &KnownAhead,
         candidate: Option<usize>,
     ) -> Result<Option<Frame<O>>, AllocError>
-        requires needs { AreNeeds (problem_of O.after O.State.eq O.Reply.eq
-            self.old.path.entries.problem) ahead.now.needs }
-        requires owed { AreOwed (problem_of O.after O.State.eq O.Reply.eq
-            self.old.path.entries.problem) ahead.now.owed.items }
+        requires ahead { IsRightAhead (problem_of O.after O.State.eq O.Reply.eq
+            self.old.path.entries.problem) ahead.now }
         requires progress { IsFirstProgress (problem_of O.after O.State.eq O.Reply.eq
             self.old.path.entries.problem) self.old.refuted self.old.lifts
             self.old.path.entries.lifted self.old.path.frames.items self.old.path.config
@@ -323,10 +304,8 @@ impl<'p, O: SeqObject> FirstSearch<'p, O> {
 
     // Searches on from the root, which is not complete, with so many lifts at most.
     fn go(&mut self, ahead: &KnownAhead, lifts: u64) -> Result<FirstAnswer, AllocError>
-        requires needs { AreNeeds (problem_of O.after O.State.eq O.Reply.eq
-            self.old.path.entries.problem) ahead.now.needs }
-        requires owed { AreOwed (problem_of O.after O.State.eq O.Reply.eq
-            self.old.path.entries.problem) ahead.now.owed.items }
+        requires ahead { IsRightAhead (problem_of O.after O.State.eq O.Reply.eq
+            self.old.path.entries.problem) ahead.now }
         requires progress { (candidate : Option ℕ)
             → IsLeastMinimal (problem_of O.after O.State.eq O.Reply.eq
             self.old.path.entries.problem) self.old.path.config.lifted 0 candidate
@@ -372,10 +351,7 @@ pub fn search_first<O: SeqObject>(
     ahead: &KnownAhead,
     lifts: u64,
 ) -> Result<FirstAnswer, AllocError>
-    requires needs { AreNeeds (problem_of O.after O.State.eq O.Reply.eq problem.now)
-        ahead.now.needs }
-    requires owed { AreOwed (problem_of O.after O.State.eq O.Reply.eq problem.now)
-        ahead.now.owed.items }
+    requires { IsRightAhead (problem_of O.after O.State.eq O.Reply.eq problem.now) ahead.now }
     ensures { IfOk result (IsFirstAnswer (problem_of O.after O.State.eq O.Reply.eq problem.now)
         lifts) }
 {

@@ -4,17 +4,15 @@ ghost use Rattle.std.specs.Prelude.{◌≡◌, ◌↔◌, [], IfOk, IfSome, IsSo
 ghost use Rattle.std.specs.Ordering.{int_eq};
 ghost use Rattle.indexmap.specs.IndexMap.{get};
 ghost use Rattle.lin_object.specs.declared.state.ObjState.TheVariants.{Queue};
-ghost use Rattle.lin_history.specs.Problems.Needs.{AreNeeds};
 ghost use Rattle.lin_ahead.specs.ItemCalls.{told, told_in, least_pending};
 ghost use Rattle.lin_ahead.specs.CallNumbers.{by_row, from_row};
-ghost use Rattle.lin_ahead.specs.Numbers.{AreNumbers};
-ghost use Rattle.lin_ahead.specs.Owed.{AreOwed};
-ghost use Rattle.lin_ahead.specs.OwedCalls.{once_row, AreOnceTaken};
+ghost use Rattle.lin_ahead.specs.Behind.{IsRightAhead};
+ghost use Rattle.lin_ahead.specs.ToldAhead.{once_row, taken_row, takers_from, IsToldAhead};
 ghost use Rattle.lin_ahead.specs.AnyProblem.{any_problem};
 
 use crate::each_item::told_by_calls;
 use crate::item_calls::{ItemCalls, least_pending};
-use crate::numbers::{by_of, from_of, took_once};
+use crate::numbers::{by_of, from_of, is_taker, taken_of, took_once};
 use indexmap::IndexMap;
 use lin_history::{NeedRows, Problem, ProblemCall};
 use lin_object::{AnyObject, Items, ObjState, Op, Reply};
@@ -85,11 +83,47 @@ fn once_row(
     Ok(row)
 }
 
+// For each call when the first call was called that returned with the item which it puts in.
+fn taken_row(
+    alloc: Global,
+    items: &IndexMap<i64, ItemCalls>,
+    calls: &[ProblemCall<Op, Reply>],
+) -> Result<Vec<u64>, AllocError>
+    ensures { IfOk result (λ row. row.items
+        ≡ taken_row (told_in (get int_eq items.now)) calls.now) }
+{
+    let mut row = Vec::with_capacity(alloc, calls.len())?;
+    for call in calls {
+        row.push(taken_of(items, call))?;
+    }
+    Ok(row)
+}
+
+// The dequeues that are pending.
+fn takers_of(alloc: Global, calls: &[ProblemCall<Op, Reply>]) -> Result<Vec<usize>, AllocError>
+    ensures { IfOk result (λ takers. takers.items ≡ takers_from 0 calls.now) }
+{
+    let mut takers = Vec::new(alloc);
+    for call in 0..calls.len() {
+        if is_taker(&calls[call]) {
+            takers.push(call)?;
+        }
+    }
+    Ok(takers)
+}
+
 /// What is known of a problem before any search: which calls need which, and which are owed their replies.
+///
+/// A call needs every call whose number `by` is less than its own number `from`. It needs every call whose number `by` is
+/// less than its own number `taken` too, once the takers that are not lifted were all called after that event.
 #[derive(Debug, Drop)]
 pub struct KnownAhead {
-    /// Two numbers for each call, by which one call is known to need another.
+    /// The numbers `by` and `from` of each call.
     pub needs: NeedRows,
+    /// The number `taken` of each call.
+    pub taken: Vec<u64>,
+    /// The pending calls that may take what a call puts in, whatever it is.
+    pub takers: Vec<usize>,
     /// For each call, whether it returned with a reply that no pending call can be answered with.
     pub owed: Vec<bool>,
 }
@@ -99,35 +133,33 @@ fn told_ahead(alloc: Global, calls: &[ProblemCall<Op, Reply>]) -> Result<KnownAh
     ensures by { IfOk result (λ ahead. ahead.needs.by ≡ by_row (told calls.now) calls.now) }
     ensures from { IfOk result (λ ahead. ahead.needs.from
         ≡ from_row (told calls.now) (least_pending calls.now) calls.now) }
+    ensures taken { IfOk result (λ ahead. ahead.taken.items
+        ≡ taken_row (told calls.now) calls.now) }
+    ensures takers { IfOk result (λ ahead. ahead.takers.items ≡ takers_from 0 calls.now) }
     ensures owed { IfOk result (λ ahead. ahead.owed.items
         ≡ once_row (told calls.now) calls.now) }
 {
     let items = told_by_calls(alloc, calls)?;
     let by = by_row(alloc, &items, calls)?;
     let from = from_row(alloc, &items, calls)?;
-    let owed = once_row(alloc, &items, calls)?;
     Ok(KnownAhead {
         needs: NeedRows::new(by, from),
-        owed,
+        taken: taken_row(alloc, &items, calls)?,
+        takers: takers_of(alloc, calls)?,
+        owed: once_row(alloc, &items, calls)?,
     })
 }
 
-/// What is known of a problem before any search: of one that starts with an empty queue two numbers for each call, by which
-/// calls need others, and which calls are owed their replies; `None` of every other problem. Of the numbers that tell of
-/// items by real time (as `IsBy` and `IsFrom` say) these tell most. A call is owed an item with which it returned and which
-/// goes in once. `AllocError` where memory was refused. (This project's own.)
+/// What is known of a problem before any search: of one that starts with an empty queue what its calls tell by real time,
+/// and all of that (as `IsToldAhead` says); `None` of every other problem. `AllocError` where memory was refused. (This
+/// project's own.)
 pub fn known_ahead(
     alloc: Global,
     problem: &Problem<AnyObject>,
 ) -> Result<Option<KnownAhead>, AllocError>
-    ensures needed { IfOk result (λ known. IfSome known (λ ahead.
-        AreNeeds (any_problem problem.now) ahead.needs)) }
-    ensures numbers { IfOk result (λ known. IfSome known (λ ahead.
-        AreNumbers (any_problem problem.now) ahead.needs)) }
-    ensures owed { IfOk result (λ known. IfSome known (λ ahead.
-        AreOwed (any_problem problem.now) ahead.owed.items)) }
-    ensures takers { IfOk result (λ known. IfSome known (λ ahead.
-        AreOnceTaken (any_problem problem.now) ahead.owed.items)) }
+    ensures right { IfOk result (λ known. IfSome known
+        (IsRightAhead (any_problem problem.now))) }
+    ensures told { IfOk result (λ known. IfSome known (IsToldAhead (any_problem problem.now))) }
     ensures when { IfOk result (λ known. IsSome known ↔ (problem.now.start ≡ Queue [])) }
 {
     if !is_empty_queue(problem.start()) {

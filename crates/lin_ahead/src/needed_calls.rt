@@ -1,10 +1,11 @@
 //! The calls of a problem by how early they are needed.
-ghost use Rattle.std.specs.Prelude.{◌≡◌, false, IfSome};
+ghost use Rattle.std.specs.Prelude.{◌≡◌, false, IfSome, IsTrue};
 ghost use Rattle.lin_history.specs.Problems.Problem.{problem_of};
 ghost use Rattle.lin_history.specs.Problems.Continuations.{has};
-ghost use Rattle.lin_history.specs.Problems.Needs.{Needs, AreNeeds};
+ghost use Rattle.lin_ahead.specs.Behind.{NeedsBehind, CalledAfter, OthersCalledAfter, IsRightAhead};
 
 use crate::calls_in_turn::CallsInTurn;
+use crate::look_ahead::KnownAhead;
 use lin_history::{NeedRows, Problem};
 use lin_object::SeqObject;
 use lin_search::Config;
@@ -37,24 +38,69 @@ pub(crate) fn needed_in_turn(alloc: Global, rows: &NeedRows) -> Result<CallsInTu
     CallsInTurn::new(alloc, order, needed.len())
 }
 
-// A call that this call needs and that the configuration does not have, where the rows tell one. It looks at the first in
-// turn.
+// Whether the call was called after the event.
+fn is_called_after<O: SeqObject>(problem: &Problem<O>, call: usize, event: u64) -> bool
+    ensures { IsTrue result → CalledAfter (problem_of O.after O.State.eq O.Reply.eq problem.now)
+        event call }
+{
+    call < problem.len() && event < u64::from(problem.call(call).called)
+}
+
+// Whether each of these calls that the configuration does not have was called after the event.
+fn others_called_after<O: SeqObject>(
+    problem: &Problem<O>,
+    config: &Config<O>,
+    calls: &[usize],
+    event: u64,
+) -> bool
+    ensures { IsTrue result → OthersCalledAfter
+        (problem_of O.after O.State.eq O.Reply.eq problem.now) config.now.lifted event
+        calls.now }
+{
+    for call in calls {
+        if !config.has(*call) && !is_called_after(problem, *call, event) {
+            return false;
+        }
+    }
+    true
+}
+
+// Whether it is known that the call needs the other one at the configuration. `None` where one of them is no call.
+fn needs<O: SeqObject>(
+    problem: &Problem<O>,
+    ahead: &KnownAhead,
+    config: &Config<O>,
+    other: usize,
+    call: usize,
+) -> Option<bool>
+    requires { IsRightAhead (problem_of O.after O.State.eq O.Reply.eq problem.now) ahead.now }
+    ensures { IfSome result (λ needs. IsTrue needs → NeedsBehind
+        (problem_of O.after O.State.eq O.Reply.eq problem.now) config.now.lifted other call) }
+{
+    let by = *ahead.needs.by().get(other)?;
+    let from = *ahead.needs.from().get(call)?;
+    if by < from {
+        return Some(true);
+    }
+    let taken = *ahead.taken.get(call)?;
+    Some(by < taken && others_called_after(problem, config, ahead.takers.as_slice(), by))
+}
+
+// A call that this call needs and that the configuration does not have, where one is known. It looks at the first in turn.
 pub(crate) fn left_out<O: SeqObject>(
     problem: &Problem<O>,
-    rows: &NeedRows,
+    ahead: &KnownAhead,
     needed: &CallsInTurn,
     config: &Config<O>,
     call: usize,
 ) -> Option<usize>
-    requires { AreNeeds (problem_of O.after O.State.eq O.Reply.eq problem.now) rows.now }
-    ensures { IfSome result (λ needed. Needs
-        (problem_of O.after O.State.eq O.Reply.eq problem.now) needed call
-        × (has config.now.lifted needed ≡ false)) }
+    requires { IsRightAhead (problem_of O.after O.State.eq O.Reply.eq problem.now) ahead.now }
+    ensures { IfSome result (λ other. NeedsBehind
+        (problem_of O.after O.State.eq O.Reply.eq problem.now) config.now.lifted other call
+        × (has config.now.lifted other ≡ false)) }
 {
-    let from = rows.from().get(call)?;
     let first = needed.ahead(0)?;
-    let by = rows.by().get(first)?;
-    if *by < *from && !config.has(first) {
+    if !config.has(first) && needs(problem, ahead, config, first, call)? {
         Some(first)
     } else {
         None

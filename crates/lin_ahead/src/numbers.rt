@@ -1,11 +1,11 @@
-//! What a call is known by ahead, by what the calls tell of its item: its two numbers, and whether it is owed its reply.
+//! What is told of a call by what the calls tell of its item: its numbers, and whether it is owed its reply.
 
 ghost use Rattle.std.specs.Prelude.{◌≡◌};
 ghost use Rattle.std.specs.Ordering.{int_eq};
 ghost use Rattle.indexmap.specs.IndexMap.{get};
 ghost use Rattle.lin_ahead.specs.ItemCalls.{told_in};
 ghost use Rattle.lin_ahead.specs.CallNumbers.{by_item, from_item, by_number, from_number};
-ghost use Rattle.lin_ahead.specs.OwedCalls.{took_once};
+ghost use Rattle.lin_ahead.specs.ToldAhead.{took_once, taken_number, is_taker};
 
 use crate::each_item::told_of;
 use crate::item_calls::{BEYOND, ItemCalls};
@@ -69,4 +69,21 @@ pub(crate) fn took_once(items: &IndexMap<i64, ItemCalls>, call: &ProblemCall<Op,
         (Op::Dequeue, Some((_, Reply::Int(item)))) => told_of(items, *item).goes_in_once(),
         _ => false,
     }
+}
+
+/// When the first call was called that returned with the item which the call puts in; 0 where it puts none in.
+pub(crate) fn taken_of(items: &IndexMap<i64, ItemCalls>, call: &ProblemCall<Op, Reply>) -> u64
+    ensures { result ≡ taken_number (told_in (get int_eq items.now)) call.now.op }
+{
+    match &call.op {
+        Op::Enqueue(item) => told_of(items, *item).called,
+        _ => 0,
+    }
+}
+
+/// Whether the call is a dequeue that is pending, which may take any item.
+pub(crate) fn is_taker(call: &ProblemCall<Op, Reply>) -> bool
+    ensures { result ≡ is_taker call.now.op call.now.returned }
+{
+    matches!((&call.op, &call.returned), (Op::Dequeue, None))
 }

@@ -14,8 +14,8 @@ go-requires-clause-progress g c =
     (λ candidate least.
     first_start (alike_itself c.lawful.ensures c.args.problem.now) _ _ _ _ _ candidate c.new-3.ensures refl c.in_ok-new.ensures.frames c.in_ok-root.ensures.lifted c.in_ok-root.ensures.state c.in_ok-new.ensures.lifted c.in_ok-root.ensures.reachable (λ h. true≢false (sym (c.is_complete.ensures.1 h) ∙ c.if-is_complete.false)) least)
 
-pub go-requires-clause-owed : goal.go-requires-clause-owed
-go-requires-clause-owed g c = rw c.in_ok-new.ensures.problem c.requires.owed
+pub go-requires-clause-ahead : goal.go-requires-clause-ahead
+go-requires-clause-ahead g c = rw c.in_ok-new.ensures.problem c.requires
 
 pub returns : goal.returns
 returns g c = rw c.in_ok-new.ensures.problem at c.go.ensures

@@ -2,11 +2,11 @@ use Rattle.std.proofs.Common.{arith}
 use Rattle.lin_ahead.proofs.FirstLemmas.{first_more}
 use Rattle.lin_ahead.proofs.first_search.FirstSearch.go.Goals as goal
 
-pub next_turn-requires-clause-owed : goal.next_turn-requires-clause-owed
-next_turn-requires-clause-owed g c = rw c.loop-self.invariant.problem c.requires.owed
+pub next_turn-requires-clause-ahead : goal.next_turn-requires-clause-ahead
+next_turn-requires-clause-ahead g c = rw c.loop-self.invariant.problem c.requires.ahead
 
-pub next_turn-requires-2-clause-owed : goal.next_turn-requires-2-clause-owed
-next_turn-requires-2-clause-owed g c = rw c.loop-self.invariant.problem c.requires.owed
+pub next_turn-requires-2-clause-ahead : goal.next_turn-requires-2-clause-ahead
+next_turn-requires-2-clause-ahead g c = rw c.loop-self.invariant.problem c.requires.ahead
 
 pub returns : goal.returns
 returns g c =

@@ -4,7 +4,7 @@ use Rattle.lin_ahead.proofs.NeedsLemmas.{owed_begins_none}
 use Rattle.lin_ahead.proofs.first_search.FirstSearch.takes_what_is_owed.Goals as goal
 
 pub is_owed-requires : goal.is_owed-requires
-is_owed-requires g c = rw (c.problem-problem.ensures, c.as_slice.ensures.value) c.requires.owed
+is_owed-requires g c = rw (c.problem-problem.ensures, c.as_slice.ensures.value) c.requires.ahead.owed
 
 pub returns-in-Some : goal.returns-in-Some
 returns-in-Some g c = λ takes.

@@ -1,0 +1,201 @@
+-- What is told ahead of a queue's problem is right, and is all that its calls tell by real time.
+use Rattle.std.proofs.Common.{◌≡◌, ℕ, zero, suc, ◌+◌, ◌≤◌, ◌^◌, Bool, true, false, Option, Some, None, List, [], ◌∷◌, refl, sym, ◌∙◌, ap, subst, arith}
+use Rattle.std.specs.Prelude.{ℤ, slice_get, if◌then◌else◌}
+use Rattle.lin_object.specs.declared.op.Op.{Op}
+use Rattle.lin_object.specs.declared.op.Op.TheVariants.{Write, Read, Cas, Add, Get, Enqueue, Dequeue, Push, Pop, Insert, Remove, Contains, Lock, Unlock, TryLock, Put, Lookup, Delete}
+use Rattle.lin_object.specs.declared.reply.Reply.{Reply}
+use Rattle.lin_object.specs.declared.reply.Reply.TheVariants.{Okay, Int, Flag, Empty}
+use Rattle.lin_object.specs.declared.state.ObjState.{ObjState}
+use Rattle.lin_object.specs.declared.state.ObjState.TheVariants.{Queue}
+use Rattle.lin_history.specs.declared.problems.problem.ProblemCall.{ProblemCall}
+use Rattle.lin_history.specs.Problems.ProblemParts.{ProblemParts, AreTimed}
+use Rattle.lin_history.specs.Problems.Problem.{Problem}
+use Rattle.lin_ahead.specs.declared.item_calls.ItemCalls.{ItemCalls}
+use Rattle.lin_ahead.specs.AnyProblem.{any_problem}
+use Rattle.lin_ahead.specs.ItemCalls.{goes_in_once, nothing_told, told, least_pending}
+use Rattle.lin_ahead.specs.Owed.{HasReply, IsOwed, AreOwed}
+use Rattle.lin_ahead.specs.Behind.{AreNeedsBehind, IsRightAhead, NeedsBehind}
+use Rattle.lin_ahead.specs.CallNumbers.{by_row, from_row}
+use Rattle.lin_ahead.specs.ToldAhead.{took_once, once_row, taken_number, taken_row, is_taker, takers_from, PutOnce, IsTaker, IsToldAhead}
+use Rattle.lin_ahead.specs.declared.look_ahead.KnownAhead.{KnownAhead}
+use Rattle.lin_ahead.specs.Queue.{Puts, Took, OnlyPuts}
+use Rattle.lin_ahead.proofs.AnyLemmas.{of_any, reply_same, known}
+use Rattle.lin_ahead.proofs.ExactLemmas.{alone, below_takers, are_numbers}
+use Rattle.lin_ahead.proofs.NumberLemmas.{taken_need}
+use Rattle.lin_ahead.proofs.QueueLemmas.{owed_item}
+use Rattle.lin_ahead.proofs.RowLemmas.{through, seen_through, by_row_is, bounds}
+use Rattle.lin_ahead.proofs.ToldLemmas.{same_reply, less, one_alone}
+
+-- a call that took an item that goes in once, by its operation and its return
+abbrev TakesOnce : (ℤ → ItemCalls) → Op → Option (ℕ × Reply) → Type 0
+TakesOnce told op back = (v : ℤ) × (n : ℕ) × (op ≡ Dequeue) × (back ≡ Some (n, Int v)) × (goes_in_once (told v).putters ≡ true)
+
+takes_once : (told : ℤ → ItemCalls) (op : Op) (back : Option (ℕ × Reply)) → took_once told op back ≡ true → TakesOnce told op back
+takes_once told Dequeue (Some (n, Int v)) e = (v, n, refl, refl, e)
+takes_once told Dequeue None e = absurd (cc)
+takes_once told Dequeue (Some (n, Okay)) e = absurd (cc)
+takes_once told Dequeue (Some (n, Flag b)) e = absurd (cc)
+takes_once told Dequeue (Some (n, Empty)) e = absurd (cc)
+takes_once told (Enqueue v) back e = absurd (cc)
+takes_once told (Write w) back e = absurd (cc)
+takes_once told Read back e = absurd (cc)
+takes_once told (Cas b c) back e = absurd (cc)
+takes_once told (Add d) back e = absurd (cc)
+takes_once told Get back e = absurd (cc)
+takes_once told (Push w) back e = absurd (cc)
+takes_once told Pop back e = absurd (cc)
+takes_once told (Insert w) back e = absurd (cc)
+takes_once told (Remove w) back e = absurd (cc)
+takes_once told (Contains w) back e = absurd (cc)
+takes_once told Lock back e = absurd (cc)
+takes_once told Unlock back e = absurd (cc)
+takes_once told TryLock back e = absurd (cc)
+takes_once told (Put k w) back e = absurd (cc)
+takes_once told (Lookup k) back e = absurd (cc)
+takes_once told (Delete k) back e = absurd (cc)
+
+-- a flagged call took an item that no two calls put in
+flagged_took : (p : Problem ObjState Op Reply) (c : ℕ) → slice_get (once_row (told p.calls) p.calls) c ≡ Some true → (v : ℤ) × Took p c v × PutOnce p v
+flagged_took p c e =
+    let k = through (λ (x : ProblemCall Op Reply). took_once (told p.calls) x.op x.returned) p.calls c true e in
+    let took = takes_once (told p.calls) k.0.op k.0.returned k.2 in
+    (took.0, (k.0, k.1, took.2, (took.1, took.3)), λ a b x y. one_alone nothing_told p.calls took.0 refl took.4 a b x y)
+
+took_flagged : (p : Problem ObjState Op Reply) (a c : ℕ) (v : ℤ) → Puts p a v → OnlyPuts p a v → Took p c v → slice_get (once_row (told p.calls) p.calls) c ≡ Some true
+took_flagged p a c v puts only took =
+    let x = took.0 in
+    let once : took_once (told p.calls) x.op x.returned ≡ true = rw (took.2, took.3.1) (alone p a v puts only) in
+    seen_through (λ (y : ProblemCall Op Reply). took_once (told p.calls) y.op y.returned) p.calls c x took.1 ∙ ap Some once
+
+-- ---- the takers
+
+taker_op : (op : Op) (back : Option (ℕ × Reply)) → is_taker op back ≡ true → (op ≡ Dequeue) × (back ≡ None)
+taker_op Dequeue None e = (refl, refl)
+taker_op Dequeue (Some r) e = absurd (cc)
+taker_op (Enqueue v) back e = absurd (cc)
+taker_op (Write w) back e = absurd (cc)
+taker_op Read back e = absurd (cc)
+taker_op (Cas b c) back e = absurd (cc)
+taker_op (Add d) back e = absurd (cc)
+taker_op Get back e = absurd (cc)
+taker_op (Push w) back e = absurd (cc)
+taker_op Pop back e = absurd (cc)
+taker_op (Insert w) back e = absurd (cc)
+taker_op (Remove w) back e = absurd (cc)
+taker_op (Contains w) back e = absurd (cc)
+taker_op Lock back e = absurd (cc)
+taker_op Unlock back e = absurd (cc)
+taker_op TryLock back e = absurd (cc)
+taker_op (Put k w) back e = absurd (cc)
+taker_op (Lookup k) back e = absurd (cc)
+taker_op (Delete k) back e = absurd (cc)
+
+-- an element of the list of takers
+abbrev TakerAt : ℕ → List (ProblemCall Op Reply) → ℕ → Type 0
+TakerAt n calls c = (k : ℕ) × (x : ProblemCall Op Reply) × (c ≡ n + k) × (slice_get calls k ≡ Some x) × (is_taker x.op x.returned ≡ true)
+
+taker_behind : (n : ℕ) (x : ProblemCall Op Reply) (xs : List (ProblemCall Op Reply)) (c : ℕ) → TakerAt (n + 1) xs c → TakerAt n (x ∷ xs) c
+taker_behind n x xs c (k, y, e, there, is) = (suc k, y, omega (arith, e), there, is)
+
+listed : (n : ℕ) (calls : List (ProblemCall Op Reply)) (i c : ℕ) → slice_get (takers_from n calls) i ≡ Some c → TakerAt n calls c
+listed n [] i c e = absurd (cc)
+listed n (x ∷ xs) i c e = go (is_taker x.op x.returned) refl i e (λ k f. listed (n + 1) xs k c f)
+  where
+    go : (b : Bool) → is_taker x.op x.returned ≡ b → (i : ℕ) → slice_get (if b then n ∷ takers_from (n + 1) xs else takers_from (n + 1) xs) i ≡ Some c → ((k : ℕ) → slice_get (takers_from (n + 1) xs) k ≡ Some c → TakerAt (n + 1) xs c) → TakerAt n (x ∷ xs) c
+    go true f zero e more = (zero, x, (let h : n ≡ c = cc in omega (arith, h)), refl, f)
+    go true f (suc i) e more = taker_behind n x xs c (more i e)
+    go false f i e more = taker_behind n x xs c (more i e)
+
+every_listed : (n : ℕ) (calls : List (ProblemCall Op Reply)) (k : ℕ) (x : ProblemCall Op Reply) → slice_get calls k ≡ Some x → is_taker x.op x.returned ≡ true → (i : ℕ) × (slice_get (takers_from n calls) i ≡ Some (n + k))
+every_listed n [] k x e f = absurd (cc)
+every_listed n (y ∷ ys) zero x e f =
+    let same : y ≡ x = cc in
+    let is : is_taker y.op y.returned ≡ true = subst (λ (z : ProblemCall Op Reply). is_taker z.op z.returned ≡ true) (sym same) f in
+    rw is (zero, ap Some (omega arith))
+every_listed n (y ∷ ys) (suc k) x e f = go (is_taker y.op y.returned) refl (every_listed (n + 1) ys k x e f)
+  where
+    number : Some (n + 1 + k) ≡ Some (n + suc k)
+    number = ap Some (omega arith)
+
+    go : (b : Bool) → is_taker y.op y.returned ≡ b → (i : ℕ) × (slice_get (takers_from (n + 1) ys) i ≡ Some (n + 1 + k)) → (i : ℕ) × (slice_get (if is_taker y.op y.returned then n ∷ takers_from (n + 1) ys else takers_from (n + 1) ys) i ≡ Some (n + suc k))
+    go true g h = rw g (suc h.0, h.1 ∙ number)
+    go false g h = rw g (h.0, h.1 ∙ number)
+
+takers_are : (p : Problem ObjState Op Reply) (i c : ℕ) → slice_get (takers_from 0 p.calls) i ≡ Some c → IsTaker p c
+takers_are p i c e =
+    let k = listed 0 p.calls i c e in
+    let same : k.0 ≡ c = (let h = k.2 in omega (arith, h)) in
+    let op = taker_op k.1.op k.1.returned k.4 in
+    (k.1, subst (λ (n : ℕ). slice_get p.calls n ≡ Some k.1) same k.3, op.0, op.1)
+
+every_taker : (p : Problem ObjState Op Reply) (c : ℕ) → IsTaker p c → (i : ℕ) × (slice_get (takers_from 0 p.calls) i ≡ Some c)
+every_taker p c (x, there, op, back) =
+    let k = every_listed 0 p.calls c x there (rw (op, back) refl) in
+    (k.0, k.1 ∙ ap Some (omega arith))
+
+-- ---- the numbers by takers that have returned
+
+taken_at : (p : Problem ObjState Op Reply) (b n : ℕ) (v : ℤ) → slice_get (taken_row (told p.calls) p.calls) b ≡ Some n → Puts p b v → n ≡ (told p.calls v).called
+taken_at p b n v e (x, there, op) =
+    let k = through (λ (y : ProblemCall Op Reply). taken_number (told p.calls) y.op) p.calls b n e in
+    let same : k.0 ≡ x = (let h = k.1 in cc) in
+    sym k.2 ∙ ap (λ (y : ProblemCall Op Reply). taken_number (told p.calls) y.op) same ∙ ap (λ (o : Op). taken_number (told p.calls) o) op
+
+pub is_told : (p : Problem ObjState Op Reply) → AreTimed p.calls → (ahead : KnownAhead) → ahead.needs.by ≡ by_row (told p.calls) p.calls → ahead.needs.from ≡ from_row (told p.calls) (least_pending p.calls) p.calls → ahead.taken.items ≡ taken_row (told p.calls) p.calls → ahead.takers.items ≡ takers_from 0 p.calls → ahead.owed.items ≡ once_row (told p.calls) p.calls → IsToldAhead p ahead
+is_told p timed ahead bys froms taken takers owed = record {
+  numbers = are_numbers p timed ahead.needs bys froms;
+  owed = λ c e. flagged_took p c (rw (← owed) e);
+  every_owed = λ a c v puts only took. rw owed (took_flagged p a c v puts only took);
+  taken = λ b n v e put. (
+      let is : n ≡ (told p.calls v).called = taken_at p b n v (rw (← taken) e) put in
+      let few : (told p.calls v).called ≤ 2 ^ 32 = (less nothing_told p.calls v).1 in
+      ((omega (arith, is, few), λ j took. (bounds p timed v n (omega (arith, is)) j took).0), λ k h. (let below = below_takers p k v h.0 h.1 in omega (arith, is, below))));
+  takers = λ i c e. takers_are p i c (rw (← takers) e);
+  every_taker = λ c is. rw takers (every_taker p c is);
+}
+
+module _ {Object : Type 0} (p : ProblemParts Object ObjState Op Reply) where
+  owed_to : p.start ≡ Queue [] → (c : ℕ) (r : Reply) (v : ℤ) → Took (any_problem p) c v → PutOnce (any_problem p) v → HasReply (any_problem p) c r → IsOwed (any_problem p) r
+  owed_to start c r v took once (x, there, (m, (q, back, same))) =
+      let one : x ≡ took.0 = (let a = took.1 in cc) in
+      let item : q ≡ Int v = same_reply m took.3.0 q (Int v) (sym back ∙ ap (λ (y : ProblemCall Op Reply). y.returned) one ∙ took.3.1) in
+      subst (λ (a : Reply). IsOwed (any_problem p) a) (sym (reply_same r q same ∙ item)) (owed_item (of_any p [] start) v c once (λ h. h) took)
+
+  are_owed : p.start ≡ Queue [] → AreOwed (any_problem p) (once_row (told p.calls) p.calls)
+  are_owed start c r e reply =
+      let k = flagged_took (any_problem p) c e in
+      owed_to start c r k.0 k.1 k.2 reply
+
+  are_behind : p.start ≡ Queue [] → AreTimed p.calls → AreNeedsBehind (any_problem p) (by_row (told p.calls) p.calls) (taken_row (told p.calls) p.calls) (takers_from 0 p.calls)
+  are_behind start timed set a b m n there here below others =
+      let k = through (λ (y : ProblemCall Op Reply). taken_number (told p.calls) y.op) p.calls b n here in
+      go k.0 k.1 k.0.op refl k.2
+    where
+      go : (x : ProblemCall Op Reply) → slice_get p.calls b ≡ Some x → (op : Op) → x.op ≡ op → taken_number (told p.calls) op ≡ n → NeedsBehind (any_problem p) set a b
+      go x is (Enqueue v) e f =
+          let few : (told p.calls v).called ≤ 2 ^ 32 = (less nothing_told p.calls v).1 in
+          taken_need (of_any p [] start) set a b m n v (takers_from 0 p.calls) (by_row_is (any_problem p) a m there) (omega (arith, below, f, few)) (x, is, e) (bounds (any_problem p) timed v n (omega (arith, f))) below (every_taker (any_problem p)) others
+      go x is Dequeue e f = absurd (omega (arith, below, f))
+      go x is (Write w) e f = absurd (omega (arith, below, f))
+      go x is Read e f = absurd (omega (arith, below, f))
+      go x is (Cas c d) e f = absurd (omega (arith, below, f))
+      go x is (Add d) e f = absurd (omega (arith, below, f))
+      go x is Get e f = absurd (omega (arith, below, f))
+      go x is (Push w) e f = absurd (omega (arith, below, f))
+      go x is Pop e f = absurd (omega (arith, below, f))
+      go x is (Insert w) e f = absurd (omega (arith, below, f))
+      go x is (Remove w) e f = absurd (omega (arith, below, f))
+      go x is (Contains w) e f = absurd (omega (arith, below, f))
+      go x is Lock e f = absurd (omega (arith, below, f))
+      go x is Unlock e f = absurd (omega (arith, below, f))
+      go x is TryLock e f = absurd (omega (arith, below, f))
+      go x is (Put k w) e f = absurd (omega (arith, below, f))
+      go x is (Lookup k) e f = absurd (omega (arith, below, f))
+      go x is (Delete k) e f = absurd (omega (arith, below, f))
+
+  pub is_right : p.start ≡ Queue [] → AreTimed p.calls → (ahead : KnownAhead) → ahead.needs.by ≡ by_row (told p.calls) p.calls → ahead.needs.from ≡ from_row (told p.calls) (least_pending p.calls) p.calls → ahead.taken.items ≡ taken_row (told p.calls) p.calls → ahead.takers.items ≡ takers_from 0 p.calls → ahead.owed.items ≡ once_row (told p.calls) p.calls → IsRightAhead (any_problem p) ahead
+  is_right start timed ahead bys froms taken takers owed = record {
+    needs = known p ahead.needs start timed bys froms;
+    behind = rw (bys, taken, takers) (are_behind start timed);
+    owed = rw owed (are_owed start);
+  }

@@ -1,0 +1,10 @@
+use Rattle.std.proofs.Common.{◌≡◌, ◌++◌, drop, map}
+use Rattle.lin_ahead.specs.ItemCalls.{told_in}
+use Rattle.std.specs.Ordering.{int_eq}
+use Rattle.indexmap.specs.IndexMap.{get}
+use Rattle.lin_ahead.specs.ToldAhead.{taken_number, taken_row}
+use Rattle.lin_ahead.proofs.look_ahead.taken_row.Given as goal
+
+-- the row so far, with the numbers of the calls that are left
+abbrev pub invariant-loop-call : goal.invariant-loop-call
+invariant-loop-call l = l.row.items ++ map (λ c. taken_number (told_in (get int_eq l.items)) c.op) (drop l.call-index l.calls) ≡ taken_row (told_in (get int_eq l.items)) l.calls

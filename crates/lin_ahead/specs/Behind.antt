@@ -1,0 +1,31 @@
+-- Calls that need others at the configuration that a search is at, and what is known ahead of a problem (this project's own).
+use Rattle.std.specs.Prelude.{◌≡◌, ℕ, ◌<◌, Bool, false, Some, List, ◌∷◌, ◌++◌, slice_get, IsSomeAnd}
+use Rattle.lin_history.specs.Problems.Lists.{In}
+use Rattle.lin_history.specs.Problems.Problem.{Problem}
+use Rattle.lin_history.specs.Problems.Continuations.{has}
+use Rattle.lin_history.specs.Problems.Linearizations.{IsLinearization}
+use Rattle.lin_history.specs.Problems.Needs.{AreNeeds}
+use Rattle.lin_ahead.specs.declared.look_ahead.KnownAhead.{KnownAhead}
+use Rattle.lin_ahead.specs.Owed.{AreOwed}
+
+-- Call b needs call a behind the set: wherever b stands in a linearization, with no call of the set behind it, a stands before it.
+abbrev pub NeedsBehind : {State Op Reply : Type 0} → Problem State Op Reply → List Bool → ℕ → ℕ → Type 0
+NeedsBehind p set a b = (l early late : List ℕ) → IsLinearization p l → l ≡ early ++ b ∷ late → ((c : ℕ) → In c late → has set c ≡ false) → In a early
+
+-- The call was called after this event.
+abbrev pub CalledAfter : {State Op Reply : Type 0} → Problem State Op Reply → ℕ → ℕ → Type 0
+CalledAfter p n c = IsSomeAnd (slice_get p.calls c) (λ x. n < x.called)
+
+-- Each of these calls that is not in the set was called after this event.
+abbrev pub OthersCalledAfter : {State Op Reply : Type 0} → Problem State Op Reply → List Bool → ℕ → List ℕ → Type 0
+OthersCalledAfter p set n calls = (i c : ℕ) → slice_get calls i ≡ Some c → has set c ≡ false → CalledAfter p n c
+
+-- Behind a set a call needs every call whose number 'by' is less than its own number 'taken', where the takers that the set lacks were called after that.
+abbrev pub AreNeedsBehind : {State Op Reply : Type 0} → Problem State Op Reply → List ℕ → List ℕ → List ℕ → Type 0
+AreNeedsBehind p by taken takers = (set : List Bool) (a b m n : ℕ) → slice_get by a ≡ Some m → slice_get taken b ≡ Some n → m < n → OthersCalledAfter p set m takers → NeedsBehind p set a b
+
+-- What is known ahead is right for the problem.
+pub record IsRightAhead {State Op Reply : Type 0} (p : Problem State Op Reply) (ahead : KnownAhead) : Type 0 where
+  pub needs : AreNeeds p ahead.needs
+  pub behind : AreNeedsBehind p ahead.needs.by ahead.taken.items ahead.takers.items
+  pub owed : AreOwed p ahead.owed.items
