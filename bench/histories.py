@@ -131,16 +131,24 @@ class Event(NamedTuple):
     reply: object  # None at a call event
 
 
-def simulated(model, processes, calls):
+def simulated(model, processes, calls, stops=0):
     """The events of so many calls of so many processes, of which a random one does its next step each time: it calls,
-    its call takes effect, or its call returns."""
+    its call takes effect, or its call returns. So many of the processes stop within a call that takes an item, at even
+    distances; of every second such call the effect is left out."""
     chance = random.Random(SEED)
     events, called, done, made = [], {}, {}, 0
+    running = list(range(processes))
     while made < calls or called or done:
-        process = chance.randrange(processes)
+        process = chance.choice(running)
+        stopped = processes - len(running)
         if process in called:
             op, value = called.pop(process)
-            done[process] = Event(process, op, value, model.reply(op, value))
+            if stopped < stops and op == model.take and made >= calls * (stopped + 1) // (stops + 2):
+                running.remove(process)
+                if stopped % 2 == 0:
+                    model.reply(op, value)
+            else:
+                done[process] = Event(process, op, value, model.reply(op, value))
         elif process in done:
             events.append(done.pop(process))
         elif made < calls:
@@ -220,8 +228,8 @@ def buffer_swapped(model):
     return lambda calls: lines("b", model.kind, with_swapped_results(simulated(model(), 6, calls), model.take))
 
 
-def backlog(most):
-    return lambda calls: lines("b", Queue.kind, simulated(Backlog(most), 6, calls))
+def backlog(most, stops=0):
+    return lambda calls: lines("b", Queue.kind, simulated(Backlog(most), 6 + stops, calls, stops))
 
 
 def sequential(calls):
@@ -320,6 +328,12 @@ FAMILIES = {
     **{
         f"backlog_{most}": Family(f"a queue filled to {most} items and emptied, 6 processes", "calls", BACKLOG_CALLS, 0, backlog(most))
         for most in (16, 32, 64, 128)
+    },
+    **{
+        f"stopped_{stops}": Family(
+            f"the same with 64 items, and {stops} more that stop within a dequeue", "calls", BACKLOG_CALLS, 0, backlog(64, stops)
+        )
+        for stops in (1, 2, 4)
     },
     "stack": Family("a stack, 6 processes", "calls", CALLS, 0, buffer(Stack)),
     "stack_no": Family("the same, two results swapped", "calls", CALLS, 1, buffer_swapped(Stack)),
