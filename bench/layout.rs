@@ -4,6 +4,7 @@
 //! - The table is an index map, as `indexmap` for Rattle lays it out: groups of twelve slots (a byte of the hash each, and
 //!   an index), the keys in one vector, what is known of them in a second, and the hashes in a third.
 //! - A key is a set of 48 bytes, with two words in it or a vector, and a state of 32 bytes, an enum that may hold a vector.
+//!   With `--cfg small_sets` the set has 32 bytes, with one word in it or a box with a vector.
 //! - The map's hash is fed the set's hash and the state, field by field.
 //! - A step makes a new state; the state before it stands in the frame.
 //! - The links both ways, the events and the places of the calls' entries are vectors of their own.
@@ -12,6 +13,7 @@ mod reader;
 
 use answer::Done;
 use reader::{Kind, Object, Op, Reply};
+use words::Words;
 use std::arch::x86_64::{_mm_cmpeq_epi8, _mm_loadu_si128, _mm_movemask_epi8, _mm_set1_epi8};
 
 const MULTIPLIER: u64 = 0x9E37_79B9_7F4A_7C15;
@@ -47,57 +49,128 @@ impl Longest {
     }
 }
 
-/// Words, two of them without an allocation: 32 bytes.
-#[derive(Clone)]
-#[repr(u64)]
-enum Words {
-    Inline { len: u64, words: [u64; 2] },
-    Heap(Vec<u64>),
+#[cfg(not(small_sets))]
+mod words {
+    /// Words, two of them without an allocation: 32 bytes.
+    #[derive(Clone)]
+    #[repr(u64)]
+    pub enum Words {
+        Inline { len: u64, words: [u64; 2] },
+        Heap(Vec<u64>),
+    }
+
+    impl Words {
+        pub fn none() -> Words {
+            Words::Inline {
+                len: 0,
+                words: [0; 2],
+            }
+        }
+
+        pub fn as_slice(&self) -> &[u64] {
+            match self {
+                Words::Inline { len, words } => &words[..*len as usize],
+                Words::Heap(words) => words,
+            }
+        }
+
+        pub fn as_mut_slice(&mut self) -> &mut [u64] {
+            match self {
+                Words::Inline { len, words } => &mut words[..*len as usize],
+                Words::Heap(words) => words,
+            }
+        }
+
+        pub fn insert(&mut self, place: usize, word: u64) {
+            match self {
+                Words::Inline { len, words } if *len < 2 => {
+                    words.copy_within(place..*len as usize, place + 1);
+                    words[place] = word;
+                    *len += 1;
+                }
+                Words::Inline { .. } => {
+                    let mut more = self.as_slice().to_vec();
+                    more.insert(place, word);
+                    *self = Words::Heap(more);
+                }
+                Words::Heap(words) => words.insert(place, word),
+            }
+        }
+
+        pub fn remove(&mut self, place: usize) {
+            match self {
+                Words::Inline { len, words } => {
+                    words.copy_within(place + 1..*len as usize, place);
+                    *len -= 1;
+                }
+                Words::Heap(words) => drop(words.remove(place)),
+            }
+        }
+    }
 }
 
-impl Words {
-    fn as_slice(&self) -> &[u64] {
-        match self {
-            Words::Inline { len, words } => &words[..*len as usize],
-            Words::Heap(words) => words,
+#[cfg(small_sets)]
+mod words {
+    /// Words, one of them without an allocation: 16 bytes.
+    pub enum Words {
+        Empty,
+        One(u64),
+        Many(Box<Vec<u64>>),
+    }
+
+    impl Clone for Words {
+        fn clone(&self) -> Words {
+            match self.as_slice() {
+                [] => Words::Empty,
+                [word] => Words::One(*word),
+                words => Words::Many(Box::new(words.to_vec())),
+            }
         }
     }
 
-    fn as_mut_slice(&mut self) -> &mut [u64] {
-        match self {
-            Words::Inline { len, words } => &mut words[..*len as usize],
-            Words::Heap(words) => words,
+    impl Words {
+        pub fn none() -> Words {
+            Words::Empty
         }
-    }
 
-    fn insert(&mut self, place: usize, word: u64) {
-        match self {
-            Words::Inline { len, words } if *len < 2 => {
-                words.copy_within(place..*len as usize, place + 1);
-                words[place] = word;
-                *len += 1;
+        pub fn as_slice(&self) -> &[u64] {
+            match self {
+                Words::Empty => &[],
+                Words::One(word) => std::slice::from_ref(word),
+                Words::Many(words) => words,
             }
-            Words::Inline { .. } => {
-                let mut more = self.as_slice().to_vec();
-                more.insert(place, word);
-                *self = Words::Heap(more);
-            }
-            Words::Heap(words) => words.insert(place, word),
         }
-    }
 
-    fn remove(&mut self, place: usize) {
-        match self {
-            Words::Inline { len, words } => {
-                words.copy_within(place + 1..*len as usize, place);
-                *len -= 1;
+        pub fn as_mut_slice(&mut self) -> &mut [u64] {
+            match self {
+                Words::Empty => &mut [],
+                Words::One(word) => std::slice::from_mut(word),
+                Words::Many(words) => words,
             }
-            Words::Heap(words) => drop(words.remove(place)),
+        }
+
+        pub fn insert(&mut self, place: usize, word: u64) {
+            match self {
+                Words::Empty => *self = Words::One(word),
+                Words::One(other) => {
+                    let mut words = vec![*other];
+                    words.insert(place, word);
+                    *self = Words::Many(Box::new(words));
+                }
+                Words::Many(words) => words.insert(place, word),
+            }
+        }
+
+        pub fn remove(&mut self, place: usize) {
+            match self {
+                Words::Empty | Words::One(_) => *self = Words::Empty,
+                Words::Many(words) => drop(words.remove(place)),
+            }
         }
     }
 }
 
-/// A set of calls: 48 bytes.
+/// A set of calls: 48 bytes, or 32 with `small_sets`.
 #[derive(Clone)]
 struct CallSet {
     hash: u64,
@@ -114,10 +187,7 @@ impl CallSet {
             sum: 0,
             calls: calls as u16,
             full: 0,
-            words: Words::Inline {
-                len: 0,
-                words: [0; 2],
-            },
+            words: Words::none(),
         }
     }
 

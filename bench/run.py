@@ -206,7 +206,7 @@ def main():
     parser.add_argument("--cpu", action="store_true", help="processor time in place of wall time")
     parser.add_argument("--timeout", type=float, default=120)
     parser.add_argument("--bin", type=Path, default=LINCHECK)
-    parser.add_argument("--beside", choices=["search", "layout"], default="search", help="the program without a proof")
+    parser.add_argument("--beside", choices=["search", "layout", "small_sets"], default="search", help="the program without a proof")
     parser.add_argument("--workers", type=int, help="one worker beside so many")
     parser.add_argument("--shards", type=int, default=16, help="with --workers: of both")
     options = parser.parse_args()
@@ -221,8 +221,10 @@ def main():
             rows = [["", "1 worker", f"{options.workers} workers", "times"]]
             rows += [workers_row(name, *measure_workers(family, room, options)) for name, family in chosen.items()]
             return tell(f"Seconds by the clock and processor seconds, {options.shards} shards", rows)
-        source = HERE / f"{options.beside}.rs"
-        subprocess.run(["rustc", "--edition", "2021", "-O", "-o", room / "search", source], check=True)
+        source, flags = HERE / f"{options.beside}.rs", []
+        if options.beside == "small_sets":
+            source, flags = HERE / "layout.rs", ["--cfg", "small_sets"]
+        subprocess.run(["rustc", "--edition", "2021", "-O", *flags, "-o", room / "search", source], check=True)
         last = [["", *HEAD], ["", *UNDER]]
         for name, family in chosen.items():
             rows, before = [HEAD, UNDER], None
