@@ -13,8 +13,8 @@ mod reader;
 
 use answer::Done;
 use reader::{Kind, Object, Op, Reply};
-use words::Words;
 use std::arch::x86_64::{_mm_cmpeq_epi8, _mm_loadu_si128, _mm_movemask_epi8, _mm_set1_epi8};
+use words::Words;
 
 const MULTIPLIER: u64 = 0x9E37_79B9_7F4A_7C15;
 
