@@ -6,9 +6,9 @@
 
 Needs the built program (`bin/lincheck` builds it), or the one at PATH, and `rustc`. Prints one table for each family of
 `bench/histories.py` (those whose name begins with FAMILY), one line for each size (with --quick the smaller half), and
-one of all families at their last size:
+one of all families at their last size; last the geometric mean of the times where there are 10,000 lifts or more:
 
-  seconds        the least wall time of N runs of each program (with --cpu their processor time, which says more where
+  seconds        the least wall time of N runs of each program, in turn (with --cpu their processor time, which says more where
                  the machine does other work too), and how many times the second's the first's is
   lifts, stored  of all searches of the history, as the second program counts them
   ns/lift        of the search alone: the whole time less that of reading, which is timed on the same text with a faulty
@@ -28,6 +28,7 @@ With --workers N `lincheck` with N workers is timed beside `lincheck` with one, 
 the least seconds by the clock and the least processor seconds of each, and how many times the first's the second's are.
 """
 import argparse
+import math
 import os
 import shutil
 import signal
@@ -86,15 +87,15 @@ def run_once(program, text, options):
         return Run(seconds, processor, told.get("search"), peak, child.returncode, answer, told)
 
 
-def run(program, text, options):
-    """The quickest of the runs on the text, by the search alone where the program tells how long that took."""
-    found = []
-    while len(found) < options.runs and not (found and found[-1].seconds > options.timeout / 10):
-        one = run_once(program, text, options)
-        if one is None:
-            return None
-        found.append(one)
-    return min(found, key=lambda one: one.searching or one.seconds)
+def run_in_turn(programs, text, options):
+    """The quickest of each program's runs on the text, by the search alone where the program tells how long that took. The
+    programs run in turn, since the machine's speed may change meanwhile; one that takes long runs once."""
+    found = [[] for _ in programs]
+    for _ in range(options.runs):
+        for program, runs in zip(programs, found):
+            if not runs or (runs[-1] and runs[-1].seconds <= options.timeout / 10):
+                runs.append(run_once(program, text, options))
+    return [None if None in runs else min(runs, key=lambda one: one.searching or one.seconds) for runs in found]
 
 
 class Measured(NamedTuple):
@@ -104,6 +105,10 @@ class Measured(NamedTuple):
     searching: float  # seconds
     peak: float  # bytes
     more: float  # bytes, over reading alone
+
+
+def geometric_mean(ratios):
+    return math.exp(sum(map(math.log, ratios)) / len(ratios))
 
 
 def measured(whole, reading):
@@ -129,7 +134,7 @@ def row(size, ours, plain, told, before):
     lifts, stored, held = told.get("lifts", 0), told.get("stored", 0), told.get("held", 0)
     cells = [str(size)]
     cells += ["-" if one is None else f"{one.seconds:.4f}" for one in (ours, plain)]
-    cells += [ratio(ours and ours.seconds, plain.seconds), f"{lifts:.0f}", f"{stored:.0f}"]
+    cells += [ratio(ours and ours.seconds, plain.seconds, "%.2f"), f"{lifts:.0f}", f"{stored:.0f}"]
     cells += [ratio(one and 1e9 * one.searching, lifts, "%.0f") for one in (ours, plain)]
     cells += ["-" if one is None else f"{one.peak / 1e6:.1f}" for one in (ours, plain)]
     cells += [per_stored(one, held) for one in (ours, plain)]
@@ -149,8 +154,8 @@ def measure(family, size, programs, room, options):
     shutil.copyfile(text, faulty)
     with open(faulty, "a") as more:
         more.write(FAULTY)
-    wholes = [run(program, text, options) for program in programs]
-    readings = [run(program, faulty, options) for program in programs]
+    wholes = run_in_turn(programs, text, options)
+    readings = run_in_turn(programs, faulty, options)
     ours, plain = wholes
     assert plain, "the comparison program took too long"
     for one in filter(None, wholes):
@@ -225,7 +230,7 @@ def main():
         if options.beside == "small_sets":
             source, flags = HERE / "layout.rs", ["--cfg", "small_sets"]
         subprocess.run(["rustc", "--edition", "2021", "-O", *flags, "-o", room / "search", source], check=True)
-        last = [["", *HEAD], ["", *UNDER]]
+        last, ratios = [["", *HEAD], ["", *UNDER]], []
         for name, family in chosen.items():
             rows, before = [HEAD, UNDER], None
             for size in family.sizes[: (len(family.sizes) + 1) // 2] if options.quick else family.sizes:
@@ -233,9 +238,13 @@ def main():
                 ours, plain, told = measure(family, size, programs, room, options)
                 rows.append(row(size, ours, plain, told, before))
                 before = ours, plain, told.get("lifts", 0)
+                if ours and told.get("lifts", 0) >= MANY:
+                    ratios.append(ours.seconds / plain.seconds)
             tell(f"`{name}`: {family.what}; size: {family.unit}", rows)
             last.append([name, *rows[-1]])
         tell("All families at their last size", last)
+        if ratios:
+            print(f"\nGeometric mean of the times of {len(ratios)} histories of {MANY} lifts or more: {geometric_mean(ratios):.2f}")
 
 
 if __name__ == "__main__":
