@@ -2,7 +2,7 @@
 """Times `lincheck` beside `bench/search.rs`, a fast search without a proof that gives the same answers.
 
     bench/run.py [--only FAMILY].. [--quick] [--runs N] [--cpu] [--timeout SECONDS] [--bin PATH] [--beside NAME]
-                 [--workers N [--shards N]]
+                 [--alone | --workers N [--shards N]]
 
 Needs the built program (`bin/lincheck` builds it), or the one at PATH, and `rustc`. Prints one table for each family of
 `bench/histories.py` (those whose name begins with FAMILY), one line for each size (with --quick the smaller half), and
@@ -23,6 +23,8 @@ and its numbers are left out.
 
 With --beside layout the second program is `bench/layout.rs`: the same search without a proof, over structures laid out as
 those of `lincheck`.
+
+With --alone `lincheck` is timed by itself, as for a queue with a backlog, which the second program can't do: seconds and MB.
 
 With --workers N `lincheck` with N workers is timed beside `lincheck` with one, in turn, at the last size of each family:
 the least seconds by the clock and the least processor seconds of each, and how many times the first's the second's are.
@@ -166,6 +168,16 @@ def measure(family, size, programs, room, options):
     return took[0], took[1], plain.told
 
 
+def alone_row(family, size, room, options):
+    """The cells of a line: what `lincheck` took for the history of this size."""
+    text = room / "text"
+    with open(text, "w") as whole:
+        whole.writelines(family.history(size))
+    (one,) = run_in_turn([[options.bin, "--workers", "1"]], text, options)
+    assert one is None or one.status == family.status, (family, size, one)
+    return [str(size), *(["-", "-"] if one is None else [f"{one.seconds:.4f}", f"{one.peak / 1e6:.1f}"])]
+
+
 def least(runs):
     """The least seconds and processor seconds of these runs; None where one took too long."""
     if None in runs:
@@ -212,6 +224,7 @@ def main():
     parser.add_argument("--timeout", type=float, default=120)
     parser.add_argument("--bin", type=Path, default=LINCHECK)
     parser.add_argument("--beside", choices=["search", "layout", "small_sets"], default="search", help="the program without a proof")
+    parser.add_argument("--alone", action="store_true", help="lincheck by itself")
     parser.add_argument("--workers", type=int, help="one worker beside so many")
     parser.add_argument("--shards", type=int, default=16, help="with --workers: of both")
     options = parser.parse_args()
@@ -226,6 +239,11 @@ def main():
             rows = [["", "1 worker", f"{options.workers} workers", "times"]]
             rows += [workers_row(name, *measure_workers(family, room, options)) for name, family in chosen.items()]
             return tell(f"Seconds by the clock and processor seconds, {options.shards} shards", rows)
+        if options.alone:
+            for name, family in chosen.items():
+                rows = [alone_row(family, size, room, options) for size in family.sizes]
+                tell(f"`{name}`: {family.what}; size: {family.unit}", [["size", "seconds", "MB"], *rows])
+            return None
         source, flags = HERE / f"{options.beside}.rs", []
         if options.beside == "small_sets":
             source, flags = HERE / "layout.rs", ["--cfg", "small_sets"]
