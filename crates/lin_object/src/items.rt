@@ -109,14 +109,20 @@ impl Items {
     pub fn with_last(&self, alloc: Global, item: i64) -> Result<Items, AllocError>
         ensures { IfOk result (λ items. items ≡ self.now ++ item ∷ []) }
     {
-        joined(alloc, self.items.as_slice(), item, &[])
+        let mut longer = Vec::with_capacity(alloc, self.items.len() + 1)?;
+        longer.extend_from_slice(self.items.as_slice())?;
+        longer.push(item)?;
+        Ok(Items { items: longer })
     }
 
     /// This item, and the items behind it.
     pub fn with_first(&self, alloc: Global, item: i64) -> Result<Items, AllocError>
         ensures { IfOk result (λ items. items ≡ item ∷ self.now) }
     {
-        joined(alloc, &[], item, self.items.as_slice())
+        let mut items = Vec::with_capacity(alloc, self.items.len() + 1)?;
+        items.push(item)?;
+        items.extend_from_slice(self.items.as_slice())?;
+        Ok(Items { items })
     }
 
     /// The first item, where there is one.

@@ -157,7 +157,15 @@ fn set_bit(words: &mut SmallVec<u64, 2>, index: usize, call: usize)
     words.as_mut_slice()[index] |= bit(call);
 }
 
-// Takes the leading full words out, and tells how many they were.
+// Whether there is a first word, and it is full.
+fn starts_full(words: &[u64]) -> bool
+    ensures { IsTrue result ↔ ((0 < length words.now)
+        × (slice_index words.now 0 ≡ 2 ^ 64 - 1)) }
+{
+    !words.is_empty() && words[0] == u64::MAX
+}
+
+// Takes the leading full words out, and tells how many they were. There is seldom one, so that is asked first.
 fn drop_full(words: &mut SmallVec<u64, 2>) -> usize
     ensures within { result ≤ length words.old.items }
     ensures rest { words.new.items ≡ drop result words.old.items }
@@ -165,6 +173,9 @@ fn drop_full(words: &mut SmallVec<u64, 2>) -> usize
     ensures stops { result < length words.old.items
         → slice_index words.old.items result ≢ 2 ^ 64 - 1 }
 {
+    if !starts_full(words.as_slice()) {
+        return 0;
+    }
     let len = words.len();
     let mut count = 0;
     while count < len && words.as_slice()[0] == u64::MAX {
@@ -183,7 +194,10 @@ fn open_full(full: &mut u16, words: &mut SmallVec<u64, 2>, index: usize) -> Resu
         × (words.new.items ≡ words.old.items) }
     ensures err { OnErr result ((full.new ≡ full.old) × (words.new ≡ words.old)) }
 {
-    words.reserve((*full as usize).saturating_sub(index))?;
+    if *full as usize <= index {
+        return Ok(());
+    }
+    words.reserve(*full as usize - index)?;
     while *full as usize > index {
         words.insert(0, u64::MAX)?;
         *full -= 1;

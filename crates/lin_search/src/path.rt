@@ -1,6 +1,6 @@
 //! The path of a search: where it is, the frames behind it, and the entries left.
 //!
-//! What a search does at each lift is inlined always: it takes up to a quarter fewer instructions so.
+//! What a search does at each lift is inlined always: `docs/PERFORMANCE.md` tells what that gives.
 ghost use Rattle.std.specs.Prelude.{◌≡◌, ℕ, ◌+◌, ◌<◌, ◌≤◌, ◌↔◌, ◌++◌, ◌∷◌, [], List, Option, Some, None, length, IfOk, IfSome, IfNone, IsTrue};
 ghost use Rattle.lin_history.specs.Problems.Problem.{problem_of};
 ghost use Rattle.lin_history.specs.Problems.Configurations.{IsReachable};
