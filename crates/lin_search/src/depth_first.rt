@@ -371,10 +371,12 @@ fn go_back<O: SeqObject, M: Memo<O>>(
         (M.holds memo.new) path.new.frames.items path.new.config step) }
     ensures changes { M.changes memo.old memo.new }
 {
-    let Some(frame) = path.pop() else {
+    let Some(mut frame) = path.pop() else {
         return Ok(ControlFlow::Break(Outcome::Refuted(longest)));
     };
-    let (refuted, position) = path.retreat(frame, longest)?;
+    let lifted = path.copy_lifted()?;
+    let position = path.leave(&mut frame, longest)?;
+    let refuted = Config::from_parts(lifted, frame.into_state());
     let problem = path.problem();
     let noted = note_at(problem, refuted, longest, memo, tally.terms.is_for_problem);
     tally.add(noted);
@@ -563,8 +565,9 @@ fn search_unknown<O: SeqObject, M: Memo<O>, S: Stop>(
     ensures stop { S.follows stop.old stop.new }
 {
     let mut path = Path::new(alloc, problem, config)?;
-    let ended = search_on(&mut path, memo, terms, stop)?;
+    let searched = search_on(&mut path, memo, terms, stop);
     let config = path.into_config();
+    let ended = searched?;
     let is_kept = note_root(problem, config, &ended.outcome, memo, terms.is_for_problem);
     Ok(ended.with_note(is_kept))
 }

@@ -15,7 +15,6 @@ mod outcome;
 mod own_memo;
 mod own_search;
 mod path;
-mod plain;
 mod refutation;
 mod stop;
 
@@ -30,6 +29,5 @@ pub use outcome::Outcome;
 pub use own_memo::OwnMemo;
 pub use own_search::{search_alone, search_over};
 pub use path::{Frame, Path, Position};
-pub use plain::search_plain;
 pub use refutation::Refutation;
 pub use stop::{NoStop, Stop};

@@ -101,8 +101,8 @@ fn longest_from<O: SeqObject, M: Memo<O>>(
         config.old.state) order) }
     ensures memo { M.changes memo.old memo.new }
 {
-    let mut calls = Vec::new(alloc);
     let mut longest = longest_of(alloc, problem, config, memo, is_for_problem)?;
+    let mut calls = Vec::new(alloc);
     while let Some(call) = longest.first_call() {
         calls.push(call)?;
         follow(alloc, problem, config, call)?;

@@ -9,6 +9,7 @@ ghost use Rattle.lin_search.specs.Entries.{IsMinimal, IsLeastMinimal};
 ghost use Rattle.lin_search.specs.NextCall.{IsNext, HasEveryCompleted};
 ghost use Rattle.lin_search.specs.Path.{calls_of};
 
+use crate::call_set::CallSet;
 use crate::config::Config;
 use crate::entries::Entries;
 use crate::longest::Longest;
@@ -161,8 +162,8 @@ impl<'p, O: SeqObject> Path<'p, O> {
     {
         Ok(Path {
             alloc,
-            entries: entries_without(alloc, problem, &config)?,
             frames: Vec::with_capacity(alloc, problem.len())?,
+            entries: entries_without(alloc, problem, &config)?,
             config,
         })
     }
@@ -365,42 +366,12 @@ impl<'p, O: SeqObject> Path<'p, O> {
         Ok(self.after(frame.call, frame.longest_with(deep)))
     }
 
-    // The same, and hands out the configuration that was left.
+    // A copy of the set of calls that the search is at.
     #[inline(always)]
-    pub(crate) fn retreat(
-        &mut self,
-        frame: Frame<O>,
-        deep: Longest,
-    ) -> Result<(Config<O>, Position), AllocError>
-        requires lifted { lifted_set (problem_of O.after O.State.eq O.Reply.eq
-            self.old.entries.problem) self.old.entries.lifted ≡ self.old.config.lifted }
-        requires last { (before : List ℕ) × (self.old.entries.lifted ≡ before ++ frame.call ∷ [])
-            × IsMinimal (problem_of O.after O.State.eq O.Reply.eq self.old.entries.problem)
-            (lifted_set (problem_of O.after O.State.eq O.Reply.eq self.old.entries.problem) before)
-            frame.call }
-        requires room { deep.more < length self.old.entries.problem.calls }
-        ensures problem { self.new.entries.problem ≡ self.old.entries.problem }
-        ensures frames { self.new.frames ≡ self.old.frames }
-        ensures last { IfOk result (λ r. (before : List ℕ)
-            → self.old.entries.lifted ≡ before ++ frame.call ∷ []
-            → self.new.entries.lifted ≡ before) }
-        ensures lifted { IfOk result (λ r. lifted_set
-            (problem_of O.after O.State.eq O.Reply.eq self.old.entries.problem)
-            self.new.entries.lifted ≡ self.new.config.lifted) }
-        ensures state { IfOk result (λ r. self.new.config.state ≡ frame.state) }
-        ensures left { IfOk result (λ r. r.0 ≡ self.old.config) }
-        ensures longer { IfOk result (λ r. frame.longest.more < deep.more + 1
-            → r.1.longest ≡ record { more = deep.more + 1; first = Some frame.call }) }
-        ensures not_longer { IfOk result (λ r. deep.more + 1 ≤ frame.longest.more
-            → r.1.longest ≡ frame.longest) }
-        ensures candidate { IfOk result (λ r. IsLeastMinimal
-            (problem_of O.after O.State.eq O.Reply.eq self.old.entries.problem)
-            self.new.config.lifted (frame.call + 1) r.1.candidate) }
+    pub(crate) fn copy_lifted(&self) -> Result<CallSet, AllocError>
+        ensures { IfOk result (λ set. set ≡ self.now.config.lifted) }
     {
-        let lifted = self.config.lifted().copy(self.alloc)?;
-        let mut frame = frame;
-        let position = self.leave(&mut frame, deep)?;
-        Ok((Config::from_parts(lifted, frame.into_state()), position))
+        self.config.lifted().copy(self.alloc)
     }
 
     /// The calls on the path, in order, and then this one. `AllocError` where memory was refused.

@@ -8,7 +8,7 @@ use lin_history::{History, Order, Placed, Problem, WholeOrder, verify};
 use lin_object::{AnyObject, Kind, ObjState, Op, Reply, SeqObject, start_state};
 use lin_search::{
     Config, Entries, Longest, Memo, NoStop, Noted, Outcome, OwnMemo, Refutation, Stop, search,
-    search_alone, search_plain,
+    search_alone,
 };
 use lin_workers::{Scouting, scout};
 use std::alloc::{AllocError, Global};
@@ -282,7 +282,7 @@ pub(super) fn refuted_root(
     problem: &Part,
 ) -> Result<Option<Refutation<'_, AnyObject>>, AllocError> {
     let root = Config::root(alloc, problem)?;
-    match search_plain(alloc, problem, &root)? {
+    match search(alloc, problem, &root, &mut Forgetful, None, &mut NoStop)? {
         Outcome::Refuted(longest) => Ok(Some(Refutation::new(problem, root, longest))),
         Outcome::Found(_) | Outcome::Undecided | Outcome::Stopped(_) => Ok(None),
     }
@@ -431,16 +431,10 @@ fn replayed(alloc: Global, problem: &Part, order: &Order) -> Result<WholeOrder, 
     Ok(WholeOrder::new(placed))
 }
 
-// What the search without a memo answers.
+// What a search answers over a memo that keeps nothing.
 pub(super) fn plainly_searched(alloc: Global, problem: &Part) -> Result<Outcome, AllocError> {
     let root = Config::root(alloc, problem)?;
-    search_plain(alloc, problem, &root)
-}
-
-// Whether the searches over a memo of its own and over one that forgets answer so.
-fn others_answer(alloc: Global, problem: &Part, wanted: &Outcome) -> Result<bool, AllocError> {
-    let stored = stored_by(alloc, problem, None, &mut NoStop, wanted)?;
-    Ok(stored.is_some() && answers(alloc, problem, &mut Forgetful, None, &mut NoStop, wanted)?)
+    search(alloc, problem, &root, &mut Forgetful, None, &mut NoStop)
 }
 
 // Whether the verifier takes the order that was found, if one was.
@@ -456,10 +450,11 @@ fn is_taken(
     }
 }
 
-// Whether all searches answer the same, and the verifier takes what they found.
+// Whether a memo of its own makes no difference to what is answered, and the verifier takes what was found.
 fn all_agree(alloc: Global, history: &History, problem: &Part) -> Result<bool, AllocError> {
     let plain = plainly_searched(alloc, problem)?;
-    Ok(is_taken(alloc, history, problem, &plain)? && others_answer(alloc, problem, &plain)?)
+    let stored = stored_by(alloc, problem, None, &mut NoStop, &plain)?;
+    Ok(stored.is_some() && is_taken(alloc, history, problem, &plain)?)
 }
 
 // The same of the first object of a history.

@@ -15,29 +15,32 @@ returns-in_default-clause-holds g c =
     let none = rw c.in_default.is at c.pop.ensures.none in
     holds_refuted _ root _ _ none.0 (answer_refuted root limit _ _ _ _ _ none.0 k).1 h
 
-pub retreat-requires-clause-lifted : goal.retreat-requires-clause-lifted
-retreat-requires-clause-lifted g c = rw (c.pop.ensures.entries, c.pop.ensures.config) (calls_here _ _ _ _ _ _ _ _ c.requires.progress.2)
+pub leave-requires-clause-lifted : goal.leave-requires-clause-lifted
+leave-requires-clause-lifted g c = rw (c.pop.ensures.entries, c.pop.ensures.config) (calls_here _ _ _ _ _ _ _ _ c.requires.progress.2)
 
-pub retreat-requires-clause-last : goal.retreat-requires-clause-last
-retreat-requires-clause-last g c = rw c.pop.ensures.entries (pop_last _ _ _ _ _ c.in-Some.frame _ _ _ c.in-Some.ensures.some c.requires.progress.2)
+pub leave-requires-clause-last : goal.leave-requires-clause-last
+leave-requires-clause-last g c = rw c.pop.ensures.entries (pop_last _ _ _ _ _ c.in-Some.frame _ _ _ c.in-Some.ensures.some c.requires.progress.2)
 
-pub retreat-requires-clause-room : goal.retreat-requires-clause-room
-retreat-requires-clause-room g c = rw c.pop.ensures.entries (pop_room _ _ _ _ _ c.in-Some.frame _ _ _ c.in-Some.ensures.some c.requires.progress.2)
+pub leave-requires-clause-room : goal.leave-requires-clause-room
+leave-requires-clause-room g c = rw c.pop.ensures.entries (pop_room _ _ _ _ _ c.in-Some.frame _ _ _ c.in-Some.ensures.some c.requires.progress.2)
 
 pub note_at-noted-requires-clause-refuted : goal.note_at-noted-requires-clause-refuted
 note_at-noted-requires-clause-refuted g c =
-    rw (c.problem-problem.ensures, c.retreat.ensures.problem, c.pop.ensures.entries, c.in_ok-refuted.ensures.left, c.pop.ensures.config) (refuted_here _ _ _ _ _ _ _ c.requires.progress.2)
+    rw (c.problem-problem.ensures, c.leave.ensures.problem, c.pop.ensures.entries, c.from_parts-refuted.ensures, c.in_ok-lifted.ensures, c.into_state.ensures, c.in_ok-position.ensures.after, c.pop.ensures.config) (refuted_here _ _ _ _ _ _ _ c.requires.progress.2)
 
 pub returns-clause-step : goal.returns-clause-step
 returns-clause-step g c =
     λ root limit k.
-    rw c.retreat.ensures.frames
-    (step_back root limit _ _ _ c.in-Some.frame _ _ _ c.in-Some.ensures.some k _ _ _ _ (rw c.pop.ensures.entries at c.in_ok-refuted.ensures.last) (rw c.pop.ensures.entries at c.in_ok-refuted.ensures.lifted) (sym c.in_ok-refuted.ensures.state) c.in_ok-refuted.ensures.longer c.in_ok-refuted.ensures.not_longer (rw c.pop.ensures.entries at c.in_ok-refuted.ensures.candidate))
+    rw c.leave.ensures.frames
+    (step_back root limit _ _ _ c.in-Some.frame _ _ _ c.in-Some.ensures.some k _ _ _ _ (rw c.pop.ensures.entries at c.leave.ensures.last) (rw c.pop.ensures.entries at c.in_ok-position.ensures.lifted) (sym c.in_ok-position.ensures.state) c.in_ok-position.ensures.longer c.in_ok-position.ensures.not_longer (rw c.pop.ensures.entries at c.in_ok-position.ensures.candidate))
 
 pub returns-clause-holds : goal.returns-clause-holds
 returns-clause-holds g c =
     λ w root limit k h.
-    let noted = (rw (c.problem-problem.ensures, c.retreat.ensures.problem, c.pop.ensures.entries, c.in_ok-refuted.ensures.left, c.pop.ensures.config) at (c.note_at-noted.ensures.holds ((c.add.ensures.whole w).1))) root.lifted _ h in
-    let set = pop_set root limit _ _ _ c.in-Some.frame _ _ _ c.in-Some.ensures.some k _ _ (rw c.pop.ensures.entries at c.in_ok-refuted.ensures.last) (rw c.pop.ensures.entries at c.in_ok-refuted.ensures.lifted) in
-    rw c.retreat.ensures.frames
-    (holds_pop (g.M.Memo.holds c.note_at-noted.new.memo) root limit _ _ _ c.in-Some.frame _ _ _ _ _ c.in-Some.ensures.some set (sym c.in_ok-refuted.ensures.state) k noted.1 (rw c.pop.ensures.entries at c.in_ok-refuted.ensures.candidate) noted.0)
+    let noted = (rw (c.problem-problem.ensures, c.leave.ensures.problem, c.pop.ensures.entries, c.from_parts-refuted.ensures, c.in_ok-lifted.ensures, c.into_state.ensures, c.in_ok-position.ensures.after, c.pop.ensures.config) at (c.note_at-noted.ensures.holds ((c.add.ensures.whole w).1))) root.lifted _ h in
+    let set = pop_set root limit _ _ _ c.in-Some.frame _ _ _ c.in-Some.ensures.some k _ _ (rw c.pop.ensures.entries at c.leave.ensures.last) (rw c.pop.ensures.entries at c.in_ok-position.ensures.lifted) in
+    rw c.leave.ensures.frames
+    (holds_pop (g.M.Memo.holds c.note_at-noted.new.memo) root limit _ _ _ c.in-Some.frame _ _ _ _ _ c.in-Some.ensures.some set (sym c.in_ok-position.ensures.state) k noted.1 (rw c.pop.ensures.entries at c.in_ok-position.ensures.candidate) noted.0)
+
+pub note_at-noted-requires-clause-of : goal.note_at-noted-requires-clause-of
+note_at-noted-requires-clause-of g c = λ h. rw (c.problem-problem.ensures, c.leave.ensures.problem, c.pop.ensures.entries) (c.requires.of h)

@@ -48,3 +48,6 @@ returns-in-Break-clause-memo g c = g.met.M.Memo.chained _ _ _ c.loop-next.invari
 
 pub returns-in-Break-clause-stop : goal.returns-in-Break-clause-stop
 returns-in-Break-clause-stop g c = g.met.S.Stop.chained _ _ _ c.loop-next.invariant.stop c.step.ensures.stop
+
+pub step-requires-clause-progress : goal.step-requires-clause-progress
+step-requires-clause-progress g c = (c.args.path.now.config, c.args.terms.limit, c.loop-next.invariant.progress)

@@ -3,12 +3,12 @@ use Rattle.lin_history.specs.Problems.Problem.{problem_of}
 use Rattle.lin_search.proofs.PathLemmas.{answer_refutes}
 use Rattle.lin_search.proofs.depth_first.search_unknown.Goals as goal
 
-pub search_on-requires-clause-of : goal.search_on-requires-clause-of
-search_on-requires-clause-of g c = λ h. rw c.in_ok-path.ensures.problem (c.requires.of h)
+pub search_on-searched-requires-clause-of : goal.search_on-searched-requires-clause-of
+search_on-searched-requires-clause-of g c = λ h. rw c.in_ok-path.ensures.problem (c.requires.of h)
 
 pub note_root-is_kept-requires-clause-of : goal.note_root-is_kept-requires-clause-of
 note_root-is_kept-requires-clause-of g c =
-    λ h. g.met.M.Memo.keeps_problem _ _ c.search_on.ensures.memo _ (c.requires.of h)
+    λ h. g.met.M.Memo.keeps_problem _ _ c.search_on-searched.ensures.memo _ (c.requires.of h)
 
 pub note_root-is_kept-requires-clause-refuted : goal.note_root-is_kept-requires-clause-refuted
 note_root-is_kept-requires-clause-refuted g c =
@@ -26,4 +26,19 @@ returns-clause-closed g c =
     (rw back at c.note_root-is_kept.ensures.closed) both.1 refuted held
 
 pub returns-clause-memo : goal.returns-clause-memo
-returns-clause-memo g c = g.met.M.Memo.chained _ _ _ c.search_on.ensures.memo c.note_root-is_kept.ensures.changes
+returns-clause-memo g c = g.met.M.Memo.chained _ _ _ c.search_on-searched.ensures.memo c.note_root-is_kept.ensures.changes
+
+pub search_on-searched-requires-clause-frames : goal.search_on-searched-requires-clause-frames
+search_on-searched-requires-clause-frames g c = c.in_ok-path.ensures.frames
+
+pub search_on-searched-requires-clause-lifted : goal.search_on-searched-requires-clause-lifted
+search_on-searched-requires-clause-lifted g c = rw (c.in_ok-path.ensures.problem, c.in_ok-path.ensures.config) c.in_ok-path.ensures.lifted
+
+pub search_on-searched-requires-clause-reachable : goal.search_on-searched-requires-clause-reachable
+search_on-searched-requires-clause-reachable g c = rw (c.in_ok-path.ensures.problem, c.in_ok-path.ensures.config) c.requires.reachable
+
+pub search_on-searched-requires-clause-incomplete : goal.search_on-searched-requires-clause-incomplete
+search_on-searched-requires-clause-incomplete g c = rw (c.in_ok-path.ensures.problem, c.in_ok-path.ensures.config) c.requires.incomplete
+
+pub returns-clause-answer : goal.returns-clause-answer
+returns-clause-answer g c = rw c.with_note.ensures.outcome (rw (c.in_ok-path.ensures.problem, c.in_ok-path.ensures.config) at c.in_ok-ended.ensures.answer)

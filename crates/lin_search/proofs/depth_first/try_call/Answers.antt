@@ -38,3 +38,21 @@ returns-clause-step g c =
 pub returns-clause-holds : goal.returns-clause-holds
 returns-clause-holds g c =
     ok_map _ _ c.visit.result (λ step k root limit progress h. k root limit c.args.tally.now.left progress h) (rw c.new-next.ensures at c.visit.ensures.holds)
+
+pub next_state-requires-clause-reachable : goal.next_state-requires-clause-reachable
+next_state-requires-clause-reachable g c = c.requires.progress.2.at.reachable
+
+pub next_state-requires-clause-minimal : goal.next_state-requires-clause-minimal
+next_state-requires-clause-minimal g c = c.requires.progress.2.at.minimal
+
+pub after-requires-clause-minimal : goal.after-requires-clause-minimal
+after-requires-clause-minimal g c = c.requires.progress.2.at.minimal
+
+pub visit-requires-clause-of : goal.visit-requires-clause-of
+visit-requires-clause-of g c = c.requires.of
+
+pub visit-requires-clause-next : goal.visit-requires-clause-next
+visit-requires-clause-next g c = rw c.new-next.ensures (rw c.in-Some.is at c.in_ok-state.ensures.next)
+
+pub visit-requires-clause-reachable : goal.visit-requires-clause-reachable
+visit-requires-clause-reachable g c = rw c.new-next.ensures (rw c.in-Some.is at c.in_ok-state.ensures.reachable)
