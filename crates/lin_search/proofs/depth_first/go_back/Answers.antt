@@ -44,3 +44,42 @@ returns-clause-holds g c =
 
 pub note_at-noted-requires-clause-of : goal.note_at-noted-requires-clause-of
 note_at-noted-requires-clause-of g c = λ h. rw (c.problem-problem.ensures, c.leave.ensures.problem, c.pop.ensures.entries) (c.requires.of h)
+
+pub returns-in_default-clause-changes : goal.returns-in_default-clause-changes
+returns-in_default-clause-changes g c = g.met.M.Memo.unchanged _
+
+pub returns-in_err-lifted-clause-changes : goal.returns-in_err-lifted-clause-changes
+returns-in_err-lifted-clause-changes g c = g.met.M.Memo.unchanged _
+
+pub returns-in_err-position-clause-changes : goal.returns-in_err-position-clause-changes
+returns-in_err-position-clause-changes g c = g.met.M.Memo.unchanged _
+
+pub returns-then-wants_memory-clause-problem : goal.returns-then-wants_memory-clause-problem
+returns-then-wants_memory-clause-problem g c = rw c.pop.ensures.entries at c.leave.ensures.problem
+
+pub returns-then-wants_memory-clause-whole : goal.returns-then-wants_memory-clause-whole
+returns-then-wants_memory-clause-whole g c = λ w. (c.add.ensures.whole w).0
+
+pub returns-then-wants_memory-clause-left : goal.returns-then-wants_memory-clause-left
+returns-then-wants_memory-clause-left g c = c.add.ensures.left
+
+pub returns-then-wants_memory-clause-terms : goal.returns-then-wants_memory-clause-terms
+returns-then-wants_memory-clause-terms g c = c.add.ensures.terms
+
+pub returns-then-wants_memory-clause-changes : goal.returns-then-wants_memory-clause-changes
+returns-then-wants_memory-clause-changes g c = c.note_at-noted.ensures.changes
+
+pub returns-clause-problem : goal.returns-clause-problem
+returns-clause-problem g c = rw c.pop.ensures.entries at c.leave.ensures.problem
+
+pub returns-clause-whole : goal.returns-clause-whole
+returns-clause-whole g c = λ w. (c.add.ensures.whole w).0
+
+pub returns-clause-left : goal.returns-clause-left
+returns-clause-left g c = c.add.ensures.left
+
+pub returns-clause-terms : goal.returns-clause-terms
+returns-clause-terms g c = c.add.ensures.terms
+
+pub returns-clause-changes : goal.returns-clause-changes
+returns-clause-changes g c = c.note_at-noted.ensures.changes

@@ -51,3 +51,15 @@ returns-in-Break-clause-stop g c = g.met.S.Stop.chained _ _ _ c.loop-next.invari
 
 pub step-requires-clause-progress : goal.step-requires-clause-progress
 step-requires-clause-progress g c = (c.args.path.now.config, c.args.terms.limit, c.loop-next.invariant.progress)
+
+pub returns-in-Break-clause-problem : goal.returns-in-Break-clause-problem
+returns-in-Break-clause-problem g c = c.step.ensures.problem ∙ c.loop-next.invariant.problem
+
+pub returns-in_err-next-clause-problem : goal.returns-in_err-next-clause-problem
+returns-in_err-next-clause-problem g c = c.step.ensures.problem ∙ c.loop-next.invariant.problem
+
+pub returns-in_err-next-clause-memo : goal.returns-in_err-next-clause-memo
+returns-in_err-next-clause-memo g c = g.met.M.Memo.chained _ _ _ c.loop-next.invariant.memo c.step.ensures.changes
+
+pub returns-in_err-next-clause-stop : goal.returns-in_err-next-clause-stop
+returns-in_err-next-clause-stop g c = g.met.S.Stop.chained _ _ _ c.loop-next.invariant.stop c.step.ensures.stop

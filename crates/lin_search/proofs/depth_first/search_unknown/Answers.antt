@@ -42,3 +42,18 @@ search_on-searched-requires-clause-incomplete g c = rw (c.in_ok-path.ensures.pro
 
 pub returns-clause-answer : goal.returns-clause-answer
 returns-clause-answer g c = rw c.with_note.ensures.outcome (rw (c.in_ok-path.ensures.problem, c.in_ok-path.ensures.config) at c.in_ok-ended.ensures.answer)
+
+pub returns-clause-stop : goal.returns-clause-stop
+returns-clause-stop g c = c.search_on-searched.ensures.stop
+
+pub returns-in_err-ended-clause-memo : goal.returns-in_err-ended-clause-memo
+returns-in_err-ended-clause-memo g c = c.search_on-searched.ensures.memo
+
+pub returns-in_err-ended-clause-stop : goal.returns-in_err-ended-clause-stop
+returns-in_err-ended-clause-stop g c = c.search_on-searched.ensures.stop
+
+pub returns-in_err-path-clause-memo : goal.returns-in_err-path-clause-memo
+returns-in_err-path-clause-memo g c = g.met.M.Memo.unchanged _
+
+pub returns-in_err-path-clause-stop : goal.returns-in_err-path-clause-stop
+returns-in_err-path-clause-stop g c = g.met.S.Stop.unchanged _

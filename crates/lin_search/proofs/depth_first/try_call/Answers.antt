@@ -1,3 +1,4 @@
+use Rattle.std.proofs.Common.{refl}
 use Rattle.lin_history.specs.Problems.Problem.{problem_of}
 use Rattle.lin_search.proofs.PathLemmas.{calls_here, step_skip, holds_skip, answer_refused, not_refusal, step_tells, ok_map}
 use Rattle.lin_search.proofs.depth_first.try_call.Goals as goal
@@ -56,3 +57,54 @@ visit-requires-clause-next g c = rw c.new-next.ensures (rw c.in-Some.is at c.in_
 
 pub visit-requires-clause-reachable : goal.visit-requires-clause-reachable
 visit-requires-clause-reachable g c = rw c.new-next.ensures (rw c.in-Some.is at c.in_ok-state.ensures.reachable)
+
+pub returns-in_err-state-clause-changes : goal.returns-in_err-state-clause-changes
+returns-in_err-state-clause-changes g c = g.met.M.Memo.unchanged _
+
+pub returns-in_err-state-clause-stop : goal.returns-in_err-state-clause-stop
+returns-in_err-state-clause-stop g c = g.met.S.Stop.unchanged _
+
+pub returns-in_default-clause-problem : goal.returns-in_default-clause-problem
+returns-in_default-clause-problem g c = refl
+
+pub returns-in_default-clause-changes : goal.returns-in_default-clause-changes
+returns-in_default-clause-changes g c = g.met.M.Memo.unchanged _
+
+pub returns-in_default-clause-stop : goal.returns-in_default-clause-stop
+returns-in_default-clause-stop g c = g.met.S.Stop.unchanged _
+
+pub returns-in_default-clause-whole : goal.returns-in_default-clause-whole
+returns-in_default-clause-whole g c = refl
+
+pub returns-in_default-clause-terms : goal.returns-in_default-clause-terms
+returns-in_default-clause-terms g c = refl
+
+pub returns-in-Some-refusal-clause-problem : goal.returns-in-Some-refusal-clause-problem
+returns-in-Some-refusal-clause-problem g c = refl
+
+pub returns-in-Some-refusal-clause-changes : goal.returns-in-Some-refusal-clause-changes
+returns-in-Some-refusal-clause-changes g c = g.met.M.Memo.unchanged _
+
+pub returns-in-Some-refusal-clause-stop : goal.returns-in-Some-refusal-clause-stop
+returns-in-Some-refusal-clause-stop g c = c.refusal.ensures.stop
+
+pub returns-in-Some-refusal-clause-whole : goal.returns-in-Some-refusal-clause-whole
+returns-in-Some-refusal-clause-whole g c = refl
+
+pub returns-in-Some-refusal-clause-terms : goal.returns-in-Some-refusal-clause-terms
+returns-in-Some-refusal-clause-terms g c = refl
+
+pub returns-clause-problem : goal.returns-clause-problem
+returns-clause-problem g c = c.visit.ensures.problem
+
+pub returns-clause-changes : goal.returns-clause-changes
+returns-clause-changes g c = c.visit.ensures.changes
+
+pub returns-clause-stop : goal.returns-clause-stop
+returns-clause-stop g c = c.refusal.ensures.stop
+
+pub returns-clause-whole : goal.returns-clause-whole
+returns-clause-whole g c = refl
+
+pub returns-clause-terms : goal.returns-clause-terms
+returns-clause-terms g c = refl
