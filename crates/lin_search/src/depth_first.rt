@@ -244,6 +244,8 @@ fn visit<O: SeqObject, M: Memo<O>>(
 /// On what terms a search is made.
 #[derive(Clone, Copy)]
 pub(crate) struct Terms {
+    /// Where memory is asked for.
+    pub(crate) alloc: Global,
     /// Whether the memo names the problem, so that it compares nothing.
     pub(crate) is_for_problem: bool,
     /// How many lifts may be made, where there is a limit.
@@ -542,7 +544,6 @@ fn note_root<O: SeqObject, M: Memo<O>>(
 
 // Searches a configuration of which nothing is known, and what it leads to.
 fn search_unknown<O: SeqObject, M: Memo<O>, S: Stop>(
-    alloc: Global,
     problem: &Problem<O>,
     config: Config<O>,
     memo: &mut M,
@@ -564,7 +565,7 @@ fn search_unknown<O: SeqObject, M: Memo<O>, S: Stop>(
     ensures memo { M.changes memo.old memo.new }
     ensures stop { S.follows stop.old stop.new }
 {
-    let mut path = Path::new(alloc, problem, config)?;
+    let mut path = Path::new(terms.alloc, problem, config)?;
     let searched = search_on(&mut path, memo, terms, stop);
     let config = path.into_config();
     let ended = searched?;
@@ -574,7 +575,6 @@ fn search_unknown<O: SeqObject, M: Memo<O>, S: Stop>(
 
 // Searches a configuration and what it leads to, on these terms.
 pub(crate) fn search_from<O: SeqObject, M: Memo<O>, S: Stop>(
-    alloc: Global,
     problem: &Problem<O>,
     config: Config<O>,
     memo: &mut M,
@@ -594,13 +594,13 @@ pub(crate) fn search_from<O: SeqObject, M: Memo<O>, S: Stop>(
     ensures memo { M.changes memo.old memo.new }
     ensures stop { S.follows stop.old stop.new }
 {
-    if let Some(outcome) = known_of(alloc, problem, &config, memo, terms.is_for_problem) {
+    if let Some(outcome) = known_of(terms.alloc, problem, &config, memo, terms.is_for_problem) {
         return Ok(Ended {
             outcome,
             whole: true,
         });
     }
-    search_unknown(alloc, problem, config, memo, terms, stop)
+    search_unknown(problem, config, memo, terms, stop)
 }
 
 /// The depth-first search from a configuration over a memo (Wing and Gong 1993; Lowe 2017): a complete
@@ -631,11 +631,12 @@ pub fn search<O: SeqObject, M: Memo<O>, S: Stop>(
 {
     lawful::<O>();
     let terms = Terms {
+        alloc,
         is_for_problem: memo.is_for(problem),
         limit,
         needs_all: false,
     };
     let copy = config.copy(alloc, problem)?;
-    let ended = search_from(alloc, problem, copy, memo, terms, stop)?;
+    let ended = search_from(problem, copy, memo, terms, stop)?;
     Ok(ended.outcome)
 }

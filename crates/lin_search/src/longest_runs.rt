@@ -45,11 +45,12 @@ fn longest_of<O: SeqObject, M: Memo<O>>(
     }
     let copy = config.copy(alloc, problem)?;
     let terms = Terms {
+        alloc,
         is_for_problem,
         limit: None,
         needs_all: false,
     };
-    let ended = search_from(alloc, problem, copy, memo, terms, &mut NoStop)?;
+    let ended = search_from(problem, copy, memo, terms, &mut NoStop)?;
     match ended.outcome {
         Outcome::Refuted(longest) => Ok(longest),
         Outcome::Found(_) => unreachable!(),

@@ -36,11 +36,12 @@ fn search_root<'p, O: SeqObject>(
     lawful::<O>();
     let root = Config::root(alloc, problem)?;
     let terms = Terms {
+        alloc,
         is_for_problem: true,
         limit: None,
         needs_all: true,
     };
-    let ended = search_from(alloc, problem, root, memo, terms, &mut NoStop)?;
+    let ended = search_from(problem, root, memo, terms, &mut NoStop)?;
     if !ended.whole {
         return Err(AllocError);
     }
