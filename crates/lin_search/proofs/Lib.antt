@@ -1,6 +1,5 @@
 pub mod ProgressLemmas
 pub mod LookupLemmas
-pub mod HandedLemmas
 pub mod MemoLemmas
 pub mod LinksLemmas
 pub mod CallEntriesLemmas

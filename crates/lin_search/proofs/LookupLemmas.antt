@@ -168,11 +168,6 @@ module _ {State Op Reply : Type 0} {p q : Problem State Op Reply} (alike : AreAl
       let f = found_pair p k es l all (sym e) in
       alike_refuted alike k.lifted f.0 k.state l (alike.equal_states.symm f.0 k.state ∙ f.1) f.2
 
--- What is told of a configuration holds in a problem that says the same.
-pub told_alike : {State Op Reply : Type 0} {p q : Problem State Op Reply} → AreAlike p q → (set : List Bool) (s : State) (o : Option Longest) → IfSome o (λ (l : Longest). IsRefutedWith p set s l) → IfSome o (λ (l : Longest). IsRefutedWith q set s l)
-told_alike alike set s None h = tt
-told_alike alike set s (Some l) h = alike_refuted alike set s s l (alike.equal_states.refl s) h
-
 module _ {State : Type 0} (same : State → State → Bool) (equal : IsEquivalence same) (ours : Type 0) (old new : List (Configuration State × Longest)) (config : Configuration State) (longest : Longest) where
   -- what an exact answer of a store says to a search
   pub noted_held : (n : Noted) → IsNoted same ours old new config longest n → IsKept n → Holds same new config.lifted config.state

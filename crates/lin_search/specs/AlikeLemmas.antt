@@ -1,6 +1,6 @@
 -- Problems that say the same, and states that are equal: what holds of a configuration of the one holds in the other.
 use Rattle.std.proofs.Common.{◌+◌, ◌≡◌, ℕ, Bool, true, false, Option, Some, None, List, [], ◌∷◌, length, replicate, refl, sym, ◌∙◌, subst}
-use Rattle.std.specs.Prelude.{IsSomeAnd}
+use Rattle.std.specs.Prelude.{IfSome, IsSomeAnd}
 use Rattle.std.specs.Cmp.{IsEquivalence}
 use Rattle.lin_history.specs.Problems.Problem.{Problem}
 use Rattle.lin_history.specs.Problems.Lists.{IsLongest}
@@ -90,6 +90,11 @@ module _ {State Op Reply : Type 0} {p q : Problem State Op Reply} (alike : AreAl
     };
     longest_is = alike_longest set s t longest.more longest.first same k.longest_is;
   }
+
+  -- what is told of a configuration holds in the other problem
+  pub told_alike : (set : List Bool) (s : State) (told : Option Longest) → IfSome told (λ (l : Longest). IsRefutedWith p set s l) → IfSome told (λ (l : Longest). IsRefutedWith q set s l)
+  told_alike set s None h = tt
+  told_alike set s (Some l) h = alike_refuted set s s l (alike.equal_states.refl s) h
 
   each_alike : (set : List Bool) (s t : State) → p.same_state s t ≡ true → (ls : List (List ℕ)) → EachOf (λ (l : List ℕ). IsContinuation p set s l × (l ≡ [] → ⊥)) ls → EachOf (λ (l : List ℕ). IsContinuation q set t l × (l ≡ [] → ⊥)) ls
   each_alike set s t same [] k = tt

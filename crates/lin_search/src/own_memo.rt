@@ -9,7 +9,6 @@ ghost use Rattle.lin_search.specs.declared.memo.Noted.TheVariants.{New};
 
 use crate::call_set::CallSet;
 use crate::config::Config;
-use crate::depth_first::note_at;
 use crate::longest::Longest;
 use crate::memo::{Memo, Noted};
 use indexmap::IndexMap;
@@ -71,8 +70,9 @@ impl<'p, O: SeqObject> OwnMemo<'p, O> {
         self.pairs.len() as u64
     }
 
-    // What is stored with the configuration.
-    fn find(&self, config: &Config<O>) -> Option<Longest>
+    /// What the longest continuations of the configuration tell in the problem that the memo names: `Some`
+    /// exactly where the configuration is stored. No problems are compared. It takes no memory.
+    pub fn find(&self, config: &Config<O>) -> Option<Longest>
         ensures refuted { IfSome result (λ longest. IsRefutedWith
             (problem_of O.after O.State.eq O.Reply.eq self.now.problem) config.now.lifted
             config.now.state longest) }
@@ -98,25 +98,6 @@ impl<'p, O: SeqObject> OwnMemo<'p, O> {
             Ok(Some(_)) => Noted::Known,
             Err(_) => Noted::NoRoom,
         }
-    }
-
-    /// Hands all that it has on to the other memo, pair by pair in order of storing, and answers whether that
-    /// memo kept each of them: then it holds each configuration that was stored here. What it does not keep is
-    /// gone.
-    pub fn hand_on<M: Memo<O>>(self, memo: &mut M) -> bool
-        ensures all { IsTrue result → (set : List Bool) (s : O.State)
-            → Holds O.State.eq self.entry.pairs set s → M.holds memo.new set s }
-        ensures memo { M.changes memo.old memo.new }
-    {
-        lawful::<O>();
-        let OwnMemo { problem, pairs } = self;
-        let is_for_problem = memo.is_for(problem);
-        let mut all = true;
-        for (config, longest) in pairs {
-            let noted = note_at(problem, config, longest, memo, is_for_problem);
-            all = all && noted.is_kept();
-        }
-        all
     }
 
     /// What the longest continuations of the configuration tell: `Some` exactly where the configuration is

@@ -1,5 +1,5 @@
 -- All entries of all hands are so many reachable configurations, no two of them the same.
-use Rattle.std.proofs.Common.{◌≡◌, ◌≢◌, ℕ, zero, suc, ◌<◌, ◌≤◌, Bool, true, List, [], ◌∷◌, length, get_or, refl, sym, ap, ◌∙◌, subst, ⊎_elim, inl, inr, arith, cond}
+use Rattle.std.proofs.Common.{◌≡◌, ◌≢◌, ℕ, zero, suc, ◌+◌, ◌<◌, ◌≤◌, Bool, true, List, [], ◌∷◌, ◌++◌, length, length-append, get_or, refl, sym, ap, ◌∙◌, subst, ⊎_elim, ◌⊎◌, inl, inr, arith, cond}
 use Rattle.std.specs.Cmp.{IsEquivalence}
 use Rattle.std.proofs.lemmas.Bool.{cases_eq, cases_lt, lt-ltb, le-ltb}
 use mathlib.Core.Option.{some, some-injective, some-ne-none}
@@ -10,7 +10,8 @@ use Rattle.lin_search.specs.Configuration.{Configuration}
 use Rattle.lin_history.specs.Problems.Configurations.{IsReachable}
 use Rattle.lin_search.specs.Count.{Among, AllApart, AllReachable, HasReachable}
 use Rattle.lin_search.specs.Refutation.{IsRefutedWith}
-use Rattle.lin_search.specs.Store.{configurations, AllRefuted}
+use Rattle.lin_search.specs.CountLemmas.{stored_reachable, stored_count}
+use Rattle.lin_search.specs.Store.{configurations, AllRefuted, Holds, IsStore}
 use Rattle.lin_table.specs.declared.rule.Entry.{Entry}
 use Rattle.lin_table.specs.Totals.{total, once_below}
 use Rattle.lin_table.specs.Home.{home_of}
@@ -50,6 +51,14 @@ module _ {S : Type 0} (same : S → S → Bool) (equal : IsEquivalence same) whe
       apart.0 (among_from l i a x.0.lifted x.0.state at_i (ap (λ (y : Configuration S × Longest). y.0.lifted) is ∙ sym lifted) (ap (λ (y : Configuration S × Longest). same y.0.state a.0.state) is ∙ (equal.symm b.0.state a.0.state ∙ state)))
   apart_at (x ∷ l) (suc i) (suc j) a b apart at_i at_j ne lifted state = apart_at l i j a b apart.1 at_i at_j (λ e. ne (ap suc e)) lifted state
 
+-- what is among two lists, one behind the other, is among one of them
+among_either : {S : Type 0} (same : S → S → Bool) (xs ys : List (Configuration S)) (set : List Bool) (s : S) → Among same (xs ++ ys) set s → Among same xs set s ⊎ Among same ys set s
+among_either same [] ys set s h = inr h
+among_either same (x ∷ xs) ys set s h = elim h [
+  | inl q ↦ inl (inl q)
+  | inr q ↦ (elim (among_either same xs ys set s q) [ inl r ↦ inl (inr r) | inr r ↦ inr r ])
+]
+
 module _ {O S A R : Type 0} where
   abbrev configs_of : List (Entry O S A R) → List (Configuration S)
   configs_of [] = []
@@ -66,7 +75,7 @@ module _ {O S A R : Type 0} where
     | inr q ↦ (let r = among_at same es set s q in (suc r.0, r.1, r.2, r.3, r.4))
   ]
 
-module _ {O S A R : Type 0} (p : Problem S A R) (equal : IsEquivalence p.same_state) (n : ℕ) (lists : ℕ → List (Configuration S × Longest)) (all : List (Entry O S A R)) (stored : AreStored p n lists all) where
+module _ {O S A R : Type 0} (p : Problem S A R) (equal : IsEquivalence p.same_state) (known : List (Configuration S × Longest)) (lawful : IsStore p known) (n : ℕ) (lists : ℕ → List (Configuration S × Longest)) (all : List (Entry O S A R)) (stored : AreStored p known n lists all) where
   refuted_at : (l : List (Configuration S × Longest)) (k : ℕ) (pair : Configuration S × Longest) → AllRefuted p l → get_elem? l k ≡ some pair → IsRefutedWith p pair.0.lifted pair.0.state pair.1
   refuted_at [] k pair refuted e = absurd (some-ne-none pair (sym e))
   refuted_at (x ∷ l) zero pair refuted e = subst (λ (y : Configuration S × Longest). IsRefutedWith p y.0.lifted y.0.state y.1) (some-injective _ _ e) refuted.0
@@ -80,19 +89,26 @@ module _ {O S A R : Type 0} (p : Problem S A R) (equal : IsEquivalence p.same_st
       ∙ ap (λ (y : Configuration S × Longest). home_of y.0.lifted n) (sym (at_index (lists e.shard) e.place pair pair at))
       ∙ stored.belongs e.shard small e.place pair room
 
-  all_reachable : (es : List (Entry O S A R)) → ((j : ℕ) (e : Entry O S A R) → get_elem? es j ≡ some e → Stands lists n e) → AllReachable p (configs_of es)
-  all_reachable [] stands = tt
+  -- an entry's configuration was not known before
+  is_fresh : (e : Entry O S A R) → Stands lists n e → Holds p.same_state known e.config.lifted e.config.state → ⊥
+  is_fresh e (small, (pair, at, is)) =
+      let room = within (lists e.shard) e.place pair at in
+      subst (λ (c : Configuration S). Holds p.same_state known c.lifted c.state → ⊥) is
+      (subst (λ (y : Configuration S × Longest). Holds p.same_state known y.0.lifted y.0.state → ⊥) (at_index (lists e.shard) e.place pair pair at) (stored.fresh e.shard small e.place pair room))
+
+  all_reachable : (es : List (Entry O S A R)) → ((j : ℕ) (e : Entry O S A R) → get_elem? es j ≡ some e → Stands lists n e) → AllReachable p (configs_of es ++ configurations known)
+  all_reachable [] stands = stored_reachable p known lawful.refuted
   all_reachable (e ∷ es) stands =
       let mine = stands 0 e refl in
       let pair = mine.1.0 in
       (subst (λ (c : Configuration S). IsReachable p c.lifted c.state) mine.1.2 (refuted_at (lists e.shard) e.place pair (stored.lawful e.shard mine.0).refuted mine.1.1).refuted.reachable, all_reachable es (λ j x at. stands (suc j) x at))
 
-  all_apart : (es : List (Entry O S A R)) → ((j : ℕ) (e : Entry O S A R) → get_elem? es j ≡ some e → Stands lists n e) → ((k place : ℕ) → k < n → total (named_by k place) es ≤ 1) → AllApart p.same_state (configs_of es)
-  all_apart [] stands once = tt
+  all_apart : (es : List (Entry O S A R)) → ((j : ℕ) (e : Entry O S A R) → get_elem? es j ≡ some e → Stands lists n e) → ((k place : ℕ) → k < n → total (named_by k place) es ≤ 1) → AllApart p.same_state (configs_of es ++ configurations known)
+  all_apart [] stands once = lawful.apart
   all_apart (e ∷ es) stands once =
       let mine = stands 0 e refl in (
-        (λ among.
-            let found = among_at p.same_state es e.config.lifted e.config.state among in
+        (λ among. ⊎_elim (λ (here : Among p.same_state (configs_of es) e.config.lifted e.config.state).
+            let found = among_at p.same_state es e.config.lifted e.config.state here in
             let other = found.1 in
             let theirs = stands (suc found.0) other found.2 in
             let shard : e.shard ≡ other.shard = sym (home_is e mine) ∙ ap (λ set. home_of set n) found.3 ∙ home_is other theirs in
@@ -108,16 +124,21 @@ module _ {O S A R : Type 0} (p : Problem S A R) (equal : IsEquivalence p.same_st
             apart_at p.same_state equal (lists e.shard) e.place other.place mine.1.0 theirs.1.0 (stored.lawful e.shard mine.0).apart mine.1.1 there ne
             (ap (λ (c : Configuration S). c.lifted) mine.1.2 ∙ found.3 ∙ ap (λ (c : Configuration S). c.lifted) (sym theirs.1.2))
             (ap (λ (c : Configuration S). p.same_state c.state theirs.1.0.0.state) mine.1.2 ∙ ap (λ (c : Configuration S). p.same_state e.config.state c.state) theirs.1.2 ∙ found.4))
-            (cases_eq e.place other.place)),
+            (cases_eq e.place other.place))
+            (is_fresh e mine)
+            (among_either p.same_state (configs_of es) (configurations known) e.config.lifted e.config.state among)),
         all_apart es (λ j x at. stands (suc j) x at) (λ k place small. let t = once k place small in omega arith),
       )
 
-  pub has_all : HasReachable p (length all)
+  pub has_all : HasReachable p (length known + length all)
   has_all = (
-    configs_of all,
+    configs_of all ++ configurations known,
     record {
       apart = all_apart all stored.stands (λ k place small. let e = stored.names k place small in let o = once_at_most place (length (lists k)) in omega arith);
       reachable = all_reachable all stored.stands;
     },
-    length_configs all,
+    let a = length-append (configs_of all) (configurations known) in
+        let b = length_configs all in
+        let c = stored_count p known in
+        omega arith,
   )

@@ -1,5 +1,5 @@
 -- A table at its start, and how its hands' views are split and joined.
-use Rattle.std.proofs.Common.{◌≡◌, ◌≢◌, ℕ, zero, suc, ◌+◌, ◌<◌, List, [], ◌∷◌, ◌++◌, set, replicate, map, refl, sym, ap, ◌∙◌, subst, ⊎_elim, ◌⊎◌, inl, inr, arith, cond, None}
+use Rattle.std.proofs.Common.{◌≡◌, ◌≢◌, ℕ, zero, suc, ◌+◌, ◌<◌, Bool, List, [], ◌∷◌, ◌++◌, set, replicate, map, refl, sym, ap, ◌∙◌, subst, ⊎_elim, ◌⊎◌, inl, inr, arith, cond, None}
 use mathlib.Core.Option.{Option as Maybe, some, some-ne-none, some-injective}
 use lib.ListN.{get_elem?}
 use Rattle.std.proofs.lemmas.Bool.{le-ltb}
@@ -31,8 +31,8 @@ module _ {O S A R : Type 0} where
   empty_shard problem = record { problem = problem; pairs = [] }
 
   -- a table begins with every shard home and empty
-  pub opens : (a : Plan O S A R) → KeepsRule a (opening (replicate a.shards 0) (replicate a.shards (empty_shard a.problem.now)) (opening_view a))
-  opens a =
+  pub opens : (same : S → S → Bool) (a : Plan O S A R) → KeepsRule same a (opening (replicate a.shards 0) (replicate a.shards (empty_shard a.problem.now)) (opening_view a))
+  opens same a =
       let n : ℕ = a.shards in
       let problem : ProblemParts O S A R = a.problem.now in (
         (λ k. []),
@@ -46,6 +46,7 @@ module _ {O S A R : Type 0} where
           names = λ k p small. sym (ap (λ b. cond b 1 0) (le-ltb p 0 (omega arith)));
           belongs = λ k small j d no. absurd (omega arith);
         },
+        λ k small j d no. absurd (omega arith),
       )
     where
       first : (id : ℕ) (v : View O S A R) → get_elem? (opening_view a ∷ []) id ≡ some v → Fits a.problem.now a.shards (λ k. []) v
@@ -109,8 +110,8 @@ module _ {O S A R : Type 0} where
         at_both (y ∷ xs) ys zero x e = inl e
         at_both (y ∷ xs) ys (suc j) x e = at_both xs ys j x e
 
-  pub split_allowed : (a : Plan O S A R) (id : ℕ) (v : View O S A R) → 1 < v.parts → Splits (KeepsRule a) id v (one_part_less v) (one_part v)
-  split_allowed a id v more s k at = (k.0, split_holds a.problem.now a.shards a.hands s.words s.homes s.views k.0 k.1 id v at more)
+  pub split_allowed : (same : S → S → Bool) (a : Plan O S A R) (id : ℕ) (v : View O S A R) → 1 < v.parts → Splits (KeepsRule same a) id v (one_part_less v) (one_part v)
+  split_allowed same a id v more s k at = (k.0, split_holds a.problem.now a.shards a.hands s.words s.homes s.views k.0 k.1 id v at more, k.2)
 
-  pub join_allowed : (a : Plan O S A R) (id : ℕ) (v : View O S A R) (other : ℕ) (u : View O S A R) → 0 < v.parts → v.out ≡ None → u.out ≡ None → Joins (KeepsRule a) id v other u (both_views v u) no_part
-  join_allowed a id v other u part free free_too s k at apart there = (k.0, join_holds a.problem.now a.shards a.hands s.words s.homes s.views k.0 k.1 id v at part free other u free_too apart there)
+  pub join_allowed : (same : S → S → Bool) (a : Plan O S A R) (id : ℕ) (v : View O S A R) (other : ℕ) (u : View O S A R) → 0 < v.parts → v.out ≡ None → u.out ≡ None → Joins (KeepsRule same a) id v other u (both_views v u) no_part
+  join_allowed same a id v other u part free free_too s k at apart there = (k.0, join_holds a.problem.now a.shards a.hands s.words s.homes s.views k.0 k.1 id v at part free other u free_too apart there, k.2)

@@ -1,5 +1,5 @@
 -- Each step keeps the rule of the shards.
-use Rattle.std.proofs.Common.{◌≡◌, ◌≢◌, ℕ, ◌+◌, ◌*◌, ◌<◌, ◌≤◌, List, [], ◌∷◌, ◌++◌, length, get_or, set, refl, sym, ap, ◌∙◌, subst, ⊎_elim, arith, length-append, length-set, get_or-set_same, cond, eqb, eq-eqb, ne_eqb, Option, Some, None, All, map, drop}
+use Rattle.std.proofs.Common.{◌≡◌, ◌≢◌, ℕ, ◌+◌, ◌*◌, ◌<◌, ◌≤◌, Bool, List, [], ◌∷◌, ◌++◌, length, get_or, set, refl, sym, ap, ◌∙◌, subst, ⊎_elim, arith, length-append, length-set, get_or-set_same, cond, eqb, eq-eqb, ne_eqb, Option, Some, None, All, map, drop}
 use mathlib.Core.Option.{Option as Maybe, none, some}
 use lib.ListN.{get_elem?}
 use Rattle.std.proofs.lemmas.List.{get_or-set_other, set-get_or}
@@ -12,14 +12,14 @@ use prog.Atomic.{either}
 use Rattle.lin_history.specs.Problems.ProblemParts.{ProblemParts}
 use Rattle.lin_search.specs.declared.longest.Longest.{Longest}
 use Rattle.lin_search.specs.Configuration.{Configuration}
-use Rattle.lin_search.specs.Store.{Store}
+use Rattle.lin_search.specs.Store.{Store, Holds}
 use Rattle.lin_table.specs.declared.rule.Entry.{Entry}
 use Rattle.lin_table.specs.declared.rule.ShardOut.{ShardOut}
 use Rattle.lin_table.specs.declared.rule.View.{View}
 use Rattle.lin_table.specs.declared.rule.Plan.{Plan}
 use Rattle.lin_table.specs.Home.{home_of}
 use Rattle.lin_table.specs.Totals.{once_below, one_if_same}
-use Rattle.lin_table.specs.Rule.{out_at, outs, named_by, names_of, Stands, Fits, IsHome, RuleHolds, KeepsRule, view}
+use Rattle.lin_table.specs.Rule.{AreFresh, known_in, out_at, outs, named_by, names_of, Stands, Fits, IsHome, RuleHolds, KeepsRule, view}
 use Rattle.lin_table.specs.Steps.{with_out, with_none_out, with_entry, with_added, TakeTells, GiveBackTells, GiveMoreTells, added, HasMore}
 use Rattle.lin_table.proofs.TotalLemmas.{total_set, total_at, total_append, one_where_same, none_where_other, once_more}
 
@@ -105,9 +105,9 @@ module _ {O S A R : Type 0} where
           belongs = h.belongs;
         }
 
-  pub takes_out : (a : Plan O S A R) (slots id : ℕ) (me : Me (Store O S A R) (View O S A R)) (i : ℕ) → i < a.shards → 0 < me.0.parts → me.0.out ≡ None
-      → Allows (KeepsRule a) slots id me i (λ n. either (eqb n 0) 1 n) (TakeTells (step slots i 0 1 none) me)
-  takes_out a slots id me i below part no_out s k len at small =
+  pub takes_out : (same : S → S → Bool) (a : Plan O S A R) (slots id : ℕ) (me : Me (Store O S A R) (View O S A R)) (i : ℕ) → i < a.shards → 0 < me.0.parts → me.0.out ≡ None
+      → Allows (KeepsRule same a) slots id me i (λ n. either (eqb n 0) 1 n) (TakeTells (step slots i 0 1 none) me)
+  takes_out same a slots id me i below part no_out s k len at small =
       let v : View O S A R = me.0 in
       let r : ℕ = get_or s.words i 0 in
       let lists = k.0 in
@@ -118,26 +118,26 @@ module _ {O S A R : Type 0} where
       (λ (hit : r ≡ 0).
       let home = h.at_home i below (omega arith) in
       let o : ShardOut O S A R = record { shard = i; pairs = home.shard.pairs } in
-      let Q : ℕ → Type 0 = λ (n : ℕ). KeepsRule a (stepped s i n id me.1 (with_out v o) (takes i home.shard)) in (
+      let Q : ℕ → Type 0 = λ (n : ℕ). KeepsRule same a (stepped s i n id me.1 (with_out v o) (takes i home.shard)) in (
         with_out v o,
         takes i home.shard,
         home.is_there,
-        subst (λ (z : ℕ). Q (either (eqb z 0) 1 z)) (sym hit) (lists, take_holds a.problem.now a.shards a.hands s.words s.homes s.views lists h id v at i below part no_out (omega arith) home.shard home.pairs_are),
+        subst (λ (z : ℕ). Q (either (eqb z 0) 1 z)) (sym hit) (lists, take_holds a.problem.now a.shards a.hands s.words s.homes s.views lists h id v at i below part no_out (omega arith) home.shard home.pairs_are, k.2),
         ((λ _. (home.shard, refl, ap Some home.problem_is ∙ sym mine, refl)), (λ no. absurd (no hit))),
       ))
       (λ (miss : r ≢ 0). (
         v,
         keeps,
         tt,
-        exchanged r 0 1 (λ (n : ℕ). KeepsRule a (stepped s i n id me.1 v keeps)) (λ hit. absurd (miss hit))
-            (λ _. (lists, subst (λ (z : List ℕ × List (View O S A R)). RuleHolds a.problem.now a.shards a.hands z.0 s.homes z.1 lists) (λ j. (sym (set-get_or s.words i 0) j, sym (set_again s.views id v at) j)) h)),
+        exchanged r 0 1 (λ (n : ℕ). KeepsRule same a (stepped s i n id me.1 v keeps)) (λ hit. absurd (miss hit))
+            (λ _. (lists, subst (λ (z : List ℕ × List (View O S A R)). RuleHolds a.problem.now a.shards a.hands z.0 s.homes z.1 lists) (λ j. (sym (set-get_or s.words i 0) j, sym (set_again s.views id v at) j)) h, k.2)),
         ((λ hit. absurd (miss hit)), (λ _. refl)),
       ))
       (cases_eq r 0)
 
-  pub gives_back : (a : Plan O S A R) (slots id : ℕ) (me : Me (Store O S A R) (View O S A R)) (i : ℕ) (y : Store O S A R) (others : List (ℕ × Store O S A R)) → 0 < me.0.parts → me.1 ≡ (i, y) ∷ others → Some y.problem ≡ me.0.problem → me.0.out ≡ Some (record { shard = i; pairs = y.pairs })
-      → Allows (KeepsRule a) slots id me i (λ _. 0) (λ _. GiveBackTells (step slots i 0 0 none) me 0)
-  gives_back a slots id me i y others part holds theirs has s k len at small =
+  pub gives_back : (same_state : S → S → Bool) (a : Plan O S A R) (slots id : ℕ) (me : Me (Store O S A R) (View O S A R)) (i : ℕ) (y : Store O S A R) (others : List (ℕ × Store O S A R)) → 0 < me.0.parts → me.1 ≡ (i, y) ∷ others → Some y.problem ≡ me.0.problem → me.0.out ≡ Some (record { shard = i; pairs = y.pairs })
+      → Allows (KeepsRule same_state a) slots id me i (λ _. 0) (λ _. GiveBackTells (step slots i 0 0 none) me 0)
+  gives_back same_state a slots id me i y others part holds theirs has s k len at small =
       let v : View O S A R = me.0 in
       let lists = k.0 in
       let h = k.1 in
@@ -145,7 +145,7 @@ module _ {O S A R : Type 0} where
         with_none_out v,
         gives,
         tt,
-        (lists, subst (λ (c : List (ℕ × Store O S A R)). RuleHolds a.problem.now a.shards a.hands (set s.words i 0) (put_back s.homes c) (set s.views id (with_none_out v)) lists) (sym holds) (give_holds a.problem.now a.shards a.hands s.words s.homes s.views lists h id v at i y.pairs part has y (some_same (theirs ∙ mine)) refl)),
+        (lists, subst (λ (c : List (ℕ × Store O S A R)). RuleHolds a.problem.now a.shards a.hands (set s.words i 0) (put_back s.homes c) (set s.views id (with_none_out v)) lists) (sym holds) (give_holds a.problem.now a.shards a.hands s.words s.homes s.views lists h id v at i y.pairs part has y (some_same (theirs ∙ mine)) refl), k.2),
         (refl, refl),
       )
 
@@ -235,8 +235,8 @@ module _ {O S A R : Type 0} where
   entry_of i old q = record { shard = i; place = length old; config = q.0 }
 
   -- what a shard with one pair more adds to its hand's entries
-  pub adds_one : (i shards : ℕ) (me : Me (Store O S A R) (View O S A R)) (more : HasMore i shards me) → with_added i me ≡ with_entry me.0 (entry_of i more.pairs more.pair)
-  adds_one i shards me more =
+  pub adds_one : (known : List Bool → S → Type 0) (i shards : ℕ) (me : Me (Store O S A R) (View O S A R)) (more : HasMore known i shards me) → with_added i me ≡ with_entry me.0 (entry_of i more.pairs more.pair)
+  adds_one known i shards me more =
       let v : View O S A R = me.0 in
       let one : added i me.0.out me.1 ≡ entry_of i more.pairs more.pair ∷ [] =
       ap (λ (o : Option (ShardOut O S A R)). added i o me.1) more.out
@@ -244,9 +244,19 @@ module _ {O S A R : Type 0} where
       ∙ ap (map (λ (p : Configuration S × Longest). entry_of i more.pairs p)) (ap (drop (length more.pairs)) more.longer ∙ drop-append_seam more.pairs (more.pair ∷ [])) in
       ap (λ (l : List (Entry O S A R)). view v.problem v.parts (v.entries ++ l) None) one
 
-  pub gives_more : (a : Plan O S A R) (slots id : ℕ) (me : Me (Store O S A R) (View O S A R)) (i : ℕ) → 0 < me.0.parts → HasMore i a.shards me
-      → Allows (KeepsRule a) slots id me i (λ _. 0) (λ _. GiveMoreTells (step slots i 0 0 none) me 0)
-  gives_more a slots id me i part more s k len at small =
+  -- a pair that was not known goes to its shard
+  fresh_more : (same : S → S → Bool) (a : Plan O S A R) (i : ℕ) (lists : ℕ → List (Configuration S × Longest)) (old : List (Configuration S × Longest)) (q : Configuration S × Longest) → i < a.shards → old ≡ lists i → (Holds same (known_in a.known) q.0.lifted q.0.state → ⊥) → AreFresh same a lists → AreFresh same a (λ k. cond (eqb k i) (old ++ q ∷ []) (lists k))
+  fresh_more same a i lists old q below is fresh all k small =
+      let Q : Configuration S × Longest → Type 0 = λ (x : Configuration S × Longest). Holds same (known_in a.known) x.0.lifted x.0.state → ⊥ in
+      let lists' : ℕ → List (Configuration S × Longest) = λ k. cond (eqb k i) (old ++ q ∷ []) (lists k) in
+      let here : lists' i ≡ old ++ q ∷ [] = ap (λ b. cond b (old ++ q ∷ []) (lists i)) (eq-eqb i i refl) in ⊎_elim
+      (λ (b : k ≡ i). subst (λ m. All Q (lists' m)) (sym b) (All-same Q _ _ here (All-push Q old q (All-same Q _ _ is (all i below)) fresh)))
+      (λ (ne : k ≢ i). All-same Q _ _ (ap (λ b. cond b (old ++ q ∷ []) (lists k)) (ne_eqb k i ne)) (all k small))
+      (cases_eq k i)
+
+  pub gives_more : (same : S → S → Bool) (a : Plan O S A R) (slots id : ℕ) (me : Me (Store O S A R) (View O S A R)) (i : ℕ) → 0 < me.0.parts → HasMore (Holds same (known_in a.known)) i a.shards me
+      → Allows (KeepsRule same a) slots id me i (λ _. 0) (λ _. GiveMoreTells (step slots i 0 0 none) me 0)
+  gives_more same a slots id me i part more s k len at small =
       let v : View O S A R = me.0 in
       let h = k.1 in
       let mine = (h.each id v at).problem_is part in
@@ -258,14 +268,15 @@ module _ {O S A R : Type 0} where
           (λ m. cond (eqb m i) (more.pairs ++ more.pair ∷ []) (k.0 m)),
           subst (λ (c : List (ℕ × Store O S A R)). RuleHolds a.problem.now a.shards a.hands (set s.words i 0) (put_back s.homes c) (set s.views id (with_entry v e)) (λ m. cond (eqb m i) (more.pairs ++ more.pair ∷ []) (k.0 m))) (sym more.holds)
               (more_holds a.problem.now a.shards a.hands s.words s.homes s.views k.0 h id v at i more.pairs more.pair part more.out more.now (some_same (more.problem_is ∙ mine)) more.longer more.home),
+          fresh_more same a i k.0 more.pairs more.pair ((h.each id v at).out (record { shard = i; pairs = more.pairs }) more.out).0 ((h.each id v at).out (record { shard = i; pairs = more.pairs }) more.out).1 more.fresh k.2,
         ),
-        (sym (adds_one i a.shards me more), refl),
+        (sym (adds_one (Holds same (known_in a.known)) i a.shards me more), refl),
       )
 
   -- a hand that has added a pair to the shard that it has out
-  pub has_more : (i shards : ℕ) (me : Me (Store O S A R) (View O S A R)) (y now : Store O S A R) (q : Configuration S × Longest) → me.1 ≡ (i, y) ∷ [] → Some y.problem ≡ me.0.problem → me.0.out ≡ Some (record { shard = i; pairs = y.pairs })
-      → now.problem ≡ y.problem → now.pairs ≡ y.pairs ++ q ∷ [] → home_of q.0.lifted shards ≡ i → HasMore i shards (me.0, (i, now) ∷ rest me.1)
-  has_more i shards me y now q holds theirs has same longer home = record {
+  pub has_more : (known : List Bool → S → Type 0) (i shards : ℕ) (me : Me (Store O S A R) (View O S A R)) (y now : Store O S A R) (q : Configuration S × Longest) → me.1 ≡ (i, y) ∷ [] → Some y.problem ≡ me.0.problem → me.0.out ≡ Some (record { shard = i; pairs = y.pairs })
+      → now.problem ≡ y.problem → now.pairs ≡ y.pairs ++ q ∷ [] → home_of q.0.lifted shards ≡ i → (known q.0.lifted q.0.state → ⊥) → HasMore known i shards (me.0, (i, now) ∷ rest me.1)
+  has_more known i shards me y now q holds theirs has same longer home fresh = record {
     now = now;
     pairs = y.pairs;
     pair = q;
@@ -274,13 +285,14 @@ module _ {O S A R : Type 0} where
     out = has;
     longer = longer;
     home = home;
+    fresh = fresh;
   }
 
   -- and what that adds to its entries
-  pub adds_pair : (i shards : ℕ) (me : Me (Store O S A R) (View O S A R)) (y now : Store O S A R) (q : Configuration S × Longest) → me.1 ≡ (i, y) ∷ [] → Some y.problem ≡ me.0.problem → me.0.out ≡ Some (record { shard = i; pairs = y.pairs })
-      → now.problem ≡ y.problem → now.pairs ≡ y.pairs ++ q ∷ [] → home_of q.0.lifted shards ≡ i → with_added i (me.0, (i, now) ∷ rest me.1) ≡ with_entry me.0 (entry_of i y.pairs q)
+  pub adds_pair : (known : List Bool → S → Type 0) (i shards : ℕ) (me : Me (Store O S A R) (View O S A R)) (y now : Store O S A R) (q : Configuration S × Longest) → me.1 ≡ (i, y) ∷ [] → Some y.problem ≡ me.0.problem → me.0.out ≡ Some (record { shard = i; pairs = y.pairs })
+      → now.problem ≡ y.problem → now.pairs ≡ y.pairs ++ q ∷ [] → home_of q.0.lifted shards ≡ i → (known q.0.lifted q.0.state → ⊥) → with_added i (me.0, (i, now) ∷ rest me.1) ≡ with_entry me.0 (entry_of i y.pairs q)
   unfolding has_more
-  adds_pair i shards me y now q holds theirs has same longer home = adds_one i shards (me.0, (i, now) ∷ rest me.1) (has_more i shards me y now q holds theirs has same longer home)
+  adds_pair known i shards me y now q holds theirs has same longer home fresh = adds_one known i shards (me.0, (i, now) ∷ rest me.1) (has_more known i shards me y now q holds theirs has same longer home fresh)
 
   abbrev pub value_at : Store O S A R → List (ℕ × Store O S A R) → Store O S A R
   value_at d [] = d

@@ -5,7 +5,7 @@ use lib.ListN.{get_elem?}
 use Rattle.lin_history.specs.Problems.Problem.{Problem}
 use Rattle.lin_search.specs.declared.longest.Longest.{Longest}
 use Rattle.lin_search.specs.Configuration.{Configuration}
-use Rattle.lin_search.specs.Store.{IsStore}
+use Rattle.lin_search.specs.Store.{Holds, IsStore}
 use Rattle.lin_table.specs.declared.rule.Entry.{Entry}
 use Rattle.lin_table.specs.declared.rule.View.{View}
 use Rattle.lin_table.specs.Home.{home_of}
@@ -32,9 +32,10 @@ module _ {O S A R : Type 0} where
     pub entries : u.entries ++ entries_in left ≡ v.entries ++ entries_in all
 
   -- Where these are the pairs of each shard, in order of storing, and these are the entries of all hands: each shard is lawful, each configuration is in its
-  -- home, the entries name each place of each shard once and no other, and at each stands the configuration of the entry.
-  pub record AreStored (p : Problem S A R) (shards : ℕ) (lists : ℕ → Pairs S) (entries : List (Entry O S A R)) : Type 0 where
+  -- home and was not known before, the entries name each place of each shard once and no other, and at each stands the configuration of the entry.
+  pub record AreStored (p : Problem S A R) (known : Pairs S) (shards : ℕ) (lists : ℕ → Pairs S) (entries : List (Entry O S A R)) : Type 0 where
     pub lawful : (k : ℕ) → k < shards → IsStore p (lists k)
     pub belongs : (k : ℕ) → k < shards → All (λ (pair : Configuration S × Longest). home_of pair.0.lifted shards ≡ k) (lists k)
+    pub fresh : (k : ℕ) → k < shards → All (λ (pair : Configuration S × Longest). Holds p.same_state known pair.0.lifted pair.0.state → ⊥) (lists k)
     pub names : (k place : ℕ) → k < shards → total (named_by k place) entries ≡ once_below place (length (lists k))
     pub stands : (j : ℕ) (e : Entry O S A R) → get_elem? entries j ≡ some e → Stands lists shards e

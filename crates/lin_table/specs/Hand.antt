@@ -1,16 +1,23 @@
 -- What contracts see of a table and of its hands (this project's own).
-use Rattle.std.specs.Prelude.{◌≡◌, ℕ, ◌≤◌, List, [], ◌∷◌, ◌++◌, length, Option, Some, None}
+use Rattle.std.specs.Prelude.{◌≡◌, ℕ, ◌<◌, ◌≤◌, Bool, List, [], ◌∷◌, ◌++◌, length, Option, Some, None}
 use Rattle.atomic_table.specs.Seated.{TableId}
+use Rattle.std.specs.Borrow.{Bor}
+use Rattle.lin_history.specs.Problems.Problem.{problem_of}
 use Rattle.lin_history.specs.Problems.ProblemParts.{ProblemParts}
+use Rattle.lin_search.specs.declared.longest.Longest.{Longest}
 use Rattle.lin_search.specs.Configuration.{Configuration}
 use Rattle.lin_table.specs.declared.rule.Entry.{Entry}
 use Rattle.lin_table.specs.declared.rule.View.{View}
+use Rattle.lin_search.specs.Store.{Store, IsStore}
 use Rattle.lin_table.specs.declared.hand.TheConstants.{MAX_STORED}
+use Rattle.lin_table.specs.declared.table.TheConstants.{MAX_KNOWN}
+use Rattle.lin_table.specs.Rule.{known_in}
 
--- Which table it is, its problem, and how many shards and hands it has.
+-- Which table it is, its problem, what was known before it was made, and how many shards and hands it has.
 pub record TableFacts (O S A R : Type 0) : Type 0 where
   pub id : TableId
   pub problem : ProblemParts O S A R
+  pub known : List (Configuration S × Longest)
   pub shards : ℕ
   pub hands : ℕ
 
@@ -19,6 +26,12 @@ pub record HandFacts (O S A R : Type 0) : Type 0 where
   pub table : TableId
   pub problem : Option (ProblemParts O S A R)
   pub entries : List (Entry O S A R)
+
+-- What was known of the problem before a table was made, where there is a memo: the memo names the problem, and its pairs are lawful and not too many.
+pub record IsKnownOf {O S A R : Type 0} (after : O → S → ℕ → A → Option (S × R)) (same_state : S → S → Bool) (same_reply : R → R → Bool) (problem : ProblemParts O S A R) (known : Option (Bor (Store O S A R))) : Type 0 where
+  pub problem_is : (memo : Bor (Store O S A R)) → known ≡ Some memo → memo.now.problem ≡ problem
+  pub store : IsStore (problem_of after same_state same_reply problem) (known_in known)
+  pub few : length (known_in known) < MAX_KNOWN
 
 -- The hand came with the table.
 abbrev pub IsHandOf : {O S A R : Type 0} → TableFacts O S A R → HandFacts O S A R → Type 0

@@ -1,12 +1,13 @@
 -- The rule of a table's words: a word is 0 where its shard is home, and 1 where exactly one view has it out (this project's own).
-use Rattle.std.specs.Prelude.{◌≡◌, ℕ, ◌*◌, ◌<◌, ◌≤◌, List, [], length, slice_index, All, Option, Some, None}
+use Rattle.std.specs.Prelude.{◌≡◌, ℕ, ◌*◌, ◌<◌, ◌≤◌, Bool, List, [], length, slice_index, All, Option, Some, None}
+use Rattle.std.specs.Borrow.{Bor}
 use mathlib.Core.Option.{Option as Maybe, some}
 use lib.ListN.{get_elem?}
 use Rattle.atomic_table.specs.Table.{State as TableState}
 use Rattle.lin_history.specs.Problems.ProblemParts.{ProblemParts}
 use Rattle.lin_search.specs.declared.longest.Longest.{Longest}
 use Rattle.lin_search.specs.Configuration.{Configuration}
-use Rattle.lin_search.specs.Store.{Store}
+use Rattle.lin_search.specs.Store.{Store, Holds}
 use Rattle.lin_table.specs.declared.rule.Entry.{Entry}
 use Rattle.lin_table.specs.declared.rule.ShardOut.{ShardOut}
 use Rattle.lin_table.specs.declared.rule.View.{View}
@@ -17,6 +18,11 @@ use Rattle.lin_table.specs.Totals.{total, once_below, one_if_same}
 -- the pairs of a shard, in order of storing
 abbrev pub Pairs : Type 0 → Type 0
 Pairs S = List (Configuration S × Longest)
+
+-- the pairs of the memo that a table stands over, where there is one: what was known before it was made
+abbrev pub known_in : {O S A R : Type 0} → Option (Bor (Store O S A R)) → Pairs S
+known_in (Some memo) = memo.now.pairs
+known_in None = []
 
 -- 1 where the shard k is out, and 0 else
 abbrev pub out_at : {O S A R : Type 0} → ℕ → Option (ShardOut O S A R) → ℕ
@@ -68,9 +74,13 @@ module _ {O S A R : Type 0} where
     -- each configuration is in its home
     pub belongs : (k : ℕ) → k < n → All (λ (pair : Configuration S × Longest). home_of pair.0.lifted n ≡ k) (lists k)
 
+  -- no configuration of these shards was known before
+  abbrev pub AreFresh : (S → S → Bool) → Plan O S A R → (ℕ → Pairs S) → Type 0
+  AreFresh same plan lists = (k : ℕ) → k < plan.shards → All (λ (pair : Configuration S × Longest). Holds same (known_in plan.known) pair.0.lifted pair.0.state → ⊥) (lists k)
+
   -- the rule: there is a list for each shard of which it holds
-  abbrev pub KeepsRule : Plan O S A R → TableState (Store O S A R) (View O S A R) → Type 0
-  KeepsRule plan s = (lists : ℕ → Pairs S) × RuleHolds plan.problem.now plan.shards plan.hands s.words s.homes s.views lists
+  abbrev pub KeepsRule : (S → S → Bool) → Plan O S A R → TableState (Store O S A R) (View O S A R) → Type 0
+  KeepsRule same plan s = (lists : ℕ → Pairs S) × RuleHolds plan.problem.now plan.shards plan.hands s.words s.homes s.views lists × AreFresh same plan lists
 
   -- a view by its parts
   abbrev pub view : Option (ProblemParts O S A R) → ℕ → List (Entry O S A R) → Option (ShardOut O S A R) → View O S A R

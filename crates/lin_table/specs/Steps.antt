@@ -1,5 +1,5 @@
 -- What each step of a hand does to its view, and what it tells the hand (this project's own).
-use Rattle.std.specs.Prelude.{◌≡◌, ℕ, ◌+◌, ◌-◌, List, [], ◌∷◌, ◌++◌, length, map, drop, Option, Some, None}
+use Rattle.std.specs.Prelude.{◌≡◌, ℕ, ◌+◌, ◌-◌, Bool, List, [], ◌∷◌, ◌++◌, length, map, drop, Option, Some, None}
 use Rattle.atomic_table.specs.Table.{Me, Step, rest}
 use Rattle.lin_search.specs.declared.longest.Longest.{Longest}
 use Rattle.lin_search.specs.Configuration.{Configuration}
@@ -71,8 +71,8 @@ module _ {O S A R : Type 0} where
 abbrev pub HasOut : {O S A R : Type 0} → ℕ → Holder O S A R → Holder O S A R → Type 0
 HasOut {O} {S} {A} {R} shard before after = (y : Store O S A R) × (after.1 ≡ (shard, y) ∷ before.1) × (Some y.problem ≡ before.0.problem) × (after.0 ≡ with_out before.0 (record { shard = shard; pairs = y.pairs }))
 
--- the hand has this shard out, which has one pair more than when it was taken, of a configuration whose home it is
-pub record HasMore {O S A R : Type 0} (shard shards : ℕ) (me : Holder O S A R) : Type 0 where
+-- the hand has this shard out, which has one pair more than when it was taken, of a configuration whose home it is and that was not known before
+pub record HasMore {O S A R : Type 0} (known : List Bool → S → Type 0) (shard shards : ℕ) (me : Holder O S A R) : Type 0 where
   pub now : Store O S A R
   pub pairs : Pairs S
   pub pair : Configuration S × Longest
@@ -81,3 +81,4 @@ pub record HasMore {O S A R : Type 0} (shard shards : ℕ) (me : Holder O S A R)
   pub out : me.0.out ≡ Some (record { shard = shard; pairs = pairs })
   pub longer : now.pairs ≡ pairs ++ pair ∷ []
   pub home : home_of pair.0.lifted shards ≡ shard
+  pub fresh : known pair.0.lifted pair.0.state → ⊥

@@ -4,13 +4,14 @@ use crate::shard::Shard;
 use atomic_table::{Join, Play, Split, TableRule};
 use lin_history::Problem;
 use lin_object::SeqObject;
-use lin_search::{Config, Longest};
+use lin_search::{Config, Longest, OwnMemo};
 use std::collections::LinkedList;
 
-/// What a table is told once, when it is made: its problem, and how many shards and hands it has.
+/// What a table is told once, when it is made: its problem, what was known before, and how many shards and hands it has.
 #[derive(Drop)]
 pub struct Plan<'p, O: SeqObject> {
     pub problem: &'p Problem<O>,
+    pub known: Option<&'p OwnMemo<'p, O>>,
     pub shards: u64,
     pub hands: u64,
 }
@@ -43,7 +44,7 @@ pub struct ShardRule;
 impl<'p, O: SeqObject> TableRule<Shard<'p, O>, View<O>, Plan<'p, O>> for ShardRule {
     ghost use Rattle.lin_table.specs.Rule.{KeepsRule, opening_view};
 
-    ghost holds = { KeepsRule };
+    ghost holds = { KeepsRule O.State.eq };
 
     ghost first = { opening_view };
 }

@@ -4,7 +4,9 @@ ghost use Rattle.std.specs.Prelude.{◌≡◌, ◌≢◌, ℕ, ◌<◌, ◌∷�
 ghost use Rattle.lin_history.specs.Problems.Problem.{problem_of};
 ghost use Rattle.lin_history.specs.Problems.SameProblem.{SameProblem};
 ghost use Rattle.lin_search.specs.Refutation.{IsRefutedWith};
+ghost use Rattle.lin_search.specs.Store.{Holds};
 ghost use Rattle.lin_table.specs.Home.{home_of};
+ghost use Rattle.lin_table.specs.Rule.{known_in};
 ghost use Rattle.lin_table.specs.Steps.{HasOut, HasMore, with_out, with_none_out, with_entry, with_added};
 
 use crate::rule::{GiveBackStep, GiveMoreStep, Plan, ShardRule, TakeStep, View};
@@ -83,7 +85,8 @@ pub(crate) fn look_out<'p, O: SeqObject>(
     it.look_here(problem, config)
 }
 
-/// Gives back the shard that is out, which has one pair more than when it was taken, of a configuration whose home it is.
+/// Gives back the shard that is out, which has one pair more than when it was taken, of a configuration whose home it is
+/// and that was not known before.
 pub(crate) fn give_more<'p, O: SeqObject>(
     shards: &Shards<'p, O>,
     token: &mut Token<'p, O>,
@@ -91,14 +94,15 @@ pub(crate) fn give_more<'p, O: SeqObject>(
 )
     requires table { (token.old.table_id ≡ shards.now.table_id)
         × (shard < shards.now.table_id.words) × (0 < token.old.me.0.parts) }
-    requires out { HasMore shard shards.now.key.shards token.old.me }
+    requires out { HasMore (Holds O.State.eq (known_in shards.now.key.known)) shard
+        shards.now.key.shards token.old.me }
     ensures table { token.new.table_id ≡ token.old.table_id }
     ensures me { token.new.me ≡ (with_added shard token.old.me, []) }
 {
     shards.store::<GiveMoreStep>(token, shard, 0);
 }
 
-/// Adds a refutation to the shard that is out, and gives it back.
+/// Adds a refutation to the shard that is out, and gives it back. Its configuration was not known before.
 pub(crate) fn note_out<'p, O: SeqObject>(
     shards: &Shards<'p, O>,
     token: &mut Token<'p, O>,
@@ -113,6 +117,8 @@ pub(crate) fn note_out<'p, O: SeqObject>(
     requires here { (own : _) × (token.old.me.0.problem ≡ Some own)
         × SameProblem O.eq O.State.eq O.Op.eq O.Reply.eq own refutation.problem }
     requires home { home_of refutation.config.lifted shards.now.key.shards ≡ shard }
+    requires fresh { Holds O.State.eq (known_in shards.now.key.known) refutation.config.lifted
+        refutation.config.state → ⊥ }
     ensures table { token.new.table_id ≡ token.old.table_id }
     ensures empty { token.new.me.1 ≡ [] }
     ensures new { result ≡ Noted.New → (p : ℕ) × (token.new.me.0 ≡ with_entry token.old.me.0
@@ -158,7 +164,8 @@ pub(crate) fn look_in<'p, O: SeqObject>(
     found
 }
 
-/// Adds a refutation to this shard, which is its configuration's home. `Busy` where the shard was not got.
+/// Adds a refutation to this shard, which is its configuration's home. `Busy` where the shard was not got. The
+/// configuration was not known before.
 pub(crate) fn note_in<'p, O: SeqObject>(
     shards: &Shards<'p, O>,
     token: &mut Token<'p, O>,
@@ -172,6 +179,8 @@ pub(crate) fn note_in<'p, O: SeqObject>(
     requires here { (own : _) × (token.old.me.0.problem ≡ Some own)
         × SameProblem O.eq O.State.eq O.Op.eq O.Reply.eq own refutation.problem }
     requires home { home_of refutation.config.lifted shards.now.key.shards ≡ shard }
+    requires fresh { Holds O.State.eq (known_in shards.now.key.known) refutation.config.lifted
+        refutation.config.state → ⊥ }
     ensures table { token.new.table_id ≡ token.old.table_id }
     ensures empty { token.new.me.1 ≡ [] }
     ensures new { result ≡ Noted.New → (p : ℕ) × (token.new.me.0 ≡ with_entry token.old.me.0

@@ -1,13 +1,14 @@
 //! The table as its callers see it.
 
-ghost use Rattle.std.specs.Prelude.{◌≡◌, ◌≢◌, ◌↔◌, ℕ, ◌%◌, ◌^◌, ◌<◌, ◌≤◌, [], None, Some, All, length, vec_len, IfOk, IfErr, IsErr, IfSome, IsTrue};
+ghost use Rattle.std.specs.Prelude.{◌≡◌, ◌≢◌, ◌↔◌, ℕ, ◌+◌, ◌%◌, ◌^◌, ◌<◌, ◌≤◌, [], None, Some, All, length, vec_len, IfOk, IfErr, IsErr, IfSome, IsSome, IsTrue};
 ghost use Rattle.lin_history.specs.Problems.Problem.{problem_of};
 ghost use Rattle.lin_history.specs.Problems.SameProblem.{SameProblem};
 ghost use Rattle.lin_search.specs.Count.{IsNumberReachable};
 ghost use Rattle.lin_search.specs.Refutation.{IsRefutedWith};
+ghost use Rattle.lin_search.specs.Store.{Holds, IsStore};
 ghost use Rattle.lin_table.specs.Gather.{AreStored, entries_in};
-ghost use Rattle.lin_table.specs.Rule.{Pairs, view};
-ghost use Rattle.lin_table.specs.Hand.{IsHandOf, CameWith, HasStored, new_hand};
+ghost use Rattle.lin_table.specs.Rule.{Pairs, known_in, view};
+ghost use Rattle.lin_table.specs.Hand.{IsHandOf, IsKnownOf, CameWith, HasStored, new_hand};
 ghost use Rattle.lin_table.specs.Home.{home_of};
 
 use crate::end::{free_shards, stored_by};
@@ -19,7 +20,7 @@ use crate::steps::{Token, look_in, note_in};
 use atomic_table::{Badge, Table as AtomicTable};
 use lin_history::Problem;
 use lin_object::{SeqObject, lawful};
-use lin_search::{CallSet, Config, Longest, Noted, Refutation};
+use lin_search::{CallSet, Config, Longest, Noted, OwnMemo, Refutation};
 use std::alloc::{AllocError, Global};
 use std::marker::Model;
 use std::mem;
@@ -27,25 +28,32 @@ use std::mem;
 // The words and the shards, under their rule.
 type Inner<'p, O> = AtomicTable<Shard<'p, O>, View<O>, Plan<'p, O>, ShardRule, Global>;
 
+// A memo that has 2^52 configurations or more is not taken for what was known before.
+pub(crate) const MAX_KNOWN: u64 = 4_503_599_627_370_496;
+
 /// Refuted configurations of one problem, which several threads share. They are kept in shards, each of which one hand
-/// at a time takes out. Contracts see which table it is, its problem, and how many shards it has.
+/// at a time takes out. What was known before the table was made stands in a memo, which all only read. Contracts see
+/// which table it is, its problem, what was known, and how many shards it has.
 #[derive(Drop)]
 pub struct Table<'p, O: SeqObject> {
     inner: Inner<'p, O>,
     problem: &'p Problem<O>,
+    known: Option<&'p OwnMemo<'p, O>>,
     shards: u64,
     hands: u64,
 }
 
 impl<'p, O: SeqObject> Model for Table<'p, O> {
     ghost use Rattle.std.specs.Prelude.{◌≡◌, ◌<◌, ◌≤◌};
-    ghost use Rattle.lin_table.specs.Hand.{TableFacts};
+    ghost use Rattle.lin_table.specs.Hand.{TableFacts, IsKnownOf};
+    ghost use Rattle.lin_table.specs.Rule.{known_in};
 
     ghost Value = { TableFacts O O.State O.Op O.Reply };
 
     ghost view = { λ t. record {
       id = t.inner.shared.table_id;
       problem = t.problem.now;
+      known = known_in t.known;
       shards = t.shards;
       hands = t.hands;
     } };
@@ -53,7 +61,8 @@ impl<'p, O: SeqObject> Model for Table<'p, O> {
     ghost invariant = { λ t. (t.inner.shared.table_id.words ≡ t.shards)
         × (t.inner.shared.key.shards ≡ t.shards) × (t.inner.shared.key.hands ≡ t.hands)
         × (t.inner.shared.key.problem.now ≡ t.problem.now) × (0 < t.shards) × (t.hands ≤ 65)
-        × (0 < t.hands) };
+        × (0 < t.hands) × (known_in t.inner.shared.key.known ≡ known_in t.known)
+        × IsKnownOf O.after O.State.eq O.Reply.eq t.problem.now t.known };
 }
 
 /// Fewer hands came back than the table has. Table and hands are as they were.
@@ -69,18 +78,21 @@ pub struct HandsMissing<'p, O: SeqObject> {
 fn open_shards<'p, O: SeqObject>(
     alloc: Global,
     problem: &'p Problem<O>,
+    known: Option<&'p OwnMemo<'p, O>>,
     shards: usize,
     hands: usize,
 ) -> Result<(Inner<'p, O>, Token<'p, O>), AllocError>
     ensures words { IfOk result (λ made. made.0.shared.table_id.words ≡ shards) }
     ensures plan { IfOk result (λ made. (made.0.shared.key.problem.now ≡ problem.now)
-        × (made.0.shared.key.shards ≡ shards) × (made.0.shared.key.hands ≡ hands)) }
+        × (made.0.shared.key.shards ≡ shards) × (made.0.shared.key.hands ≡ hands)
+        × (made.0.shared.key.known ≡ known.entry)) }
     ensures table { IfOk result (λ made. made.1.table_id ≡ made.0.shared.table_id) }
     ensures view { IfOk result (λ made. made.1.me
         ≡ (view (Some problem.now) hands [] None, [])) }
 {
     let plan = Plan {
         problem,
+        known,
         shards: shards as u64,
         hands: hands as u64,
     };
@@ -100,7 +112,8 @@ fn close_shards<'p, O: SeqObject>(inner: Inner<'p, O>, mut hands: Vec<Hand<O>>)
     ensures few { vec_len hands ≤ inner.entry.shared.key.hands }
     ensures stored { (lists : ℕ → Pairs O.State) × AreStored
         (problem_of O.after O.State.eq O.Reply.eq inner.entry.shared.key.problem.now)
-        inner.entry.shared.key.shards lists (entries_in hands.items) }
+        (known_in inner.entry.shared.key.known) inner.entry.shared.key.shards lists
+        (entries_in hands.items) }
 {
     let Some(last) = hands.pop() else {
         unreachable!()
@@ -110,6 +123,36 @@ fn close_shards<'p, O: SeqObject>(inner: Inner<'p, O>, mut hands: Vec<Hand<O>>)
 }
 
 impl<'p, O: SeqObject> Table<'p, O> {
+    // A table of the problem over this memo, where there is one, and its hands.
+    fn opened(
+        alloc: Global,
+        problem: &'p Problem<O>,
+        known: Option<&'p OwnMemo<'p, O>>,
+        shards: usize,
+        hands: usize,
+    ) -> Result<(Table<'p, O>, Vec<Hand<O>>), AllocError>
+        requires shards { (1 ≤ shards) × (shards ≤ 256) }
+        requires hands { (1 ≤ hands) × (hands ≤ 65) }
+        requires known { IsKnownOf O.after O.State.eq O.Reply.eq problem.now known }
+        ensures table { IfOk result (λ made. (made.0.problem ≡ problem.now)
+            × (made.0.shards ≡ shards) × (made.0.hands ≡ hands)) }
+        ensures known { IfOk result (λ made. made.0.known ≡ known_in known.entry) }
+        ensures count { IfOk result (λ made. vec_len made.1 ≡ hands) }
+        ensures hands { IfOk result (λ made. All (λ hand. hand ≡ new_hand made.0) made.1.items) }
+    {
+        let dealt = Vec::with_capacity(alloc, hands)?;
+        let (inner, first) = open_shards(alloc, problem, known, shards, hands)?;
+        let dealt = deal(&inner.shared, first, dealt, hands);
+        let table = Table {
+            inner,
+            problem,
+            known,
+            shards: shards as u64,
+            hands: hands as u64,
+        };
+        Ok((table, dealt))
+    }
+
     /// A table of the problem with so many empty shards, and its hands, none of which has stored anything. There are
     /// 1 to 256 shards and 1 to 65 hands. `AllocError` where memory was refused.
     pub fn new(
@@ -122,19 +165,37 @@ impl<'p, O: SeqObject> Table<'p, O> {
         requires hands { (1 ≤ hands) × (hands ≤ 65) }
         ensures table { IfOk result (λ made. (made.0.problem ≡ problem.now)
             × (made.0.shards ≡ shards) × (made.0.hands ≡ hands)) }
+        ensures known { IfOk result (λ made. made.0.known ≡ []) }
         ensures count { IfOk result (λ made. vec_len made.1 ≡ hands) }
         ensures hands { IfOk result (λ made. All (λ hand. hand ≡ new_hand made.0) made.1.items) }
     {
-        let dealt = Vec::with_capacity(alloc, hands)?;
-        let (inner, first) = open_shards(alloc, problem, shards, hands)?;
-        let dealt = deal(&inner.shared, first, dealt, hands);
-        let table = Table {
-            inner,
-            problem,
-            shards: shards as u64,
-            hands: hands as u64,
-        };
-        Ok((table, dealt))
+        Table::opened(alloc, problem, None, shards, hands)
+    }
+
+    /// The same over a memo, which names the problem: what the memo has is known to every hand from the start, and is
+    /// read without taking a shard out. No shard keeps it once more. A memo with 2^52 configurations or more is left
+    /// out.
+    pub fn over(
+        alloc: Global,
+        known: &'p OwnMemo<'p, O>,
+        shards: usize,
+        hands: usize,
+    ) -> Result<(Table<'p, O>, Vec<Hand<O>>), AllocError>
+        requires shards { (1 ≤ shards) × (shards ≤ 256) }
+        requires hands { (1 ≤ hands) × (hands ≤ 65) }
+        ensures table { IfOk result (λ made. (made.0.problem ≡ known.now.problem)
+            × (made.0.shards ≡ shards) × (made.0.hands ≡ hands)) }
+        ensures known { IfOk result (λ made. length known.now.pairs < MAX_KNOWN
+            → made.0.known ≡ known.now.pairs) }
+        ensures count { IfOk result (λ made. vec_len made.1 ≡ hands) }
+        ensures hands { IfOk result (λ made. All (λ hand. hand ≡ new_hand made.0) made.1.items) }
+    {
+        let problem = known.problem();
+        if known.count() < MAX_KNOWN {
+            Table::opened(alloc, problem, Some(known), shards, hands)
+        } else {
+            Table::opened(alloc, problem, None, shards, hands)
+        }
     }
 
     /// The problem. It takes no memory.
@@ -151,17 +212,32 @@ impl<'p, O: SeqObject> Table<'p, O> {
         (came as u64) < self.hands
     }
 
-    /// Takes all hands back and tells how many configurations they stored: that is below 2^54, and at most the number
-    /// of the problem's reachable configurations. Each hand came with this table. `HandsMissing` where fewer hands
+    // How many configurations were known before the table was made.
+    fn known_count(&self) -> u64
+        ensures count { result ≡ length self.now.known }
+        ensures few { result < MAX_KNOWN }
+        ensures store { IsStore (problem_of O.after O.State.eq O.Reply.eq self.now.problem)
+            self.now.known }
+    {
+        match self.known {
+            Some(memo) => memo.count(),
+            None => 0,
+        }
+    }
+
+    /// Takes all hands back and tells how many configurations are stored: those that were known before, and those that
+    /// the hands stored. That is below 2^54, and at most the number of the problem's reachable configurations. Each hand
+    /// came with this table. `HandsMissing` where fewer hands
     /// are there than were made: it gives table and hands back as they were. It takes no memory.
     pub fn total(self, hands: Vec<Hand<O>>) -> Result<u64, HandsMissing<'p, O>>
         requires { All (IsHandOf self) hands.items }
         ensures missing { IsErr result ↔ (vec_len hands < self.entry.hands) }
         ensures unchanged { IfErr result (λ e. (e.table ≡ self.entry) × (e.hands ≡ hands)) }
-        ensures count { IfOk result (λ n. n ≡ length (entries_in hands.items)) }
+        ensures count { IfOk result (λ n. n ≡ length self.entry.known
+            + length (entries_in hands.items)) }
         ensures stored { IfOk result (λ _. (lists : ℕ → Pairs O.State) × AreStored
-            (problem_of O.after O.State.eq O.Reply.eq self.entry.problem) self.entry.shards lists
-            (entries_in hands.items)) }
+            (problem_of O.after O.State.eq O.Reply.eq self.entry.problem) self.entry.known
+            self.entry.shards lists (entries_in hands.items)) }
         ensures bound { IfOk result (λ n. n < 2 ^ 54) }
         ensures at_most { IfOk result (λ n. (m : ℕ) → IsNumberReachable
             (problem_of O.after O.State.eq O.Reply.eq self.entry.problem) m → n ≤ m) }
@@ -170,15 +246,17 @@ impl<'p, O: SeqObject> Table<'p, O> {
         if self.misses_hands(hands.len()) {
             return Err(HandsMissing { table: self, hands });
         }
+        let known = self.known_count();
         let stored = stored_by(hands.as_slice());
         let Table {
             inner,
             problem: _,
+            known: _,
             shards: _,
             hands: _,
         } = self;
         close_shards(inner, hands);
-        Ok(stored)
+        Ok(known + stored)
     }
 
     // Whether the table's problem is the same as this one.
@@ -197,10 +275,24 @@ impl<'p, O: SeqObject> Table<'p, O> {
         (config.sum() % self.shards) as usize
     }
 
-    /// `look` for a problem that is the `same` as the table's: nothing is compared.
-    ///
-    /// Conditions: the hand came with this table, and the problem is the same.
-    pub fn look_here(
+    // What was known of the configuration before the table was made.
+    fn known_of(&self, problem: &Problem<O>, config: &Config<O>) -> Option<Longest>
+        requires { SameProblem O.eq O.State.eq O.Op.eq O.Reply.eq self.now.problem problem.now }
+        ensures refuted { IfSome result (λ longest. IsRefutedWith
+            (problem_of O.after O.State.eq O.Reply.eq problem.now) config.now.lifted
+            config.now.state longest) }
+        ensures exact { IsSome result ↔ Holds O.State.eq self.now.known config.now.lifted
+            config.now.state }
+    {
+        lawful::<O>();
+        match self.known {
+            Some(memo) => memo.find(config),
+            None => None,
+        }
+    }
+
+    // What the configuration's home tells of it, for a problem that is the same as the table's.
+    fn look_home(
         &self,
         hand: &mut Hand<O>,
         problem: &Problem<O>,
@@ -221,9 +313,34 @@ impl<'p, O: SeqObject> Table<'p, O> {
         found
     }
 
-    /// What the longest continuations of the configuration tell, where its shard has it and the table's problem is the
-    /// `same` as this one: then the configuration is refuted in the asker's problem. A shard that is not got within 64
-    /// tries has nothing. It takes no memory.
+    /// `look` for a problem that is the `same` as the table's: nothing is compared.
+    ///
+    /// Conditions: the hand came with this table, and the problem is the same.
+    pub fn look_here(
+        &self,
+        hand: &mut Hand<O>,
+        problem: &Problem<O>,
+        config: &Config<O>,
+    ) -> Option<Longest>
+        requires hand { IsHandOf self.now hand.old }
+        requires here { SameProblem O.eq O.State.eq O.Op.eq O.Reply.eq self.now.problem
+            problem.now }
+        ensures refuted { IfSome result (λ longest. IsRefutedWith
+            (problem_of O.after O.State.eq O.Reply.eq problem.now) config.now.lifted
+            config.now.state longest) }
+        ensures known { Holds O.State.eq self.now.known config.now.lifted config.now.state
+            → IsSome result }
+        ensures hand { hand.new ≡ hand.old }
+    {
+        match self.known_of(problem, config) {
+            Some(longest) => Some(longest),
+            None => self.look_home(hand, problem, config),
+        }
+    }
+
+    /// What the longest continuations of the configuration tell, where it was known before or its shard has it, and the
+    /// table's problem is the `same` as this one: then the configuration is refuted in the asker's problem. A shard that
+    /// is not got within 64 tries has nothing. It takes no memory.
     ///
     /// Condition: the hand came with this table.
     pub fn look(
@@ -236,6 +353,8 @@ impl<'p, O: SeqObject> Table<'p, O> {
         ensures refuted { IfSome result (λ longest. IsRefutedWith
             (problem_of O.after O.State.eq O.Reply.eq problem.now) config.now.lifted
             config.now.state longest) }
+        ensures known { SameProblem O.eq O.State.eq O.Op.eq O.Reply.eq self.now.problem problem.now
+            → Holds O.State.eq self.now.known config.now.lifted config.now.state → IsSome result }
         ensures hand { hand.new ≡ hand.old }
     {
         if self.is_for(problem) {
@@ -245,12 +364,14 @@ impl<'p, O: SeqObject> Table<'p, O> {
         }
     }
 
-    // Stores a refutation in its home, with a hand that has not stored too much.
+    // Stores a refutation in its home, with a hand that has not stored too much. Its configuration was not known before.
     fn store(&self, hand: &mut Hand<O>, refutation: Refutation<'_, O>) -> Noted
         requires hand { IsHandOf self.now hand.old }
         requires room { length hand.old.entries < MAX_STORED }
         requires here { SameProblem O.eq O.State.eq O.Op.eq O.Reply.eq self.now.problem
             refutation.problem }
+        requires fresh { Holds O.State.eq self.now.known refutation.config.lifted
+            refutation.config.state → ⊥ }
         ensures new { result ≡ Noted.New → HasStored hand.old
             (home_of refutation.entry.config.lifted self.now.shards) refutation.entry.config
             hand.new }
@@ -268,6 +389,17 @@ impl<'p, O: SeqObject> Table<'p, O> {
         noted
     }
 
+    // Whether the refutation's configuration was known before the table was made.
+    fn is_known(&self, refutation: &Refutation<'_, O>) -> bool
+        requires { SameProblem O.eq O.State.eq O.Op.eq O.Reply.eq self.now.problem
+            refutation.now.problem }
+        ensures { IsTrue result ↔ Holds O.State.eq self.now.known refutation.now.config.lifted
+            refutation.now.config.state }
+    {
+        self.known_of(refutation.problem(), refutation.config())
+            .is_some()
+    }
+
     // `note` for a problem that is the same as the table's: nothing is compared.
     fn keep(&self, hand: &mut Hand<O>, refutation: Refutation<'_, O>) -> Noted
         requires hand { IsHandOf self.now hand.old }
@@ -278,12 +410,17 @@ impl<'p, O: SeqObject> Table<'p, O> {
             hand.new }
         ensures same { result ≢ Noted.New → hand.new ≡ hand.old }
         ensures came { IsHandOf self.now hand.new }
+        ensures known { Holds O.State.eq self.now.known refutation.entry.config.lifted
+            refutation.entry.config.state → result ≡ Noted.Known }
         ensures own { result ≢ Noted.Stranger }
     {
+        if self.is_known(&refutation) {
+            return Noted::Known;
+        }
         if hand.has_room() {
             return self.store(hand, refutation);
         }
-        match self.look_here(hand, refutation.problem(), refutation.config()) {
+        match self.look_home(hand, refutation.problem(), refutation.config()) {
             Some(_) => Noted::Known,
             None => Noted::NoRoom,
         }
@@ -309,6 +446,7 @@ impl<'p, O: SeqObject> Table<'p, O> {
             (record { lifted = lifted; state = state }) hand.new }
         ensures same { result ≢ Noted.New → hand.new ≡ hand.old }
         ensures came { IsHandOf self.now hand.new }
+        ensures known { Holds O.State.eq self.now.known lifted state → result ≡ Noted.Known }
         ensures own { result ≢ Noted.Stranger }
     {
         let config = Config::from_parts(lifted, state);
@@ -316,7 +454,7 @@ impl<'p, O: SeqObject> Table<'p, O> {
     }
 
     /// Hands a refutation to the table, which keeps it in its home. `Stranger` exactly where the table's problem is
-    /// not the `same` as the refutation's; `Known` where it was there; `Busy` where its shard was not got within 64
+    /// not the `same` as the refutation's; `Known` where it was there or known before; `Busy` where its shard was not got within 64
     /// tries; `NoRoom` where memory was refused, or the hand has stored 2^47 configurations; else `New`, which alone
     /// changes anything: the hand has an entry more.
     ///
@@ -328,6 +466,9 @@ impl<'p, O: SeqObject> Table<'p, O> {
             hand.new }
         ensures same { result ≢ Noted.New → hand.new ≡ hand.old }
         ensures came { IsHandOf self.now hand.new }
+        ensures known { SameProblem O.eq O.State.eq O.Op.eq O.Reply.eq self.now.problem
+            refutation.entry.problem → Holds O.State.eq self.now.known
+            refutation.entry.config.lifted refutation.entry.config.state → result ≡ Noted.Known }
         ensures stranger { (result ≡ Noted.Stranger)
             ↔ (SameProblem O.eq O.State.eq O.Op.eq O.Reply.eq self.now.problem
             refutation.entry.problem → ⊥) }

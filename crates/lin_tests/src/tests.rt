@@ -8,7 +8,6 @@ mod cuts;
 mod devices;
 mod fakes;
 mod first_searches;
-mod handing_on;
 mod histories;
 mod objects;
 mod program;

@@ -194,19 +194,10 @@ fn decide_over<O: SharedObject, R: Threads + Sync, G: Gate>(
     decide_with_workers(rt, alloc, problem, table, &mut memo, hands, gate, limit)
 }
 
-// Hands what the memo has on to the table, by this hand.
-fn hand_on<O: SeqObject>(memo: OwnMemo<'_, O>, table: &Table<'_, O>, own: &mut Hand<O>)
-    requires { IsHandOf table.now own.old }
-    ensures { IsHandOf table.now own.new }
-{
-    memo.hand_on(&mut SharedMemo::new(table, own));
-}
-
-// The verdict over the table with these hands, and the hands. What the memo has is in the table before workers start.
+// The verdict over the table with these hands, and the hands.
 fn decide_by_all<O: SharedObject, R: Threads + Sync, G: Gate>(
     rt: &R,
     alloc: Global,
-    memo: OwnMemo<'_, O>,
     table: &Table<'_, O>,
     mut hands: Vec<Hand<O>>,
     gate: &G,
@@ -215,38 +206,37 @@ fn decide_by_all<O: SharedObject, R: Threads + Sync, G: Gate>(
     requires count { (2 ≤ vec_len hands) × (vec_len hands ≤ 65) }
     requires hands { All (IsHandOf table.now) hands.items }
     ensures verdict { IfOk result.0 (IsObjectVerdict
-        (problem_of O.after O.State.eq O.Reply.eq memo.entry.problem) limit) }
+        (problem_of O.after O.State.eq O.Reply.eq table.now.problem) limit) }
     ensures hands { All (IsHandOf table.now) result.1.items }
     ensures count { vec_len result.1 ≡ vec_len hands }
 {
     let Some(mut own) = hands.pop() else {
         unreachable!()
     };
-    let problem = memo.problem();
-    hand_on(memo, table, &mut own);
+    let problem = table.problem();
     let verdict = decide_over(rt, alloc, problem, table, &mut own, &mut hands, gate, limit);
     hands.push_reserved(own);
     (verdict, hands)
 }
 
-// The verdict, and how many configurations were stored, over a table that has at first what the memo has.
+// The verdict, and how many configurations were stored, over a table whose hands all know what the memo has.
 fn check_over_table<O: SharedObject, R: Threads + Sync, G: Gate>(
     rt: &R,
     alloc: Global,
-    memo: OwnMemo<'_, O>,
+    memo: &OwnMemo<'_, O>,
     options: &Options,
     gate: &G,
 ) -> Result<(ObjectVerdict, u64), AllocError>
     ensures verdict { IfOk result (λ r. IsObjectVerdict
-        (problem_of O.after O.State.eq O.Reply.eq memo.entry.problem) options.now.limit r.0) }
+        (problem_of O.after O.State.eq O.Reply.eq memo.now.problem) options.now.limit r.0) }
     ensures bound { IfOk result (λ r. r.1 < 2 ^ 54) }
     ensures at_most { IfOk result (λ r. (n : ℕ) → IsNumberReachable
-        (problem_of O.after O.State.eq O.Reply.eq memo.entry.problem) n → r.1 ≤ n) }
+        (problem_of O.after O.State.eq O.Reply.eq memo.now.problem) n → r.1 ≤ n) }
 {
     let shards = options.shards() as usize;
     let workers = options.workers() as usize;
-    let (table, hands) = Table::new(alloc, memo.problem(), shards, workers + 1)?;
-    let (verdict, hands) = decide_by_all(rt, alloc, memo, &table, hands, gate, options.limit());
+    let (table, hands) = Table::over(alloc, memo, shards, workers + 1)?;
+    let (verdict, hands) = decide_by_all(rt, alloc, &table, hands, gate, options.limit());
     let Ok(stored) = table.total(hands) else {
         unreachable!()
     };
@@ -254,7 +244,7 @@ fn check_over_table<O: SharedObject, R: Threads + Sync, G: Gate>(
 }
 
 // The verdict, and how many configurations were stored: by the calling thread alone where it has it within its own lifts
-// and the gate wants no workers at once, or else over a table, which has at first what the calling thread refuted.
+// and the gate wants no workers at once, or else over a table, to which what the calling thread refuted is lent.
 fn check_by_any<O: SharedObject, R: Threads + Sync, G: Gate>(
     rt: &R,
     alloc: Global,
@@ -271,7 +261,7 @@ fn check_by_any<O: SharedObject, R: Threads + Sync, G: Gate>(
     let mut memo = OwnMemo::new(alloc, problem);
     match check_alone(alloc, problem, &mut memo, options, gate)? {
         Some(checked) => Ok(checked),
-        None => check_over_table(rt, alloc, memo, options, gate),
+        None => check_over_table(rt, alloc, &memo, options, gate),
     }
 }
 
@@ -280,8 +270,7 @@ fn check_by_any<O: SharedObject, R: Threads + Sync, G: Gate>(
 ///
 /// The calling thread begins alone, over a memo of its own: for 1,000,000 lifts at most, or without such a bound where there is
 /// one worker. What it has not decided then is cut into tasks, which as many workers share as the options say, but not more
-/// than there are tasks; they begin with what the calling thread refuted, which it hands on to their table as far as there is
-/// memory. A gate that wants workers has them at once. The tasks are then taken in their order, and the calling thread
+/// than there are tasks; what the calling thread refuted is lent to all of them, who read it without taking a shard out. A gate that wants workers has them at once. The tasks are then taken in their order, and the calling thread
 /// searches each that has no outcome. The verdict is the same for every number of workers and shards and on every schedule;
 /// with a limit, which bounds the search of each task, it may be `Undecided`, and that only where there are more runs than the
 /// limit.

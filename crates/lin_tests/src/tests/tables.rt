@@ -9,7 +9,7 @@ use super::searches::{
     posed_by, refuted_root,
 };
 use lin_object::{AnyObject, Kind};
-use lin_search::{Config, Longest, Memo, NoStop, Noted, Outcome, search};
+use lin_search::{Config, Longest, Memo, NoStop, Noted, Outcome, OwnMemo, search, search_over};
 use lin_table::{Hand, HandsMissing, Shard, SharedMemo, Table};
 use std::alloc::{AllocError, Global};
 use std::thread;
@@ -283,6 +283,33 @@ fn two_hands_share(alloc: Global, problem: &Part) -> Result<bool, AllocError> {
 fn two_hands_share_what_one_stores(rt: HostRuntime) {
     let problem = posed_by(rt.alloc(), Kind::Register, &READ_OF_NO_WRITTEN_VALUE);
     assert!(rt; matches!(two_hands_share(rt.alloc(), &problem), Ok(true)));
+}
+
+// Whether a hand of a table over the memo knows what the memo has, and the table has no more than that.
+fn knows_all_of(
+    alloc: Global,
+    memo: &OwnMemo<'_, AnyObject>,
+    count: u64,
+) -> Result<bool, AllocError> {
+    let (table, mut hands) = Table::over(alloc, memo, 16, 1)?;
+    let Some(mut hand) = hands.pop() else {
+        return Ok(false);
+    };
+    let known = knows(alloc, &table, &mut hand, memo.problem())?;
+    Ok(totals(alloc, table, hand, count)? && known)
+}
+
+// Whether it does so where the memo has all 13 configurations of the problem.
+fn a_table_knows(alloc: Global, problem: &Part) -> Result<bool, AllocError> {
+    let mut memo = OwnMemo::new(alloc, problem);
+    let (_outcome, stored) = search_over(alloc, &mut memo)?;
+    Ok(stored == 13 && knows_all_of(alloc, &memo, stored)?)
+}
+
+#[test]
+fn a_table_knows_what_the_memo_below_it_has(rt: HostRuntime) {
+    let problem = posed_by(rt.alloc(), Kind::Register, &READ_OF_NO_WRITTEN_VALUE);
+    assert!(rt; matches!(a_table_knows(rt.alloc(), &problem), Ok(true)));
 }
 
 // What a thread brings back: whether its search refuted the problem, what it was told to be new, and its hand.

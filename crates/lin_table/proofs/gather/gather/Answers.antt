@@ -9,7 +9,7 @@ pub join_seat-requires : goal.join_seat-requires
 join_seat-requires g c =
     let i = c.loop-hand.invariant in
     let mine = All-pop (CameWith c.args.first.table_id) _ _ (Some c.in-Some.hand) c.in-Some.ensures.items i.each in
-    (i.same ∙ c.requires.first.0, c.into_token.ensures.table ∙ mine.1 ∙ c.requires.first.0, c.into_token.ensures.empty, c.requires.words, join_allowed c.args.shards.now.key _ _ _ _ i.part i.gathered.free c.into_token.ensures.view.free)
+    (i.same ∙ c.requires.first.0, c.into_token.ensures.table ∙ mine.1 ∙ c.requires.first.0, c.into_token.ensures.empty, c.requires.words, join_allowed g.O.State.PartialEq.eq c.args.shards.now.key _ _ _ _ i.part i.gathered.free c.into_token.ensures.view.free)
 
 pub loop-hand-preserved : goal.loop-hand-preserved
 loop-hand-preserved g c =

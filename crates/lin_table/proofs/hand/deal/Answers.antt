@@ -23,7 +23,7 @@ split_seat-token-requires g c =
     let i = c.loop.invariant in
     let parts = ap (λ m. m.0.parts) i.me in
     let more = c.loop-test.true in
-    (i.same ∙ c.requires.first.0, c.requires.words, split_allowed c.args.shards.now.key _ _ (omega arith))
+    (i.same ∙ c.requires.first.0, c.requires.words, split_allowed g.O.State.PartialEq.eq c.args.shards.now.key _ _ (omega arith))
 
 pub loop-preserved : goal.loop-preserved
 loop-preserved g c =

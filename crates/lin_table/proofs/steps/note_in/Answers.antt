@@ -12,6 +12,9 @@ note_out-requires-clause-here g c =
     let here = c.requires.here in
     (here.0, ap (λ v. v.problem) t.3 ∙ here.1, here.2)
 
+pub note_out-requires-clause-fresh : goal.note_out-requires-clause-fresh
+note_out-requires-clause-fresh g c = c.requires.fresh
+
 pub note_out-requires-clause-home : goal.note_out-requires-clause-home
 note_out-requires-clause-home g c = c.requires.home
 

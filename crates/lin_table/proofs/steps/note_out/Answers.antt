@@ -1,6 +1,8 @@
 use Rattle.std.proofs.Common.{◌∷◌, ◌++◌, [], length, sym, ap, ◌∙◌, rules, Some}
 use Rattle.atomic_table.specs.Table.{rest}
 use Rattle.lin_table.proofs.StepLemmas.{pair_of, has_more, adds_pair, some_same, value_at}
+use Rattle.lin_search.specs.Store.{Holds}
+use Rattle.lin_table.specs.Rule.{known_in}
 use Rattle.lin_table.proofs.steps.note_out.Goals as goal
 
 pub slot_mut-it-requires : goal.slot_mut-it-requires
@@ -18,7 +20,7 @@ give_more-requires-clause-out g c =
     let is = ap (value_at o.0) (sym c.slot_mut-it.ensures.value ∙ o.1) in
     let pair = pair_of c.args.refutation.config c.args.refutation.longest in
     let new = c.add_here-noted.ensures.new (search rules) in
-    has_more c.args.shard c.args.shards.now.key.shards c.args.token.now.me o.0 c.add_here-noted.new.self pair o.1 o.2 o.3 (c.add_here-noted.ensures.problem ∙ ap (λ y. y.problem) is) (new ∙ ap (λ y. y.pairs ++ pair ∷ []) is) c.requires.home
+    has_more (Holds g.O.State.PartialEq.eq (known_in c.args.shards.now.key.known)) c.args.shard c.args.shards.now.key.shards c.args.token.now.me o.0 c.add_here-noted.new.self pair o.1 o.2 o.3 (c.add_here-noted.ensures.problem ∙ ap (λ y. y.problem) is) (new ∙ ap (λ y. y.pairs ++ pair ∷ []) is) c.requires.home c.requires.fresh
 
 pub give_back-requires-clause-out : goal.give_back-requires-clause-out
 give_back-requires-clause-out g c =
@@ -37,5 +39,5 @@ returns-then-eq-clause-new g c =
     let is = ap (value_at o.0) (sym c.slot_mut-it.ensures.value ∙ o.1) in
     let pair = pair_of c.args.refutation.config c.args.refutation.longest in
     let new = c.add_here-noted.ensures.new (search rules) in
-    let adds = adds_pair c.args.shard c.args.shards.now.key.shards c.args.token.now.me o.0 c.add_here-noted.new.self pair o.1 o.2 o.3 (c.add_here-noted.ensures.problem ∙ ap (λ y. y.problem) is) (new ∙ ap (λ y. y.pairs ++ pair ∷ []) is) c.requires.home in
+    let adds = adds_pair (Holds g.O.State.PartialEq.eq (known_in c.args.shards.now.key.known)) c.args.shard c.args.shards.now.key.shards c.args.token.now.me o.0 c.add_here-noted.new.self pair o.1 o.2 o.3 (c.add_here-noted.ensures.problem ∙ ap (λ y. y.problem) is) (new ∙ ap (λ y. y.pairs ++ pair ∷ []) is) c.requires.home c.requires.fresh in
     λ _. (length o.0.pairs, ap (λ m. m.0) c.give_more.ensures.me ∙ adds)

@@ -7,7 +7,7 @@ pub compare_exchange-found-requires : goal.compare_exchange-found-requires
 compare_exchange-found-requires g c =
     let i = c.loop.invariant in
     let p = ap (λ m. m.0.parts) i.me in let q = c.requires.free.0 in
-    (i.same ∙ c.requires.table.0, c.requires.table.1, takes_out c.args.shards.now.key _ _ _ c.args.shard c.requires.table.2 (omega arith) (ap (λ m. m.0.out) i.me ∙ c.requires.free.1))
+    (i.same ∙ c.requires.table.0, c.requires.table.1, takes_out g.O.State.PartialEq.eq c.args.shards.now.key _ _ _ c.args.shard c.requires.table.2 (omega arith) (ap (λ m. m.0.out) i.me ∙ c.requires.free.1))
 
 pub returns-then-found-eq0-clause-yes : goal.returns-then-found-eq0-clause-yes
 returns-then-found-eq0-clause-yes g c =

@@ -1,4 +1,4 @@
-use Rattle.std.proofs.Common.{rules, ◌≡◌, ◌∙◌, ap, sym, subst}
+use Rattle.std.proofs.Common.{rules, ◌≡◌, ap, sym, subst}
 use Rattle.std.proofs.lemmas.List.Elements.{All-weaker}
 use Rattle.lin_table.specs.Hand.{HandFacts, IsHandOf, new_hand}
 use Rattle.lin_history.specs.Problems.Problem.{problem_of}
@@ -7,7 +7,7 @@ use Rattle.lin_workers.proofs.check.check_over_table.Goals as goal
 
 pub returns-clause-at_most : goal.returns-clause-at_most
 returns-clause-at_most g c =
-    λ n h. c.in-Ok.ensures.at_most n (subst (λ q. IsNumberReachable (problem_of g.O.SeqObject.after g.O.State.PartialEq.eq g.O.Reply.PartialEq.eq q) n) (sym (c.in_ok-table.ensures.table.0 ∙ c.problem.ensures)) h)
+    λ n h. c.in-Ok.ensures.at_most n (subst (λ q. IsNumberReachable (problem_of g.O.SeqObject.after g.O.State.PartialEq.eq g.O.Reply.PartialEq.eq q) n) (sym c.in_ok-table.ensures.table.0) h)
 
 pub decide_by_all-verdict-requires-clause-hands : goal.decide_by_all-verdict-requires-clause-hands
 decide_by_all-verdict-requires-clause-hands g c κs within =

@@ -1,5 +1,5 @@
+use Rattle.lin_search.specs.AlikeLemmas.{told_alike}
 use Rattle.lin_search.specs.SameLemmas.{alike_of_same}
-use Rattle.lin_search.proofs.LookupLemmas.{told_alike}
 use Rattle.lin_search.proofs.own_memo.OwnMemo.look.Goals as goal
 
 pub returns-then-same-clause-refuted : goal.returns-then-same-clause-refuted

@@ -1,5 +1,5 @@
+use Rattle.lin_search.specs.AlikeLemmas.{told_alike}
 use Rattle.lin_search.specs.SameLemmas.{alike_of_same}
-use Rattle.lin_search.proofs.LookupLemmas.{told_alike}
 use Rattle.lin_search.proofs.own_memo.OwnMemoMemo.look_here.Goals as goal
 
 pub returns-clause-refuted : goal.returns-clause-refuted

@@ -31,7 +31,7 @@ returns-clause-count g c =
 pub returns-clause-stored : goal.returns-clause-stored
 returns-clause-stored g c =
     let told = c.close_shards.ensures.stored in
-    (told.0, stored_as (problem_of g.O.SeqObject.after g.O.State.PartialEq.eq g.O.Reply.PartialEq.eq) _ _ _ _ told.0 _ (c.self.invariant.3 ∙ ap (λ t. t.problem) c.self.view_is) (c.self.invariant.1 ∙ ap (λ t. t.shards) c.self.view_is) told.1)
+    (told.0, stored_as (problem_of g.O.SeqObject.after g.O.State.PartialEq.eq g.O.Reply.PartialEq.eq) _ _ _ _ _ _ told.0 _ (c.self.invariant.3 ∙ ap (λ t. t.problem) c.self.view_is) (c.self.invariant.7 ∙ ap (λ t. t.known) c.self.view_is) (c.self.invariant.1 ∙ ap (λ t. t.shards) c.self.view_is) told.1)
 
 pub returns-clause-bound : goal.returns-clause-bound
 returns-clause-bound g c =
@@ -45,6 +45,6 @@ returns-clause-at_most g c =
     let told = returns-clause-stored g c in
     let count = returns-clause-count g c in
     let p = problem_of g.O.SeqObject.after g.O.State.PartialEq.eq g.O.Reply.PartialEq.eq c.args.self.problem in
-    let reached = has_all p c.lawful.ensures.states c.args.self.shards told.0 (entries_in c.args.hands.items) told.1 in
+    let reached = has_all p c.lawful.ensures.states c.args.self.known c.known_count-known.ensures.store c.args.self.shards told.0 (entries_in c.args.hands.items) told.1 in
     let most = number_at_most p c.lawful.ensures.states (alike_reachable (alike_itself c.lawful.ensures c.args.self.problem)) _ m reached number in
     omega (arith, count, most)
