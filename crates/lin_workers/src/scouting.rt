@@ -72,7 +72,8 @@ pub(crate) fn scouting_of(worker: usize, workers: usize, limit: Option<u64>) -> 
     }
 }
 
-// Scouts from the configuration, where it is told how, and then searches it. What is refuted on the way is in the memo.
+// Scouts from the configuration, where it is told how, and then searches it, unless the stop answers before either begins.
+// What is refuted on the way is in the memo.
 pub(crate) fn search_scouted<O: SeqObject, M: Memo<O>, S: Stop>(
     alloc: Global,
     problem: &Problem<O>,
@@ -90,10 +91,13 @@ pub(crate) fn search_scouted<O: SeqObject, M: Memo<O>, S: Stop>(
     ensures stop { S.follows stop.old stop.new }
 {
     scout_where_told(alloc, problem, config, scouting, memo, stop);
-    search(alloc, problem, config, memo, limit, stop)
+    match stop.ask() {
+        Some(told) => Ok(Outcome::Stopped(told)),
+        None => search(alloc, problem, config, memo, limit, stop),
+    }
 }
 
-// Scouts from the configuration, where it is told how. Want of memory only ends it.
+// Scouts from the configuration, where it is told how and the stop does not answer before. Want of memory only ends it.
 fn scout_where_told<O: SeqObject, M: Memo<O>, S: Stop>(
     alloc: Global,
     problem: &Problem<O>,
@@ -107,7 +111,10 @@ fn scout_where_told<O: SeqObject, M: Memo<O>, S: Stop>(
     ensures memo { M.changes memo.old memo.new }
     ensures stop { S.follows stop.old stop.new }
 {
-    if let Some(scouting) = scouting {
+    let Some(scouting) = scouting else {
+        return;
+    };
+    if stop.ask().is_none() {
         let _ended = scout(alloc, problem, config, scouting, memo, stop);
     }
 }
@@ -134,7 +141,14 @@ fn help_with<O: SeqObject>(
 {
     let mut memo = SharedMemo::new(table, hand);
     let mut stop = FoundBefore::new(board, seat, number as u64 + 1);
-    let _ended = scout(alloc, problem, &task.config, scouting, &mut memo, &mut stop);
+    scout_where_told(
+        alloc,
+        problem,
+        &task.config,
+        Some(scouting),
+        &mut memo,
+        &mut stop,
+    );
 }
 
 // Scouts from each task when all are claimed: so a worker without a task helps the others at theirs. From a task
