@@ -172,9 +172,10 @@ impl<'p, O: SeqObject> Table<'p, O> {
         Table::opened(alloc, problem, None, shards, hands)
     }
 
-    /// The same over a memo, which names the problem: what the memo has is known to every hand from the start, and is
-    /// read without taking a shard out. No shard keeps it once more. A memo with 2^52 configurations or more is left
-    /// out.
+    /// A table of the memo's problem over that memo, with so many empty shards, and its hands. What the memo has is known
+    /// to every hand from the start, and is read without taking a shard out; no shard keeps it once more. A memo with
+    /// 2^52 configurations or more is left out. There are 1 to 256 shards and 1 to 65 hands. `AllocError` where memory
+    /// was refused.
     pub fn over(
         alloc: Global,
         known: &'p OwnMemo<'p, O>,
@@ -187,6 +188,8 @@ impl<'p, O: SeqObject> Table<'p, O> {
             × (made.0.shards ≡ shards) × (made.0.hands ≡ hands)) }
         ensures known { IfOk result (λ made. length known.now.pairs < MAX_KNOWN
             → made.0.known ≡ known.now.pairs) }
+        ensures left_out { IfOk result (λ made. MAX_KNOWN ≤ length known.now.pairs
+            → made.0.known ≡ []) }
         ensures count { IfOk result (λ made. vec_len made.1 ≡ hands) }
         ensures hands { IfOk result (λ made. All (λ hand. hand ≡ new_hand made.0) made.1.items) }
     {
@@ -454,9 +457,9 @@ impl<'p, O: SeqObject> Table<'p, O> {
     }
 
     /// Hands a refutation to the table, which keeps it in its home. `Stranger` exactly where the table's problem is
-    /// not the `same` as the refutation's; `Known` where it was there or known before; `Busy` where its shard was not got within 64
-    /// tries; `NoRoom` where memory was refused, or the hand has stored 2^47 configurations; else `New`, which alone
-    /// changes anything: the hand has an entry more.
+    /// not the `same` as the refutation's; `Known` where it was there or was known before; `Busy` where its shard was
+    /// not got within 64 tries; `NoRoom` where memory was refused, or the hand has stored 2^47 configurations; else
+    /// `New`, which alone changes anything: the hand has an entry more.
     ///
     /// Condition: the hand came with this table.
     pub fn note(&self, hand: &mut Hand<O>, refutation: Refutation<'_, O>) -> Noted

@@ -270,10 +270,10 @@ fn check_by_any<O: SharedObject, R: Threads + Sync, G: Gate>(
 ///
 /// The calling thread begins alone, over a memo of its own: for 1,000,000 lifts at most, or without such a bound where there is
 /// one worker. What it has not decided then is cut into tasks, which as many workers share as the options say, but not more
-/// than there are tasks; what the calling thread refuted is lent to all of them, who read it without taking a shard out. A gate that wants workers has them at once. The tasks are then taken in their order, and the calling thread
-/// searches each that has no outcome. The verdict is the same for every number of workers and shards and on every schedule;
-/// with a limit, which bounds the search of each task, it may be `Undecided`, and that only where there are more runs than the
-/// limit.
+/// than there are tasks; what the calling thread refuted is lent to all of them. A gate that wants workers has them at once.
+/// The tasks are then taken in their order, and the calling thread searches each that has no outcome. The verdict is the same
+/// for every number of workers and shards and on every schedule; with a limit, which bounds the search of each task, it may be
+/// `Undecided`, and that only where there are more runs than the limit.
 ///
 /// The number stored is below 2^54 and at most that of the reachable configurations. `CheckFault::Memory` where the calling
 /// thread was refused memory; a worker that was refused some leaves its task to the calling thread, and where no thread can be
