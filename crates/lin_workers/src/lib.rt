@@ -15,6 +15,7 @@ mod cutting;
 mod deciding;
 mod gate;
 mod gathering;
+mod leading;
 mod level;
 mod options;
 mod scouting;
@@ -23,6 +24,7 @@ mod sharing;
 mod stop;
 mod task;
 mod verdict;
+mod whereabouts;
 mod worker;
 
 pub use check::check_object;

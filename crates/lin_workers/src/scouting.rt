@@ -14,6 +14,7 @@ ghost use Rattle.lin_workers.specs.Values.{AreValues};
 use crate::scouts::{Scouting, scout};
 use crate::stop::FoundBefore;
 use crate::task::Task;
+use crate::whereabouts::{Role, UntilLeading};
 use lin_board::{Board, Seat};
 use lin_history::Problem;
 use lin_object::SeqObject;
@@ -24,26 +25,27 @@ use std::alloc::{AllocError, Global};
 // How many steps a worker scouts at most from a task.
 const SCOUTING_STEPS: u64 = 4_000_000;
 
-// How many levels it takes until so many workers have each gone a way of their own.
+// How many levels it takes until so many workers have each gone a way of their own, and none of them upwards throughout.
 fn levels_of(workers: usize) -> u32
     ensures { 1 ≤ result }
 {
     match workers {
-        0..=2 => 1,
-        3..=4 => 2,
-        5..=8 => 3,
-        9..=16 => 4,
-        17..=32 => 5,
-        _ => 6,
+        0..=1 => 1,
+        2..=3 => 2,
+        4..=7 => 3,
+        8..=15 => 4,
+        16..=31 => 5,
+        32..=63 => 6,
+        _ => 7,
     }
 }
 
 // In which direction the worker of this number tries the calls, for each of 64 levels: upwards, or for a 1 downwards. The
-// digits of the number tell it, level by level and then from the first again. So no two go the same way, and the first
-// goes upwards throughout.
+// digits of the next number tell it, level by level and then from the first again. So no two go the same way, and none
+// goes upwards throughout, as a search does: that is the way of the worker that leads.
 fn directions_of(worker: usize, workers: usize) -> u64 {
     let levels = levels_of(workers);
-    let number = worker as u64;
+    let number = (worker as u64).wrapping_add(1);
     let mut directions = 0;
     for level in 0..64_u32 {
         directions |= ((number >> (level % levels)) & 1) << level;
@@ -61,8 +63,7 @@ fn steps_within(limit: Option<u64>) -> u64
     }
 }
 
-// How the worker of this number among so many scouts, where a search makes so many lifts at most. The first goes upwards
-// throughout, as a search does: what it refutes, its search then finds in the table.
+// How the worker of this number among so many scouts, where a search makes so many lifts at most.
 pub(crate) fn scouting_of(worker: usize, workers: usize, limit: Option<u64>) -> Scouting
     ensures { IfSome limit (λ most. result.steps ≤ most) }
 {
@@ -72,13 +73,11 @@ pub(crate) fn scouting_of(worker: usize, workers: usize, limit: Option<u64>) -> 
     }
 }
 
-// Scouts from the configuration, where it is told how, and then searches it, unless the stop answers before either begins.
-// What is refuted on the way is in the memo.
-pub(crate) fn search_scouted<O: SeqObject, M: Memo<O>, S: Stop>(
+// Searches the configuration, unless the stop answers before.
+pub(crate) fn search_unless_told<O: SeqObject, M: Memo<O>, S: Stop>(
     alloc: Global,
     problem: &Problem<O>,
     config: &Config<O>,
-    scouting: Option<Scouting>,
     memo: &mut M,
     limit: Option<u64>,
     stop: &mut S,
@@ -90,19 +89,19 @@ pub(crate) fn search_scouted<O: SeqObject, M: Memo<O>, S: Stop>(
     ensures memo { M.changes memo.old memo.new }
     ensures stop { S.follows stop.old stop.new }
 {
-    scout_where_told(alloc, problem, config, scouting, memo, stop);
     match stop.ask() {
         Some(told) => Ok(Outcome::Stopped(told)),
         None => search(alloc, problem, config, memo, limit, stop),
     }
 }
 
-// Scouts from the configuration, where it is told how and the stop does not answer before. Want of memory only ends it.
-fn scout_where_told<O: SeqObject, M: Memo<O>, S: Stop>(
+// Scouts from the configuration, unless the stop answers before. What is refuted on the way is in the memo. Want of memory
+// only ends it.
+fn scout_unless_told<O: SeqObject, M: Memo<O>, S: Stop>(
     alloc: Global,
     problem: &Problem<O>,
     config: &Config<O>,
-    scouting: Option<Scouting>,
+    scouting: Scouting,
     memo: &mut M,
     stop: &mut S,
 )
@@ -111,12 +110,44 @@ fn scout_where_told<O: SeqObject, M: Memo<O>, S: Stop>(
     ensures memo { M.changes memo.old memo.new }
     ensures stop { S.follows stop.old stop.new }
 {
-    let Some(scouting) = scouting else {
-        return;
-    };
     if stop.ask().is_none() {
         let _ended = scout(alloc, problem, config, scouting, memo, stop);
     }
+}
+
+// Scouts from the task of this number, over the table, where it has a role, until the worker leads: no other is at a smaller
+// task. It ends too where a smaller task was found.
+pub(crate) fn scout_until_leading<O: SeqObject>(
+    alloc: Global,
+    problem: &Problem<O>,
+    task: &Task<O>,
+    number: u64,
+    role: Option<Role<'_>>,
+    table: &Table<'_, O>,
+    hand: &mut Hand<O>,
+    board: &Board,
+    seat: &mut Seat,
+)
+    requires reachable { IsReachable (problem_of O.after O.State.eq O.Reply.eq problem.now)
+        task.now.config.lifted task.now.config.state }
+    requires hand { IsHandOf table.now hand.old }
+    requires seat { IsSeatOf board.now seat.old }
+    ensures hand { IsHandOf table.now hand.new }
+    ensures seat { HasHeard seat.old seat.new }
+{
+    let Some(role) = role else {
+        return;
+    };
+    let mut memo = SharedMemo::new(table, hand);
+    let mut stop = UntilLeading::new(board, seat, number, role.whereabouts);
+    scout_unless_told(
+        alloc,
+        problem,
+        &task.config,
+        role.scouting,
+        &mut memo,
+        &mut stop,
+    );
 }
 
 // Scouts from the task of this number, over the table. It ends where this task or a smaller one was found.
@@ -141,14 +172,7 @@ fn help_with<O: SeqObject>(
 {
     let mut memo = SharedMemo::new(table, hand);
     let mut stop = FoundBefore::new(board, seat, number as u64 + 1);
-    scout_where_told(
-        alloc,
-        problem,
-        &task.config,
-        Some(scouting),
-        &mut memo,
-        &mut stop,
-    );
+    scout_unless_told(alloc, problem, &task.config, scouting, &mut memo, &mut stop);
 }
 
 // Scouts from each task when all are claimed: so a worker without a task helps the others at theirs. From a task

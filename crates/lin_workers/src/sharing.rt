@@ -13,6 +13,7 @@ use crate::gathering::{gather, no_outcomes};
 use crate::options::MAX_WORKERS;
 use crate::scouting::{help, scouting_of};
 use crate::task::Task;
+use crate::whereabouts::{Role, Whereabouts};
 use crate::worker::{Done, claim_all};
 use lin_board::{Board, Seat};
 use lin_history::Problem;
@@ -65,6 +66,7 @@ fn work_all<O: SharedObject, R: Threads + Sync, G: Gate>(
     table: &Table<'_, O>,
     board: &Board,
     workers: &mut [Done<O>],
+    whereabouts: &Whereabouts,
     gate: &G,
     limit: Option<u64>,
 )
@@ -104,7 +106,11 @@ fn work_all<O: SharedObject, R: Threads + Sync, G: Gate>(
                 &mut worker.seat,
                 &mut worker.values,
                 gate,
-                Some(scouting),
+                Some(Role {
+                    scouting,
+                    whereabouts,
+                    worker: number,
+                }),
                 limit,
             );
             help(
@@ -150,6 +156,7 @@ pub(crate) fn share<O: SharedObject, R: Threads + Sync, G: Gate>(
     let count = hands.len().min(tasks.len());
     let (board, seats) = Board::new(alloc, tasks.len() as u64, count)?;
     let mut workers = Vec::with_capacity(alloc, count)?;
+    let whereabouts = Whereabouts::new(alloc, count)?;
     employ(alloc, &mut workers, hands, seats);
     work_all(
         rt,
@@ -159,6 +166,7 @@ pub(crate) fn share<O: SharedObject, R: Threads + Sync, G: Gate>(
         table,
         &board,
         workers.as_mut_slice(),
+        &whereabouts,
         gate,
         limit,
     );

@@ -1,5 +1,5 @@
 //! What a worker does: it claims tasks and searches them, until there is none left.
-ghost use Rattle.std.specs.Prelude.{◌≡◌, ℕ, ◌++◌, ◌∷◌, [], ◌⊎◌, List, None, Some, true, length, IfSome, Contains};
+ghost use Rattle.std.specs.Prelude.{◌≡◌, ℕ, ◌++◌, ◌∷◌, [], ◌⊎◌, List, true, length, IfSome, Contains};
 ghost use Rattle.lin_history.specs.Problems.Problem.{problem_of};
 ghost use Rattle.lin_history.specs.Problems.Configurations.{IsReachable};
 ghost use Rattle.lin_search.specs.Answer.{IsAnswer};
@@ -11,15 +11,16 @@ ghost use Rattle.lin_workers.specs.Heard.{HasFound, HasHeard, IsTold};
 ghost use Rattle.lin_workers.specs.Values.{HasBrought, found_of};
 
 use crate::gate::Gate;
-use crate::scouting::search_scouted;
-use crate::scouts::Scouting;
+use crate::leading::LeadersMemo;
+use crate::scouting::{scout_until_leading, search_unless_told};
 use crate::stop::FoundBefore;
 use crate::task::Task;
+use crate::whereabouts::{Role, tell_begun, tell_ended};
 use lin_board::{Board, Seat};
 use lin_history::Problem;
 use lin_object::SeqObject;
-use lin_search::Outcome;
-use lin_table::{Hand, SharedMemo, Table};
+use lin_search::{Outcome, OwnMemo};
+use lin_table::{Hand, Table};
 use std::alloc::Global;
 
 /// What a worker brings: the values of the tasks that it claimed, and its hand and its seat.
@@ -33,18 +34,18 @@ pub struct Done<O: SeqObject> {
     pub seat: Seat,
 }
 
-// Searches the configuration of the task of this number over the table, after scouting where it is told how. `None` where
-// memory was refused.
-fn search_task<O: SeqObject>(
+// Searches the configuration of the task of this number over the table, with this memo of the worker's own before it. `None`
+// where memory was refused.
+fn search_before_table<'p, O: SeqObject>(
     alloc: Global,
     problem: &Problem<O>,
     task: &Task<O>,
     number: u64,
-    table: &Table<'_, O>,
+    own: &mut OwnMemo<'p, O>,
+    table: &Table<'p, O>,
     hand: &mut Hand<O>,
     board: &Board,
     seat: &mut Seat,
-    scouting: Option<Scouting>,
     limit: Option<u64>,
 ) -> Option<Outcome>
     requires reachable { IsReachable (problem_of O.after O.State.eq O.Reply.eq problem.now)
@@ -57,18 +58,67 @@ fn search_task<O: SeqObject>(
     ensures hand { IsHandOf table.now hand.new }
     ensures seat { HasHeard seat.old seat.new }
 {
-    let mut memo = SharedMemo::new(table, hand);
+    let mut memo = LeadersMemo::new(own, table, hand);
     let mut stop = FoundBefore::new(board, seat, number);
-    search_scouted(
-        alloc,
-        problem,
-        &task.config,
-        scouting,
-        &mut memo,
-        limit,
-        &mut stop,
+    search_unless_told(alloc, problem, &task.config, &mut memo, limit, &mut stop).ok()
+}
+
+// Searches the configuration of the task of this number over the table. `None` where memory was refused.
+fn search_over_table<O: SeqObject>(
+    alloc: Global,
+    problem: &Problem<O>,
+    task: &Task<O>,
+    number: u64,
+    table: &Table<'_, O>,
+    hand: &mut Hand<O>,
+    board: &Board,
+    seat: &mut Seat,
+    limit: Option<u64>,
+) -> Option<Outcome>
+    requires reachable { IsReachable (problem_of O.after O.State.eq O.Reply.eq problem.now)
+        task.now.config.lifted task.now.config.state }
+    requires hand { IsHandOf table.now hand.old }
+    requires seat { IsSeatOf board.now seat.old }
+    ensures answer { IfSome result (IsAnswer
+        (problem_of O.after O.State.eq O.Reply.eq problem.now) task.now.config.lifted
+        task.now.config.state limit (IsTold number seat.new)) }
+    ensures hand { IsHandOf table.now hand.new }
+    ensures seat { HasHeard seat.old seat.new }
+{
+    let mut own = OwnMemo::new(alloc, table.problem());
+    search_before_table(
+        alloc, problem, task, number, &mut own, table, hand, board, seat, limit,
     )
-    .ok()
+}
+
+// Searches the configuration of the task of this number over the table, after scouting until it leads where it has a role.
+// `None` where memory was refused.
+fn search_task<O: SeqObject>(
+    alloc: Global,
+    problem: &Problem<O>,
+    task: &Task<O>,
+    number: u64,
+    table: &Table<'_, O>,
+    hand: &mut Hand<O>,
+    board: &Board,
+    seat: &mut Seat,
+    role: Option<Role<'_>>,
+    limit: Option<u64>,
+) -> Option<Outcome>
+    requires reachable { IsReachable (problem_of O.after O.State.eq O.Reply.eq problem.now)
+        task.now.config.lifted task.now.config.state }
+    requires hand { IsHandOf table.now hand.old }
+    requires seat { IsSeatOf board.now seat.old }
+    ensures answer { IfSome result (IsAnswer
+        (problem_of O.after O.State.eq O.Reply.eq problem.now) task.now.config.lifted
+        task.now.config.state limit (IsTold number seat.new)) }
+    ensures hand { IsHandOf table.now hand.new }
+    ensures seat { HasHeard seat.old seat.new }
+{
+    scout_until_leading(alloc, problem, task, number, role, table, hand, board, seat);
+    search_over_table(
+        alloc, problem, task, number, table, hand, board, seat, limit,
+    )
 }
 
 // Keeps the value of the task where there is memory for it, and tells the board where it is a completion.
@@ -91,17 +141,8 @@ fn keep(
     }
 }
 
-// The scouting before the search of the task of this number. The first task has none: whoever has claimed it searches it in
-// the natural order at once.
-fn scouting_before(number: u64, scouting: Option<Scouting>) -> Option<Scouting>
-    ensures first { number ≡ 0 → result ≡ None }
-    ensures same { IfSome result (λ told. scouting ≡ Some told) }
-{
-    if number == 0 { None } else { scouting }
-}
-
-// Claims tasks and searches each over the table, until all are claimed; the values are put to these. It scouts before each
-// search but that of the first task, where it is told how.
+// Claims tasks and searches each over the table, until all are claimed; the values are put to these. Where it has a role it
+// scouts before each search until it leads, and tells the others where it is.
 pub(crate) fn claim_all<O: SeqObject, G: Gate>(
     alloc: Global,
     problem: &Problem<O>,
@@ -112,7 +153,7 @@ pub(crate) fn claim_all<O: SeqObject, G: Gate>(
     seat: &mut Seat,
     values: &mut Vec<(u64, Outcome)>,
     gate: &G,
-    scouting: Option<Scouting>,
+    role: Option<Role<'_>>,
     limit: Option<u64>,
 )
     requires cut { (k : ℕ) × IsCut (problem_of O.after O.State.eq O.Reply.eq problem.now) k
@@ -128,24 +169,17 @@ pub(crate) fn claim_all<O: SeqObject, G: Gate>(
     ensures ended { seat.new.ended ≡ true }
 {
     while let Some(number) = board.claim(seat) {
+        tell_begun(role, number);
         gate.enter(number);
         let task = &tasks[number as usize];
         let searched = search_task(
-            alloc,
-            problem,
-            task,
-            number,
-            table,
-            hand,
-            board,
-            seat,
-            scouting_before(number, scouting),
-            limit,
+            alloc, problem, task, number, table, hand, board, seat, role, limit,
         );
         if let Some(outcome) = searched {
             keep(board, seat, values, number, outcome);
         }
     }
+    tell_ended(role);
 }
 
 /// Claims tasks of a cut and searches each over the table, until all are claimed. A task's value is the outcome of its

@@ -1,0 +1,144 @@
+//! Where the workers are, as they tell themselves. It is a hint: nothing is proved of it, and nothing that is proved hangs on it.
+ghost use Rattle.std.specs.Prelude.{◌≡◌};
+ghost use Rattle.lin_board.specs.Board.{IsSeatOf};
+ghost use Rattle.lin_workers.specs.Heard.{HasHeard};
+
+use crate::scouts::Scouting;
+use lin_board::{Board, Seat};
+use lin_search::Stop;
+use std::alloc::{AllocError, Global};
+use std::sync::atomic::AtomicU64;
+use std::sync::atomic::Ordering::SeqCst;
+
+// Where a worker is that has no task: behind all tasks.
+const NOWHERE: u64 = u64::MAX;
+
+// How many lifts a scout makes from one look at where the others are to the next.
+const LIFTS_BETWEEN: u32 = 256;
+
+/// For each worker the number of the task that it is at.
+#[derive(Drop)]
+pub(crate) struct Whereabouts {
+    tasks: Vec<AtomicU64>,
+}
+
+impl Whereabouts {
+    // Of so many workers, none of which has a task yet.
+    pub(crate) fn new(alloc: Global, workers: usize) -> Result<Whereabouts, AllocError> {
+        let mut tasks = Vec::new(alloc);
+        for _ in 0..workers {
+            tasks.push(AtomicU64::new(NOWHERE))?;
+        }
+        Ok(Whereabouts { tasks })
+    }
+
+    // Whether no worker is at a smaller task than this one.
+    fn is_lowest(&self, task: u64) -> bool {
+        for at in self.tasks.as_slice() {
+            if at.load(SeqCst) < task {
+                return false;
+            }
+        }
+        true
+    }
+
+    // The worker of this number is at this task from now on.
+    fn tell(&self, worker: usize, task: u64) {
+        if worker < self.tasks.len() {
+            self.tasks[worker].store(task, SeqCst);
+        }
+    }
+}
+
+/// What a worker does beside searching: how it scouts, and where it tells the others which task it is at.
+#[derive(Clone, Copy, Drop)]
+pub(crate) struct Role<'a> {
+    pub(crate) scouting: Scouting,
+    pub(crate) whereabouts: &'a Whereabouts,
+    pub(crate) worker: usize,
+}
+
+// Tells the others, where there are some, that the worker is at this task.
+pub(crate) fn tell_begun(role: Option<Role<'_>>, task: u64) {
+    if let Some(role) = role {
+        role.whereabouts.tell(role.worker, task);
+    }
+}
+
+// Tells the others, where there are some, that the worker has no task any more.
+pub(crate) fn tell_ended(role: Option<Role<'_>>) {
+    tell_begun(role, NOWHERE);
+}
+
+/// The stop of a scout from a task: it answers where the board has told of a smaller task that was found, or where no other
+/// worker is at a smaller task any more, so that this one leads. Contracts see the board, the seat and the task.
+#[derive(Drop)]
+pub(crate) struct UntilLeading<'a> {
+    board: &'a Board,
+    seat: &'a mut Seat,
+    task: u64,
+    whereabouts: &'a Whereabouts,
+    lifts: u32,
+    ghost came: { IsSeatOf board.now seat.now },
+}
+
+impl<'a> UntilLeading<'a> {
+    // The stop of a scout from this task, which asks the board by this seat. Condition: the seat came with the board.
+    pub(crate) fn new(
+        board: &'a Board,
+        seat: &'a mut Seat,
+        task: u64,
+        whereabouts: &'a Whereabouts,
+    ) -> Self
+        requires { IsSeatOf board.now seat.old }
+        ensures board { result.board.now ≡ board.now }
+        ensures seat { result.seat.now ≡ seat.old }
+        ensures same_reference { result.seat.ghost_name ≡ seat.entry.ghost_name }
+    {
+        UntilLeading {
+            board,
+            seat,
+            task,
+            whereabouts,
+            lifts: 0,
+        }
+    }
+
+    // Whether this worker leads, at the lifts at which it looks where the others are.
+    fn is_seen_leading(&mut self) -> bool
+        ensures board { self.new.board.now ≡ self.old.board.now }
+        ensures seat { self.new.seat.now ≡ self.old.seat.now }
+        ensures same_reference { self.new.seat.ghost_name ≡ self.old.seat.ghost_name }
+    {
+        let looks = self.lifts % LIFTS_BETWEEN == 0;
+        self.lifts = self.lifts.wrapping_add(1);
+        looks && self.whereabouts.is_lowest(self.task)
+    }
+}
+
+impl<'a> Stop for UntilLeading<'a> {
+    ghost use Rattle.std.specs.Prelude.{refl};
+    ghost use Rattle.std.proofs.Common.{◌∙◌};
+    ghost use Rattle.lin_workers.specs.Heard.{heard_itself, heard_twice};
+
+    ghost tells = { λ s told. Unit {0} };
+
+    ghost follows = { λ old new. (new.board.now ≡ old.board.now)
+        × (new.seat.ghost_name ≡ old.seat.ghost_name) × HasHeard old.seat.now new.seat.now };
+
+    fn ask(&mut self) -> Option<u64> {
+        if self.is_seen_leading() {
+            return Some(self.task);
+        }
+        let least = self.board.least(self.seat)?;
+        if least < self.task { Some(least) } else { None }
+    }
+
+    ghost unchanged = { λ s. (refl, refl, heard_itself s.seat.now) };
+
+    ghost chained = { λ a b c first second. (
+      second.0 ∙ first.0,
+      second.1 ∙ first.1,
+      heard_twice a.seat.now b.seat.now c.seat.now first.2 second.2,
+    ) };
+}
