@@ -323,6 +323,10 @@ FAMILIES = {
     "register_5_no": Family("the same, and an impossible read", "calls", CALLS, 1, register_refuted(5)),
     "register_10": Family("a register, 10 processes", "calls", CALLS, 0, register(10)),
     "register_10_no": Family("the same, and an impossible read", "calls", CALLS, 1, register_refuted(10)),
+    "register_12_no": Family("a register, 12 processes, and an impossible read", "calls", CALLS[-1:], 1, register_refuted(12)),
+    "register_14": Family("a register, 14 processes", "calls", CALLS[-1:], 0, register(14)),
+    "register_14_no": Family("the same, and an impossible read", "calls", CALLS[-1:], 1, register_refuted(14)),
+    "register_16": Family("a register, 16 processes", "calls", CALLS[-1:], 0, register(16)),
     "queue": Family("a queue, 6 processes", "calls", CALLS, 0, buffer(Queue)),
     "queue_no": Family("the same, two results swapped", "calls", CALLS, 1, buffer_swapped(Queue)),
     **{

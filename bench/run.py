@@ -2,7 +2,7 @@
 """Times `lincheck` beside `bench/search.rs`, a fast search without a proof that gives the same answers.
 
     bench/run.py [--only FAMILY].. [--quick] [--runs N] [--cpu] [--timeout SECONDS] [--bin PATH] [--beside NAME]
-                 [--alone | --workers N [--shards N]]
+                 [--alone | --workers N.. [--shards N..] [--size SIZE]]
 
 Needs the built program (`bin/lincheck` builds it), or the one at PATH, and `rustc`. Prints one table for each family of
 `bench/histories.py` (those whose name begins with FAMILY), one line for each size (with --quick the smaller half), and
@@ -26,14 +26,17 @@ those of `lincheck`.
 
 With --alone `lincheck` is timed by itself, as for a queue with a backlog, which the second program can't do: seconds and MB.
 
-With --workers N `lincheck` with N workers is timed beside `lincheck` with one, in turn, at the last size of each family:
-the least seconds by the clock and the least processor seconds of each, and how many times the first's the second's are.
+With --workers N `lincheck` with N workers is timed beside `lincheck` with one, in turn, at the last size of each family, or
+at SIZE. Both --workers and --shards may be given more than once. With one worker a cell has seconds by the clock and processor
+seconds, the middle of the runs. With more it has how many times those of one worker in the same turn they are: the middle of
+the turns, by the clock with the least and the most in brackets.
 """
 import argparse
 import math
 import os
 import shutil
 import signal
+import statistics
 import subprocess
 import sys
 import tempfile
@@ -178,33 +181,42 @@ def alone_row(family, size, room, options):
     return [str(size), *(["-", "-"] if one is None else [f"{one.seconds:.4f}", f"{one.peak / 1e6:.1f}"])]
 
 
-def least(runs):
-    """The least seconds and processor seconds of these runs; None where one took too long."""
-    if None in runs:
-        return None
-    return min(one.seconds for one in runs), min(one.processor for one in runs)
-
-
-def measure_workers(family, room, options):
-    """What one worker and what several took for the family's last size: the least of the runs of both in turn."""
+def measure_workers(family, size, kinds, room, options):
+    """The runs of the history of this size with one worker, and then with each of these numbers of workers and shards. All
+    run in turn, since the machine's speed may change meanwhile; None where one took too long."""
     text = room / "text"
     with open(text, "w") as whole:
-        whole.writelines(family.history(family.sizes[-1]))
-    shards = ["--shards", str(options.shards)]
-    programs = [[options.bin, "--workers", str(number), *shards] for number in (1, options.workers)]
+        whole.writelines(family.history(size))
+    programs = [[options.bin, "--workers", str(workers), "--shards", str(shards)] for workers, shards in [(1, 16), *kinds]]
     runs = [[run_once(program, text, options) for program in programs] for _ in range(options.runs)]
     for one in filter(None, sum(runs, [])):
         assert one.status == family.status, (family, one)
         assert one.answer == (runs[0][0] or one).answer, (runs[0][0].answer, one.answer)
-    return [least(column) for column in zip(*runs)]
+    return [None if None in column else column for column in zip(*runs)]
 
 
-def workers_row(name, one, several):
+def spread(ratios):
+    return f"{statistics.median(ratios):.2f} ({min(ratios):.2f} to {max(ratios):.2f})"
+
+
+def times_cell(runs, alone):
+    """How many times those of one worker these runs take, by the clock and in processor time."""
+    if runs is None or alone is None:
+        return "-"
+    turns = list(zip(runs, alone))
+    clock = spread([run.seconds / one.seconds for run, one in turns])
+    return f"{clock} / {statistics.median(run.processor / one.processor for run, one in turns):.2f}"
+
+
+def alone_cell(alone):
+    if alone is None:
+        return "-"
+    return f"{statistics.median(one.seconds for one in alone):.3f} / {statistics.median(one.processor for one in alone):.3f}"
+
+
+def workers_row(name, alone, *others):
     """The cells of a line."""
-    cells = ["-" if took is None else f"{took[0]:.3f} / {took[1]:.3f}" for took in (one, several)]
-    if one is None or several is None:
-        return [name, *cells, "-"]
-    return [name, *cells, f"{several[0] / one[0]:.2f} / {several[1] / one[1]:.2f}"]
+    return [name, alone_cell(alone), *(times_cell(runs, alone) for runs in others)]
 
 
 def tell(title, rows):
@@ -225,8 +237,9 @@ def main():
     parser.add_argument("--bin", type=Path, default=LINCHECK)
     parser.add_argument("--beside", choices=["search", "layout", "small_sets"], default="search", help="the program without a proof")
     parser.add_argument("--alone", action="store_true", help="lincheck by itself")
-    parser.add_argument("--workers", type=int, help="one worker beside so many")
-    parser.add_argument("--shards", type=int, default=16, help="with --workers: of both")
+    parser.add_argument("--workers", type=int, action="append", metavar="N", help="one worker beside so many")
+    parser.add_argument("--shards", type=int, action="append", metavar="N", help="with --workers: so many shards")
+    parser.add_argument("--size", type=int, help="with --workers: in place of the last size")
     options = parser.parse_args()
     chosen = {
         name: family
@@ -236,9 +249,12 @@ def main():
     with tempfile.TemporaryDirectory() as folder:
         room = Path(folder)
         if options.workers:
-            rows = [["", "1 worker", f"{options.workers} workers", "times"]]
-            rows += [workers_row(name, *measure_workers(family, room, options)) for name, family in chosen.items()]
-            return tell(f"Seconds by the clock and processor seconds, {options.shards} shards", rows)
+            kinds = [(workers, shards) for workers in options.workers for shards in options.shards or [16]]
+            rows = [["", "1 worker", *(f"{workers} workers, {shards} shards" for workers, shards in kinds)]]
+            for name, family in chosen.items():
+                size = options.size or family.sizes[-1]
+                rows.append(workers_row(f"{name} {size}", *measure_workers(family, size, kinds, room, options)))
+            return tell("By the clock / processor time", rows)
         if options.alone:
             for name, family in chosen.items():
                 rows = [alone_row(family, size, room, options) for size in family.sizes]
