@@ -278,11 +278,8 @@ impl<'p, O: SeqObject> Table<'p, O> {
         (config.sum() % self.shards) as usize
     }
 
-    /// What was known of the configuration before the table was made, for a problem that is the `same` as the table's:
-    /// `Some` exactly where it was known. Nothing is compared, no shard is taken out, and it takes no memory.
-    ///
-    /// Condition: the problem is the same.
-    pub fn known_of(&self, problem: &Problem<O>, config: &Config<O>) -> Option<Longest>
+    // What was known of the configuration before the table was made.
+    fn known_of(&self, problem: &Problem<O>, config: &Config<O>) -> Option<Longest>
         requires { SameProblem O.eq O.State.eq O.Op.eq O.Reply.eq self.now.problem problem.now }
         ensures refuted { IfSome result (λ longest. IsRefutedWith
             (problem_of O.after O.State.eq O.Reply.eq problem.now) config.now.lifted
@@ -297,11 +294,8 @@ impl<'p, O: SeqObject> Table<'p, O> {
         }
     }
 
-    /// What the configuration's shard tells of it, for a problem that is the `same` as the table's: what was known before
-    /// the table was made is not asked. A shard that is not got within 64 tries has nothing. It takes no memory.
-    ///
-    /// Conditions: the hand came with this table, and the problem is the same.
-    pub fn look_home(
+    // What the configuration's home tells of it, for a problem that is the same as the table's.
+    fn look_home(
         &self,
         hand: &mut Hand<O>,
         problem: &Problem<O>,

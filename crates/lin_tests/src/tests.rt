@@ -13,6 +13,7 @@ mod objects;
 mod program;
 mod random;
 mod searches;
+mod stalls;
 mod tables;
 mod workers;
 mod workers_at_once;

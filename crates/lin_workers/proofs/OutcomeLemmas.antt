@@ -61,6 +61,21 @@ only : (v w : ℕ × Outcome) (k : ℕ) → k < 1 → slice_index_or (v ∷ []) 
 only v w zero h e = e
 only v w (suc k) h e = absurd (omega (arith, h))
 
+-- the outcome of a task's search put at its place
+pub outcome_placed : {State Op Reply : Type 0} (p : Problem State Op Reply) (limit : Option ℕ) (ts : List (Task State)) (old new : List (Option Outcome)) (i : ℕ) (t : Task State) (tells : ℕ → Type 0) (o : Outcome) → slice_get ts i ≡ Some t → IsAnswer p t.config.lifted t.config.state limit tells o → ArePlaced old ((i, o) ∷ []) new → AreOutcomes p ts limit old → AreOutcomes p ts limit new
+outcome_placed {State} p limit ts old new i t tells o at answer placed before = record {
+  places = placed.places ∙ before.places;
+  answers = λ j u x there h. elim (placed.each j x h) [
+    | inl q ↦ before.answers j u x there q
+    | inr q ↦ (let same = only (i, o) (j, x) q.0.0 q.0.1 q.0.2 in put j u x there q.1 (ap (λ (v : ℕ × Outcome). v.0) same) (ap (λ (v : ℕ × Outcome). v.1) same))
+  ];
+}
+  where
+    put : (j : ℕ) (u : Task State) (x : Outcome) → slice_get ts j ≡ Some u → WasNotStopped x → i ≡ j → o ≡ x → IsAnswer p u.config.lifted u.config.state limit (λ told. ⊥) x
+    put j u x there w e f =
+        let same : t ≡ u = some_once (slice_get ts j) t u (subst (λ (k : ℕ). slice_get ts k ≡ Some t) e at) there in
+        not_stopped p limit u tells x w (subst (λ (y : Outcome). IsAnswer p u.config.lifted u.config.state limit tells y) f (subst (λ (v : Task State). IsAnswer p v.config.lifted v.config.state limit tells o) same answer))
+
 -- an outcome that is none of a search that was stopped
 pub by_not_stopped : (o : Outcome) → ((told : ℕ) → o ≡ Stopped told → ⊥) → WasNotStopped o
 by_not_stopped (Found order) h = tt
@@ -126,3 +141,8 @@ written zero [] zs e = refl
 written zero (x ∷ xs) zs e = absurd (omega (arith, e))
 written (suc n) [] zs e = absurd (omega (arith, e))
 written (suc n) (x ∷ xs) zs e = ap (λ (ys : List _). x ∷ ys) (written n xs zs (omega (arith, e)))
+
+-- what has some has a first
+pub has_first : {X : Type 0} (xs : List X) → (xs ≡ [] → ⊥) → 0 < length xs
+has_first [] h = absurd (h refl)
+has_first (x ∷ xs) h = omega arith

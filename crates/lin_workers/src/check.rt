@@ -1,8 +1,10 @@
 //! The check of one object.
-ghost use Rattle.std.specs.Prelude.{◌≡◌, ◌≢◌, ℕ, ◌^◌, ◌<◌, ◌≤◌, All, IfNone, IfOk, IfSome, None, vec_capacity, vec_len};
+ghost use Rattle.std.specs.Prelude.{◌≡◌, ◌≢◌, ℕ, ◌^◌, ◌<◌, ◌≤◌, All, IfNone, IfOk, IfSome, vec_capacity, vec_len};
 ghost use Rattle.lin_history.specs.Problems.Problem.{problem_of};
 ghost use Rattle.lin_search.specs.Count.{IsNumberReachable};
 ghost use Rattle.lin_table.specs.Hand.{IsHandOf};
+ghost use Rattle.lin_workers.specs.Cut.{IsCut};
+ghost use Rattle.lin_workers.specs.Outcomes.{AreOutcomes};
 ghost use Rattle.lin_workers.specs.Verdict.{IsObjectVerdict};
 
 use crate::cutting::cut;
@@ -11,35 +13,21 @@ use crate::gate::Gate;
 use crate::gathering::no_outcomes;
 use crate::options::Options;
 use crate::sharing::share;
+use crate::stalling::outcomes_unless_stalled;
+use crate::task::Task;
 use crate::verdict::{CheckFault, ObjectVerdict};
 use lin_history::Problem;
 use lin_object::{SeqObject, SharedObject, lawful};
-use lin_search::{Memo, OwnMemo};
+use lin_search::{Memo, Outcome, OwnMemo};
 use lin_table::{Hand, SharedMemo, Table};
 use std::alloc::{AllocError, AllocGlobal, Global};
 use std::thread::Threads;
-
-// How many lifts the calling thread makes by itself before workers are started.
-const LIFTS_ALONE: u64 = 1_000_000;
 
 // How many tasks are wanted for each worker.
 const TASKS_EACH: usize = 4;
 
 // The number stored that is told is less than this.
 const STORED_BOUND: u64 = 1 << 54;
-
-// How many lifts the calling thread makes by itself: where there is one worker, as many as the limit allows.
-fn lifts_alone(workers: u64, limit: Option<u64>) -> Option<u64>
-    ensures none { IfNone result (limit ≡ None) }
-    ensures within { IfSome result (λ lifts. IfSome limit (λ most. lifts ≤ most)) }
-{
-    match limit {
-        None if workers == 1 => None,
-        None => Some(LIFTS_ALONE),
-        Some(most) if workers == 1 => Some(most),
-        Some(most) => Some(most.min(LIFTS_ALONE)),
-    }
-}
 
 // The verdict, where the search ended with one.
 fn unless_undecided(verdict: ObjectVerdict) -> Option<ObjectVerdict>
@@ -54,12 +42,35 @@ fn unless_undecided(verdict: ObjectVerdict) -> Option<ObjectVerdict>
     }
 }
 
-// The verdict by a search from the root over the memo, where it ends within so many lifts.
+// The outcomes of the tasks of a cut before they are taken in their order: with one worker none; with more that of the first,
+// or `None` where its search stalls.
+fn first_outcomes<O: SeqObject, M: Memo<O>>(
+    alloc: Global,
+    problem: &Problem<O>,
+    tasks: &[Task<O>],
+    memo: &mut M,
+    workers: u64,
+    limit: Option<u64>,
+) -> Result<Option<Vec<Option<Outcome>>>, AllocError>
+    requires { (k : ℕ) × IsCut (problem_of O.after O.State.eq O.Reply.eq problem.now) k tasks.now }
+    ensures outcomes { IfOk result (λ found. IfSome found (λ outcomes. AreOutcomes
+        (problem_of O.after O.State.eq O.Reply.eq problem.now) tasks.now limit outcomes.items)) }
+    ensures memo { M.changes memo.old memo.new }
+{
+    if workers == 1 {
+        Ok(Some(no_outcomes(alloc, tasks.len())?))
+    } else {
+        outcomes_unless_stalled(alloc, problem, tasks, memo, limit)
+    }
+}
+
+// The verdict by a search from the root over the memo, where it ends within the limit, and with more than one worker before it
+// stalls.
 fn decide_alone<O: SeqObject, M: Memo<O>>(
     alloc: Global,
     problem: &Problem<O>,
     memo: &mut M,
-    lifts: Option<u64>,
+    workers: u64,
     limit: Option<u64>,
 ) -> Result<Option<ObjectVerdict>, AllocError>
     ensures verdict { IfOk result (λ decided. IfSome decided (IsObjectVerdict
@@ -67,25 +78,21 @@ fn decide_alone<O: SeqObject, M: Memo<O>>(
     ensures memo { M.changes memo.old memo.new }
 {
     let whole = cut(alloc, problem, 1)?;
-    let mut outcomes = no_outcomes(alloc, whole.len())?;
-    let decided = decide(
-        alloc,
-        problem,
-        whole.as_slice(),
-        outcomes.as_mut_slice(),
-        memo,
-        lifts,
-    )?;
+    let tasks = whole.as_slice();
+    let Some(mut outcomes) = first_outcomes(alloc, problem, tasks, memo, workers, limit)? else {
+        return Ok(None);
+    };
+    let decided = decide(alloc, problem, tasks, outcomes.as_mut_slice(), memo, limit)?;
     Ok(unless_undecided(decided))
 }
 
-// The verdict by a search over the memo, which names the problem, where it ends within so many lifts; and how many
-// configurations the memo has then.
+// The verdict by a search over the memo, which names the problem, where it is decided so; and how many configurations the memo
+// has then.
 fn check_over_memo<O: SeqObject>(
     alloc: Global,
     problem: &Problem<O>,
     memo: &mut OwnMemo<'_, O>,
-    lifts: Option<u64>,
+    workers: u64,
     limit: Option<u64>,
 ) -> Result<Option<(ObjectVerdict, u64)>, AllocError>
     requires { memo.old.problem ≡ problem.now }
@@ -97,7 +104,7 @@ fn check_over_memo<O: SeqObject>(
     ensures memo { memo.new.problem ≡ memo.old.problem }
 {
     lawful::<O>();
-    let decided = decide_alone(alloc, problem, memo, lifts, limit)?;
+    let decided = decide_alone(alloc, problem, memo, workers, limit)?;
     let stored = memo.count();
     match decided {
         Some(verdict) if stored < STORED_BOUND => Ok(Some((verdict, stored))),
@@ -105,7 +112,7 @@ fn check_over_memo<O: SeqObject>(
     }
 }
 
-// The same, within the lifts that the calling thread makes by itself; `None` also where the gate wants workers at once.
+// The same, with as many workers as the options say; `None` also where the gate wants workers at once.
 fn check_alone<O: SeqObject, G: Gate>(
     alloc: Global,
     problem: &Problem<O>,
@@ -124,8 +131,7 @@ fn check_alone<O: SeqObject, G: Gate>(
     if gate.wants_workers() {
         return Ok(None);
     }
-    let lifts = lifts_alone(options.workers(), options.limit());
-    check_over_memo(alloc, problem, memo, lifts, options.limit())
+    check_over_memo(alloc, problem, memo, options.workers(), options.limit())
 }
 
 // The verdict by the tasks of a cut, which workers share that have these hands.
@@ -268,9 +274,10 @@ fn check_by_any<O: SharedObject, R: Threads + Sync, G: Gate>(
 /// Checks one object: whether its calls have a linearization, and the least one, or the longest run where there is none; and
 /// how many configurations were stored.
 ///
-/// The calling thread begins alone, over a memo of its own: for 1,000,000 lifts at most, or without such a bound where there is
-/// one worker. What it has not decided then is cut into tasks, which as many workers share as the options say, but not more
-/// than there are tasks; what the calling thread refuted is lent to all of them. A gate that wants workers has them at once.
+/// The calling thread begins alone, over a memo of its own. Where there is one worker, or the search comes further all the time,
+/// it goes on to the end. Where the last 200,000 lifts and the last third of all have come no further, the search is cut into
+/// tasks, which as many workers share as the options say, but not more than there are tasks; what the calling thread refuted
+/// is lent to all of them. A gate that wants workers has them at once.
 /// The tasks are then taken in their order, and the calling thread searches each that has no outcome. The verdict is the same
 /// for every number of workers and shards and on every schedule; with a limit, which bounds the search of each task, it may be
 /// `Undecided`, and that only where there are more runs than the limit.

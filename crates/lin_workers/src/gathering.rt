@@ -24,7 +24,7 @@ pub(crate) fn no_outcomes(alloc: Global, count: usize) -> Result<Vec<Option<Outc
 }
 
 // Whether the outcome is that of a search that was stopped.
-fn was_stopped(outcome: &Outcome) -> bool
+pub(crate) fn was_stopped(outcome: &Outcome) -> bool
     ensures stopped { IsTrue result → WasNotStopped outcome.now → ⊥ }
     ensures other { IsFalse result → WasNotStopped outcome.now }
 {
@@ -32,7 +32,7 @@ fn was_stopped(outcome: &Outcome) -> bool
 }
 
 // Puts the outcome at the place of this number, where there is one; but not that of a search that was stopped.
-fn place_value(outcomes: &mut [Option<Outcome>], number: u64, outcome: Outcome)
+pub(crate) fn place_value(outcomes: &mut [Option<Outcome>], number: u64, outcome: Outcome)
     ensures { ArePlaced outcomes.old ((number, outcome) ∷ []) outcomes.new }
 {
     let place = number as usize;

@@ -11,7 +11,6 @@ ghost use Rattle.lin_workers.specs.Heard.{HasFound, HasHeard, IsTold};
 ghost use Rattle.lin_workers.specs.Values.{HasBrought, found_of};
 
 use crate::gate::Gate;
-use crate::leading::LeadersMemo;
 use crate::scouting::{scout_until_leading, search_unless_told};
 use crate::stop::FoundBefore;
 use crate::task::Task;
@@ -19,8 +18,8 @@ use crate::whereabouts::{Role, tell_begun, tell_ended};
 use lin_board::{Board, Seat};
 use lin_history::Problem;
 use lin_object::SeqObject;
-use lin_search::{Outcome, OwnMemo};
-use lin_table::{Hand, Table};
+use lin_search::Outcome;
+use lin_table::{Hand, SharedMemo, Table};
 use std::alloc::Global;
 
 /// What a worker brings: the values of the tasks that it claimed, and its hand and its seat.
@@ -32,35 +31,6 @@ pub struct Done<O: SeqObject> {
     pub hand: Hand<O>,
     /// The worker's seat, which was told that all tasks are claimed.
     pub seat: Seat,
-}
-
-// Searches the configuration of the task of this number over the table, with this memo of the worker's own before it. `None`
-// where memory was refused.
-fn search_before_table<'p, O: SeqObject>(
-    alloc: Global,
-    problem: &Problem<O>,
-    task: &Task<O>,
-    number: u64,
-    own: &mut OwnMemo<'p, O>,
-    table: &Table<'p, O>,
-    hand: &mut Hand<O>,
-    board: &Board,
-    seat: &mut Seat,
-    limit: Option<u64>,
-) -> Option<Outcome>
-    requires reachable { IsReachable (problem_of O.after O.State.eq O.Reply.eq problem.now)
-        task.now.config.lifted task.now.config.state }
-    requires hand { IsHandOf table.now hand.old }
-    requires seat { IsSeatOf board.now seat.old }
-    ensures answer { IfSome result (IsAnswer
-        (problem_of O.after O.State.eq O.Reply.eq problem.now) task.now.config.lifted
-        task.now.config.state limit (IsTold number seat.new)) }
-    ensures hand { IsHandOf table.now hand.new }
-    ensures seat { HasHeard seat.old seat.new }
-{
-    let mut memo = LeadersMemo::new(own, table, hand);
-    let mut stop = FoundBefore::new(board, seat, number);
-    search_unless_told(alloc, problem, &task.config, &mut memo, limit, &mut stop).ok()
 }
 
 // Searches the configuration of the task of this number over the table. `None` where memory was refused.
@@ -85,10 +55,9 @@ fn search_over_table<O: SeqObject>(
     ensures hand { IsHandOf table.now hand.new }
     ensures seat { HasHeard seat.old seat.new }
 {
-    let mut own = OwnMemo::new(alloc, table.problem());
-    search_before_table(
-        alloc, problem, task, number, &mut own, table, hand, board, seat, limit,
-    )
+    let mut memo = SharedMemo::new(table, hand);
+    let mut stop = FoundBefore::new(board, seat, number);
+    search_unless_told(alloc, problem, &task.config, &mut memo, limit, &mut stop).ok()
 }
 
 // Searches the configuration of the task of this number over the table, after scouting until it leads where it has a role.
