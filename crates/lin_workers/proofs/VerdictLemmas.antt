@@ -1,6 +1,6 @@
 -- What the task whose turn it is tells of the whole problem.
 use Rattle.std.proofs.Common.{◌≡◌, ℕ, suc, ◌+◌, ◌<◌, Bool, Option, Some, None, List, [], ◌∷◌, ◌++◌, length, ◌⊎◌, inl, inr, refl, sym, ◌∙◌, ap, subst, arith}
-use Rattle.std.specs.Prelude.{IfSome, IsSomeAnd, slice_get}
+use Rattle.std.specs.Prelude.{IsSomeAnd, slice_get}
 use Rattle.lin_history.specs.Problems.Problem.{Problem}
 use Rattle.lin_history.specs.Problems.Lists.{IsLeast}
 use Rattle.lin_history.specs.Problems.Continuations.{no_calls, IsContinuation, IsCompletion}
@@ -11,9 +11,7 @@ use Rattle.lin_search.specs.Size.{IsOneOf, AllDifferent, EachOf, HasMany, HasMor
 use Rattle.lin_search.specs.FirstCallLemmas.{continuation_join}
 use Rattle.lin_search.specs.AlikeLemmas.{AreAlike, turned, like_continuation}
 use Rattle.lin_workers.specs.Cut.{LeadsTo, Task, HasNoneBefore}
-use Rattle.lin_workers.specs.Verdict.{IsNextTask, IsObjectVerdict}
-use Rattle.lin_workers.specs.declared.verdict.ObjectVerdict.{ObjectVerdict}
-use Rattle.lin_workers.specs.declared.verdict.ObjectVerdict.TheVariants.{Yes, No, Undecided}
+use Rattle.lin_workers.specs.Verdict.{IsNextTask}
 use Rattle.lin_workers.proofs.RunLemmas.{some_once, joined, root_flags}
 use Rattle.lin_workers.proofs.LevelLemmas.{task_at}
 
@@ -69,13 +67,6 @@ module _ {State Op Reply : Type 0} (p : Problem State Op Reply) where
       each = each_after (IsContinuation p t.config.lifted t.config.state) (IsRun p) t.path h.lists run_of_task h.each;
       count = length_after t.path h.lists ∙ h.count;
     }
-
-  -- a verdict is one within any limit, unless it is undecided
-  pub within_any : (lifts limit : Option ℕ) (v : ObjectVerdict) (o : Option ObjectVerdict) → IfSome o (λ w. w ≡ v) → IfSome o (λ w. w ≡ Undecided → ⊥) → IsObjectVerdict p lifts v → IfSome o (IsObjectVerdict p limit)
-  within_any lifts limit v None same decided h = tt
-  within_any lifts limit v (Some (Yes order)) same decided h = subst (λ (w : ObjectVerdict). IsObjectVerdict p lifts w) (sym same) h
-  within_any lifts limit v (Some (No run)) same decided h = subst (λ (w : ObjectVerdict). IsObjectVerdict p lifts w) (sym same) h
-  within_any lifts limit v (Some Undecided) same decided h = absurd (decided refl)
 
   -- the least completion of the task makes the least linearization
   pub least_found : (t : Task State) → IsNextTask p t → (path : List ℕ) → t.path ≡ path → (m : List ℕ) → IsLeast (IsCompletion p t.config.lifted t.config.state) m → (order : List ℕ) → order ≡ path ++ m → IsLeast (IsLinearization p) order

@@ -275,7 +275,7 @@ fn check_by_any<O: SharedObject, R: Threads + Sync, G: Gate>(
 /// how many configurations were stored.
 ///
 /// The calling thread begins alone, over a memo of its own. Where there is one worker, or the search comes further all the time,
-/// it goes on to the end. Where the last 200,000 lifts and the last third of all have come no further, the search is cut into
+/// it goes on to the end. Where the last 500,000 lifts and the last third of all have come no further, the search is cut into
 /// tasks, which as many workers share as the options say, but not more than there are tasks; what the calling thread refuted
 /// is lent to all of them. A gate that wants workers has them at once.
 /// The tasks are then taken in their order, and the calling thread searches each that has no outcome. The verdict is the same

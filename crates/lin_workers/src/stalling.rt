@@ -16,7 +16,7 @@ use std::sync::atomic::AtomicBool;
 use std::sync::atomic::Ordering::SeqCst;
 
 // A search stalls at the earliest when so many lifts in a row have come no further.
-const PATIENCE: u64 = 200_000;
+const PATIENCE: u64 = 500_000;
 
 // How far a search has come: the greatest sum of the numbers of lifted calls, how many lifts it has made, and how many of
 // them since it came there.
@@ -91,11 +91,12 @@ impl<'a, O: SeqObject, M: Memo<O>> Memo<O> for WatchingMemo<'a, M> {
     ghost changes = { λ old new. (new.memo.ghost_name ≡ old.memo.ghost_name)
         × M.changes old.memo.now new.memo.now };
 
-    ghost holds = { λ m set s. Unit {0} };
+    ghost holds = { λ m. M.holds m.memo.now };
 
     ghost is_of = { λ m p. M.is_of m.memo.now p };
 
-    ghost answers = { λ old p config longest noted new. Unit {0} };
+    ghost answers = { λ old p config longest noted new.
+        M.answers old.memo.now p config longest noted new.memo.now };
 
     fn look(&mut self, problem: &Problem<O>, config: &Config<O>) -> Option<Longest> {
         self.watch(config.lifted().sum());
@@ -138,9 +139,9 @@ impl<'a, O: SeqObject, M: Memo<O>> Memo<O> for WatchingMemo<'a, M> {
       M.chained a.memo.now b.memo.now c.memo.now first.1 second.1,
     ) };
 
-    ghost lasting = { λ a b k set s h. h };
+    ghost lasting = { λ a b k set s h. M.lasting a.memo.now b.memo.now k.1 set s h };
 
-    ghost at_equal = { λ m set s t same h. h };
+    ghost at_equal = { λ m set s t same h. M.at_equal m.memo.now set s t same h };
 
     ghost keeps_problem = { λ a b k p h. M.keeps_problem a.memo.now b.memo.now k.1 p h };
 }

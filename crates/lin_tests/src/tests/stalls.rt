@@ -52,9 +52,9 @@ fn claims_of<R: AllocGlobal + Threads + Sync>(rt: &R, writes: u32) -> Option<u64
     }
 }
 
-// Eleven writes are refuted before their search can stall, of thirteen it stalls at the first 200,000 lifts.
+// Thirteen writes are refuted before their search can stall. Of fourteen it stalls at its first 500,000 lifts.
 #[test]
 fn workers_start_where_a_search_stalls(rt: HostRuntime) {
-    assert!(rt; claims_of(&rt, 11) == Some(0));
-    assert!(rt; matches!(claims_of(&rt, 13), Some(1..)));
+    assert!(rt; claims_of(&rt, 13) == Some(0));
+    assert!(rt; matches!(claims_of(&rt, 14), Some(1..)));
 }
