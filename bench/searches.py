@@ -3,7 +3,7 @@
 
     bench/searches.py [RUNS]
 
-Builds `bench/searches.program` by `bench/as_if_proved.py` (two minutes), and runs it RUNS times (9) in each way on histories of
+Builds `bench/searches.program` by `bin/build_unproved.py` (two minutes), and runs it RUNS times (9) in each way on histories of
 `bench/histories.py`, in turn. Prints the processor seconds of the searches alone: the least of the runs, less the least that
 reading takes; and how many times as much they take over the table. Run it with nothing beside.
 """
@@ -15,8 +15,8 @@ import tempfile
 from pathlib import Path
 
 BENCH = Path(__file__).resolve().parent
-sys.path.insert(0, str(BENCH))
-import as_if_proved
+sys.path.insert(0, str(BENCH.parent / "bin"))
+import build_unproved
 
 HISTORIES = [
     ("register_5_no", 4096), ("register_10", 4096), ("register_10_no", 4096), ("queue", 4096), ("queue_no", 4096),
@@ -39,7 +39,7 @@ def main():
     times = {way: [] for way in WAYS[2:]}
     with tempfile.TemporaryDirectory() as folder:
         program, history = Path(folder) / "searches", Path(folder) / "history"
-        as_if_proved.build(program, BENCH / "searches.program")
+        build_unproved.build(program, BENCH / "searches.program", as_if_proved=True)
         for family, size in HISTORIES:
             with open(history, "w") as out:
                 subprocess.run([BENCH / "histories.py", family, str(size)], stdout=out, check=True)

@@ -3,7 +3,7 @@
 
     bench/table.py [RUNS]
 
-Builds `bench/table.program` by `bench/as_if_proved.py` (two minutes), and runs it RUNS times (7) in each way, in turn. A pair is
+Builds `bench/table.program` by `bin/build_unproved.py` (two minutes), and runs it RUNS times (7) in each way, in turn. A pair is
 a look that finds its configuration and a note of it, which is known. Prints the nanoseconds of a pair, the least and the
 middle of the runs: of processor time with one thread, and of the time by the clock with four. Run it with nothing beside.
 """
@@ -15,8 +15,8 @@ import tempfile
 import time
 from pathlib import Path
 
-sys.path.insert(0, str(Path(__file__).resolve().parent))
-import as_if_proved
+sys.path.insert(0, str(Path(__file__).resolve().parent.parent / "bin"))
+import build_unproved
 
 WAYS = [("own", 1), ("one", 16), ("one", 256), ("many", 16), ("many", 256)]
 TIMES = 10
@@ -42,7 +42,7 @@ def main():
     runs = int(sys.argv[1]) if len(sys.argv) > 1 else 7
     with tempfile.TemporaryDirectory() as folder:
         program = Path(folder) / "table"
-        as_if_proved.build(program, Path(__file__).resolve().parent / "table.program")
+        build_unproved.build(program, Path(__file__).resolve().parent / "table.program", as_if_proved=True)
         told = {way: [] for way in WAYS}
         for _ in range(runs):
             for way in WAYS:
