@@ -151,7 +151,7 @@ pub(super) fn stored(table: Table<'_, AnyObject>, hands: Vec<Hand<AnyObject>>, c
 }
 
 // Whether the table stored so many configurations with these two hands.
-fn stored_by_both(
+pub(super) fn stored_by_both(
     alloc: Global,
     table: Table<'_, AnyObject>,
     one: Hand<AnyObject>,

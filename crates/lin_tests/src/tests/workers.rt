@@ -2,14 +2,15 @@
 
 ghost use Rattle.std.specs.Prelude.{◌≡◌, IfOk, IfSome};
 ghost use Rattle.lin_board.specs.Board.{IsSeatOf};
+ghost use Rattle.lin_table.specs.Hand.{IsHandOf};
 
 use super::boards::tallies;
 use super::searches::{Part, READ_OF_NO_WRITTEN_VALUE, posed_by};
-use super::tables::stored;
+use super::tables::{stored, stored_by_both};
 use lin_board::{Board, Seat};
-use lin_object::Kind;
+use lin_object::{AnyObject, Kind};
 use lin_search::{Longest, Outcome};
-use lin_table::Table;
+use lin_table::{Hand, Table};
 use lin_workers::{Done, FreeGate, cut, work};
 use std::alloc::{AllocError, Global};
 
@@ -63,28 +64,71 @@ fn brings(
     }
 }
 
-// Whether a worker alone refutes each of three tasks, and stores what is below them.
-fn refutes_each_task(alloc: Global, problem: &Part) -> Result<bool, AllocError> {
+// The hand of a worker alone that goes through the tasks of a new board over this table, where it refutes each within this
+// limit.
+fn refutes_within(
+    alloc: Global,
+    problem: &Part,
+    table: &Table<'_, AnyObject>,
+    hand: Hand<AnyObject>,
+    limit: Option<u64>,
+) -> Result<Option<Hand<AnyObject>>, AllocError>
+    requires { IsHandOf table.now hand }
+    ensures { IfOk result (λ hand. IfSome hand (λ hand. IsHandOf table.now hand)) }
+{
+    let tasks = cut(alloc, problem, 2)?;
     let (board, mut seats) = Board::new(alloc, 3, 1)?;
     let Some(seat) = seats.pop() else {
-        return Ok(false);
+        return Ok(None);
     };
+    if tasks.len() != 3 {
+        return Ok(None);
+    }
+    let done = work(
+        alloc,
+        problem,
+        tasks.as_slice(),
+        table,
+        hand,
+        &board,
+        seat,
+        &FreeGate,
+        limit,
+    );
+    let Done { values, hand, seat } = done;
+    seats.push(seat)?;
     let brought = [
         (0, refuted_with(1)),
         (1, refuted_with(0)),
         (2, refuted_with(0)),
     ];
-    let Some(seat) = brings(alloc, problem, &board, seat, &brought, 12)? else {
+    if values.as_slice() == brought.as_slice() && tallies(board, seats, 3, None) {
+        Ok(Some(hand))
+    } else {
+        Ok(None)
+    }
+}
+
+// Whether a worker refutes each of three tasks and stores what is below them, and another one after it finds all of that:
+// it tries one call for each task at the most.
+fn refute_one_after_the_other(alloc: Global, problem: &Part) -> Result<bool, AllocError> {
+    let (table, mut hands) = Table::new(alloc, problem, 1, 2)?;
+    let (Some(other), Some(one)) = (hands.pop(), hands.pop()) else {
         return Ok(false);
     };
-    seats.push(seat)?;
-    Ok(tallies(board, seats, 3, None))
+    let Some(one) = refutes_within(alloc, problem, &table, one, None)? else {
+        return Ok(false);
+    };
+    let Some(other) = refutes_within(alloc, problem, &table, other, Some(1))? else {
+        return Ok(false);
+    };
+    stored_by_both(alloc, table, one, other, 12)
 }
 
 #[test]
-fn a_worker_refutes_each_task(rt: HostRuntime) {
+fn a_worker_refutes_each_task_and_another_finds_that(rt: HostRuntime) {
     let problem = posed_by(rt.alloc(), Kind::Register, &READ_OF_NO_WRITTEN_VALUE);
-    assert!(rt; matches!(refutes_each_task(rt.alloc(), &problem), Ok(true)));
+    assert!(rt; matches!(refute_one_after_the_other(rt.alloc(), &problem), Ok(true)));
 }
 
 // Whether a worker stops at each task after the first, for which another seat told that something was found.

@@ -1,0 +1,229 @@
+//! Workers that meet: two of them really work at once. Each wait has a bound, so a worker that worked alone would end too.
+
+use lin_history::{History, Problem};
+use lin_object::{AnyObject, ObjState, Op, Reply, SeqObject};
+use lin_text::read_history;
+use lin_workers::{Gate, ObjectVerdict, check_object};
+use lincheck::{Options, check, report};
+use std::alloc::{AllocError, Global};
+use std::sync::atomic::AtomicU64;
+use std::sync::atomic::Ordering::SeqCst;
+use std::thread;
+use std::thread::Threads;
+
+// How often whoever waits looks whether another came.
+const TURNS: u64 = 100_000_000;
+
+// Comes, and waits until two have come. Whether they have.
+fn meets(came: &AtomicU64) -> bool {
+    came.fetch_add(1, SeqCst);
+    for _ in 0..TURNS {
+        if came.load(SeqCst) > 1 {
+            return true;
+        }
+        thread::yield_now();
+    }
+    false
+}
+
+// An object that answers as `AnyObject` does. Once a worker has entered the gate, a step of process 4 waits until two such
+// steps have met.
+#[derive(Drop)]
+struct Meeting {
+    entered: AtomicU64,
+    came: AtomicU64,
+    missed: AtomicU64,
+}
+
+impl Meeting {
+    fn new() -> Self {
+        Meeting {
+            entered: AtomicU64::new(0),
+            came: AtomicU64::new(0),
+            missed: AtomicU64::new(0),
+        }
+    }
+
+    // Waits for another step of process 4, where this is one.
+    fn wait_for_another(&self, process: u32) {
+        if process == 4 && self.entered.load(SeqCst) > 0 && !meets(&self.came) {
+            self.missed.fetch_add(1, SeqCst);
+        }
+    }
+
+    // Whether two steps of process 4 have met, and none waited in vain.
+    fn have_met(&self) -> bool {
+        self.came.load(SeqCst) > 1 && self.missed.load(SeqCst) == 0
+    }
+}
+
+impl PartialEq for Meeting {
+    ghost use Rattle.std.specs.Prelude.{true};
+    ghost use Rattle.std.specs.Cmp.Rules.{comparing};
+    ghost use Rattle.std.proofs.Common.{rules};
+
+    ghost eq = { λ x y. true };
+
+    ghost laws = { Prim.search (comparing, rules) };
+
+    fn eq(&self, other: &Meeting) -> bool {
+        true
+    }
+}
+
+impl Eq for Meeting {
+    ghost use Rattle.std.specs.Cmp.Rules.{comparing};
+    ghost use Rattle.std.proofs.Common.{rules};
+
+    ghost laws = { Prim.search (comparing, rules) };
+}
+
+impl SeqObject for Meeting {
+    ghost use Rattle.lin_object.specs.Kinds.{after as step_of};
+
+    type State = ObjState;
+
+    type Op = Op;
+
+    type Reply = Reply;
+
+    ghost after = { λ _ state process op. step_of state process op };
+
+    fn step(
+        &self,
+        alloc: Global,
+        state: &ObjState,
+        process: u32,
+        op: &Op,
+    ) -> Result<Option<(ObjState, Reply)>, AllocError> {
+        self.wait_for_another(process);
+        AnyObject.step(alloc, state, process, op)
+    }
+
+    fn copy_state(&self, alloc: Global, state: &ObjState) -> Result<ObjState, AllocError> {
+        AnyObject.copy_state(alloc, state)
+    }
+
+    ghost use Rattle.lin_object.specs.StepLemmas.{alike};
+
+    ghost steps_alike = { λ x y s t process a b same_object same_state same_op. alike s t process a b same_state same_op };
+}
+
+// A gate that tells the object of a problem that a worker entered.
+#[derive(Drop)]
+struct Telling<'a> {
+    problem: &'a Problem<Meeting>,
+}
+
+impl<'a> Gate for Telling<'a> {
+    fn enter(&self, _task: u64) {
+        self.problem.object().entered.fetch_add(1, SeqCst);
+    }
+}
+
+// Three writes at once, and after them a read of what nobody wrote. An event that is refused is left out.
+fn read_of_no_written_value(alloc: Global) -> Problem<Meeting> {
+    let mut problem = Problem::new(alloc, Meeting::new(), ObjState::Register(0));
+    for value in 1..4u32 {
+        let _ = problem.add_call(value, Op::Write(i64::from(value)), value);
+    }
+    for call in 0..3u32 {
+        let _ = problem.add_return(call as usize, Reply::Okay, call + 4);
+    }
+    let _ = problem.add_call(4, Op::Read, 7);
+    let _ = problem.add_return(3, Reply::Int(9), 8);
+    problem
+}
+
+// Whether two workers refute the problem, with the longest run, and meet in its object.
+fn meet_in_the_object<R: AllocGlobal + Threads + Sync>(
+    rt: &R,
+    problem: &Problem<Meeting>,
+) -> bool {
+    let Ok(options) = Options::new(2, 16, None, false) else {
+        return false;
+    };
+    match check_object(rt, problem, &options, &Telling { problem }) {
+        Ok((ObjectVerdict::No(order), _)) => {
+            order.calls() == [0, 1, 2].as_slice() && problem.object().have_met()
+        }
+        _ => false,
+    }
+}
+
+#[test]
+fn two_workers_meet_in_the_object(rt: HostRuntime) {
+    let problem = read_of_no_written_value(rt.alloc());
+    assert!(rt; meet_in_the_object(&rt, &problem));
+}
+
+// A gate at which the workers of the first two tasks wait for each other.
+#[derive(Drop)]
+struct Waiting {
+    came: AtomicU64,
+    met: AtomicU64,
+}
+
+impl Gate for Waiting {
+    fn enter(&self, task: u64) {
+        if task < 2 && meets(&self.came) {
+            self.met.fetch_add(1, SeqCst);
+        }
+    }
+}
+
+const REFUTED: &str = r#"{"event":"object","object":"x","kind":"register"}
+{"event":"call","process":1,"object":"x","op":"write","args":[1]}
+{"event":"call","process":2,"object":"x","op":"write","args":[2]}
+{"event":"call","process":3,"object":"x","op":"write","args":[3]}
+{"event":"return","process":1,"object":"x","result":"ok"}
+{"event":"return","process":2,"object":"x","result":"ok"}
+{"event":"return","process":3,"object":"x","result":"ok"}
+{"event":"call","process":4,"object":"x","op":"read"}
+{"event":"return","process":4,"object":"x","result":9}
+"#;
+
+const REPORT: &str = "not linearizable: x
+longest run: 3 of 4 calls
+1 1 x write(1) = ok
+2 2 x write(2) = ok
+3 3 x write(3) = ok
+";
+
+// Whether the check of this history with two workers has this report.
+fn is_reported<R: AllocGlobal + Threads + Sync>(
+    rt: &R,
+    alloc: Global,
+    history: &History,
+    gate: &Waiting,
+) -> Result<bool, AllocError> {
+    let Ok(options) = Options::new(2, 16, None, false) else {
+        return Ok(false);
+    };
+    match check(rt, history, &options, gate) {
+        Ok(checked) => {
+            Ok(report(alloc, history, &checked.verdict)?.as_slice() == REPORT.as_bytes())
+        }
+        Err(_) => Ok(false),
+    }
+}
+
+// Whether two workers meet at the gate, and the report is as it should be.
+fn meet_at_the_gate<R: AllocGlobal + Threads + Sync>(
+    rt: &R,
+    alloc: Global,
+) -> Result<bool, AllocError> {
+    let Ok(history) = read_history(alloc, REFUTED.as_bytes()) else {
+        return Ok(false);
+    };
+    let gate = Waiting {
+        came: AtomicU64::new(0),
+        met: AtomicU64::new(0),
+    };
+    Ok(is_reported(rt, alloc, &history, &gate)? && gate.met.load(SeqCst) == 2)
+}
+
+#[test]
+fn two_workers_meet_at_the_gate(rt: HostRuntime) {
+    assert!(rt; matches!(meet_at_the_gate(&rt, rt.alloc()), Ok(true)));
+}
