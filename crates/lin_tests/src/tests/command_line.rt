@@ -1,6 +1,6 @@
 //! What the words after the program's name ask for, with ample memory.
 
-use lincheck::{Options, Request, options_of};
+use lincheck::{OptionFault, Options, Request, options_of};
 use std::alloc::{AllocError, Global};
 
 // What these words ask for.
@@ -66,4 +66,18 @@ fn other_words_are_refused(rt: HostRuntime) {
     assert!(rt; matches!(is_refused(rt.alloc(), &["--limit", "0"]), Ok(true)));
     assert!(rt; matches!(is_refused(rt.alloc(), &["extra"]), Ok(true)));
     assert!(rt; matches!(is_helped(rt.alloc(), &["--help"]), Ok(true)));
+}
+
+const REFUSED: [(u64, u64, Option<u64>, OptionFault); 4] = [
+    (0, 0, None, OptionFault::Workers),
+    (65, 16, None, OptionFault::Workers),
+    (1, 257, None, OptionFault::Shards),
+    (1, 1, Some(0), OptionFault::Limit),
+];
+
+#[test]
+fn options_are_refused_in_order(rt: HostRuntime) {
+    for (workers, shards, limit, fault) in REFUSED {
+        assert!(rt; Options::new(workers, shards, limit, false) == Err(fault));
+    }
 }

@@ -1,7 +1,7 @@
 //! Workers that meet: two of them really work at once. Each wait has a bound, so a worker that worked alone would end too.
 
+use super::watched::{Watch, Watched, read_of_no_written_value};
 use lin_history::{History, Problem};
-use lin_object::{AnyObject, ObjState, Op, Reply, SeqObject};
 use lin_text::read_history;
 use lin_workers::{Gate, ObjectVerdict, check_object};
 use lincheck::{Options, check, report};
@@ -26,8 +26,7 @@ fn meets(came: &AtomicU64) -> bool {
     false
 }
 
-// An object that answers as `AnyObject` does. Once a worker has entered the gate, a step of process 4 waits until two such
-// steps have met.
+// Once a worker has entered the gate, a step of process 4 waits until two such steps have met.
 #[derive(Drop)]
 struct Meeting {
     entered: AtomicU64,
@@ -44,108 +43,44 @@ impl Meeting {
         }
     }
 
-    // Waits for another step of process 4, where this is one.
-    fn wait_for_another(&self, process: u32) {
-        if process == 4 && self.entered.load(SeqCst) > 0 && !meets(&self.came) {
-            self.missed.fetch_add(1, SeqCst);
-        }
-    }
-
     // Whether two steps of process 4 have met, and none waited in vain.
     fn have_met(&self) -> bool {
         self.came.load(SeqCst) > 1 && self.missed.load(SeqCst) == 0
     }
 }
 
-impl PartialEq for Meeting {
-    ghost use Rattle.std.specs.Prelude.{true};
-    ghost use Rattle.std.specs.Cmp.Rules.{comparing};
-    ghost use Rattle.std.proofs.Common.{rules};
-
-    ghost eq = { λ x y. true };
-
-    ghost laws = { Prim.search (comparing, rules) };
-
-    fn eq(&self, other: &Meeting) -> bool {
-        true
+impl Watch for Meeting {
+    fn refuses(&self, process: Option<u32>) -> bool {
+        if process == Some(4) && self.entered.load(SeqCst) > 0 && !meets(&self.came) {
+            self.missed.fetch_add(1, SeqCst);
+        }
+        false
     }
-}
-
-impl Eq for Meeting {
-    ghost use Rattle.std.specs.Cmp.Rules.{comparing};
-    ghost use Rattle.std.proofs.Common.{rules};
-
-    ghost laws = { Prim.search (comparing, rules) };
-}
-
-impl SeqObject for Meeting {
-    ghost use Rattle.lin_object.specs.Kinds.{after as step_of};
-
-    type State = ObjState;
-
-    type Op = Op;
-
-    type Reply = Reply;
-
-    ghost after = { λ _ state process op. step_of state process op };
-
-    fn step(
-        &self,
-        alloc: Global,
-        state: &ObjState,
-        process: u32,
-        op: &Op,
-    ) -> Result<Option<(ObjState, Reply)>, AllocError> {
-        self.wait_for_another(process);
-        AnyObject.step(alloc, state, process, op)
-    }
-
-    fn copy_state(&self, alloc: Global, state: &ObjState) -> Result<ObjState, AllocError> {
-        AnyObject.copy_state(alloc, state)
-    }
-
-    ghost use Rattle.lin_object.specs.StepLemmas.{alike};
-
-    ghost steps_alike = { λ x y s t process a b same_object same_state same_op. alike s t process a b same_state same_op };
 }
 
 // A gate that tells the object of a problem that a worker entered.
 #[derive(Drop)]
 struct Telling<'a> {
-    problem: &'a Problem<Meeting>,
+    problem: &'a Problem<Watched<Meeting>>,
 }
 
 impl<'a> Gate for Telling<'a> {
     fn enter(&self, _task: u64) {
-        self.problem.object().entered.fetch_add(1, SeqCst);
+        self.problem.object().watch.entered.fetch_add(1, SeqCst);
     }
-}
-
-// Three writes at once, and after them a read of what nobody wrote. An event that is refused is left out.
-fn read_of_no_written_value(alloc: Global) -> Problem<Meeting> {
-    let mut problem = Problem::new(alloc, Meeting::new(), ObjState::Register(0));
-    for value in 1..4u32 {
-        let _ = problem.add_call(value, Op::Write(i64::from(value)), value);
-    }
-    for call in 0..3u32 {
-        let _ = problem.add_return(call as usize, Reply::Okay, call + 4);
-    }
-    let _ = problem.add_call(4, Op::Read, 7);
-    let _ = problem.add_return(3, Reply::Int(9), 8);
-    problem
 }
 
 // Whether two workers refute the problem, with the longest run, and meet in its object.
 fn meet_in_the_object<R: AllocGlobal + Threads + Sync>(
     rt: &R,
-    problem: &Problem<Meeting>,
+    problem: &Problem<Watched<Meeting>>,
 ) -> bool {
     let Ok(options) = Options::new(2, 16, None, false) else {
         return false;
     };
     match check_object(rt, problem, &options, &Telling { problem }) {
         Ok((ObjectVerdict::No(order), _)) => {
-            order.calls() == [0, 1, 2].as_slice() && problem.object().have_met()
+            order.calls() == [0, 1, 2].as_slice() && problem.object().watch.have_met()
         }
         _ => false,
     }
@@ -153,7 +88,7 @@ fn meet_in_the_object<R: AllocGlobal + Threads + Sync>(
 
 #[test]
 fn two_workers_meet_in_the_object(rt: HostRuntime) {
-    let problem = read_of_no_written_value(rt.alloc());
+    let problem = read_of_no_written_value(rt.alloc(), Meeting::new());
     assert!(rt; meet_in_the_object(&rt, &problem));
 }
 
