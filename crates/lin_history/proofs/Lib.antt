@@ -1,3 +1,4 @@
+pub mod LimitFacts
 pub mod ListLemmas
 pub mod VerifierLemmas
 pub mod ProblemLemmas

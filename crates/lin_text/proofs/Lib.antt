@@ -1,3 +1,4 @@
+pub mod LimitFacts
 pub mod FlatLemmas
 pub mod CauseLemmas
 pub mod JsonLemmas

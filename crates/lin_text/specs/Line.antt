@@ -40,6 +40,8 @@ is_kind Header (Some Header) = true
 is_kind Declaration (Some Declaration) = true
 is_kind Call (Some Call) = true
 is_kind Return (Some Return) = true
+is_kind Fail (Some Fail) = true
+is_kind Info (Some Info) = true
 is_kind _ _ = false
 
 -- It is an event of a process.

@@ -14,7 +14,7 @@ use Rattle.lin_history.specs.declared.problems.timeline.ProblemEvent.TheVariants
 use Rattle.lin_history.specs.Problems.ProblemParts.{AreTimed}
 use Rattle.lin_history.specs.Problems.Problem.{Problem}
 use Rattle.lin_history.specs.Problems.Precedence.{Before, IsCompleted}
-use Rattle.lin_history.specs.Problems.Timeline.{IsTimeline}
+use Rattle.lin_history.specs.Problems.Timeline.{IsTimeline, HasNumber}
 use Rattle.lin_history.specs.Problems.NumberedEvents.{number_at, event_at, return_of, events_of_call, events_from}
 use Rattle.lin_history.specs.OptionLemmas.{some_and, and_some, some_is}
 use Rattle.lin_history.specs.Problems.EventLemmas.{call_of, call_or_return, same_call, same_return}
@@ -324,6 +324,27 @@ module _ {State Op Reply : Type 0} (p : Problem State Op Reply) (timed : AreTime
       let low = y.2 in let e = k.6 in let f = m.4 in
       sorted_before s i j k.0 m.0 up k.3 m.2 (omega (arith, low, same_r, same_y, e, f))
 
+  -- the number of the event at a place is the one that it was sorted by
+  numbered_at : (i n : ℕ) (e : ProblemEvent) → slice_get (map event_at s) i ≡ Some e → HasNumber p e n → (t : Timed) × (slice_get s i ≡ Some t) × (t.number ≡ n)
+  numbered_at i n (Call c) at h =
+      let k = call_at i c at in
+      let x = some_and (slice_get p.calls c) (λ x. x.called ≡ n) h in
+      (k.0, k.2, k.4 ∙ ap (λ (z : ProblemCall Op Reply). z.called) (one_call c k.1 x.0 k.3 x.1) ∙ x.2)
+  numbered_at i n (Return c) at h =
+      let k = return_at i c at in
+      let x = some_and (slice_get p.calls c) (λ x. IsSomeAnd x.returned (λ r. r.0 ≡ n)) h in
+      let r = some_and x.0.returned (λ r. r.0 ≡ n) x.2 in
+      let same = ap (λ (z : ProblemCall Op Reply). z.returned) (one_call c x.0 k.1 x.1 k.4) ∙ k.5 in
+      (k.0, k.3, k.6 ∙ ap (λ (z : ℕ × Reply). z.0) (one_return x.0.returned k.2 r.0 same r.1) ∙ r.2)
+
+  numbers_rise : (i j m n : ℕ) (d e : ProblemEvent) → slice_get (map event_at s) i ≡ Some d → slice_get (map event_at s) j ≡ Some e → i < j → HasNumber p d m → HasNumber p e n → m ≤ n
+  numbers_rise i j m n d e at there h first second =
+      let t = numbered_at i m d at first in
+      let u = numbered_at j n e there second in
+      let low = sorted_low s i j t.0 u.0 up (omega (arith, h)) t.1 u.1 in
+      let a = t.2 in let b = u.2 in
+      omega (arith, low, a, b)
+
   timeline_sorted : IsTimeline p (map event_at s)
   timeline_sorted = record {
     called = has_called;
@@ -331,6 +352,7 @@ module _ {State Op Reply : Type 0} (p : Problem State Op Reply) (timed : AreTime
     of_call = λ i c e. let k = call_at i c e in slice_get_within p.calls c k.1 k.3;
     of_return = λ i c e. completed i c (return_at i c e);
     once = stands_once;
+    rises = numbers_rise;
     in_order = λ a b i j e f h. calls_rise a b i j (call_at i a e) (call_at j b f) h;
     after_call = λ a i j e f. returns_after a i j (call_at i a e) (return_at j a f);
     precedence = λ a b i j e f. (λ h. comes_before a b i j (return_at i a e) (call_at j b f) h, λ h. stands_before a b i j (return_at i a e) (call_at j b f) h);

@@ -9,7 +9,7 @@ use Rattle.lin_object.specs.declared.reply.Reply.{Reply}
 use Rattle.lin_history.specs.declared.recorder.history.CallInfo.{CallInfo}
 use Rattle.lin_history.specs.Recorder.Events.{Call}
 use Rattle.lin_history.specs.Recorder.RecordedHistory.{is_on}
-use Rattle.lin_history.specs.Recorder.Views.{call_view, count_on, AreNumbered}
+use Rattle.lin_history.specs.Recorder.Views.{call_view, count_on, AreFinished}
 use Rattle.lin_history.proofs.ListLemmas.{slice_get-set, length_filter-push}
 use Rattle.lin_history.proofs.RecorderLemmas.BuilderLemmas.{false_from}
 use Rattle.lin_history.specs.declared.recorder.history.Mark.TheVariants.{Unmarked}
@@ -63,7 +63,7 @@ module _ {A : Type 0} where
 -- The calls before this index have their numbers, and the counts count them.
 pub record IsNumbering (seen : List (Call Op Reply)) (calls : List CallInfo) (counts : List ℕ) (n : ℕ) : Type 0 where
   pub same : map call_view calls ≡ seen
-  pub numbers : (i : ℕ) (c : CallInfo) → i < n → slice_get calls i ≡ Some c → c.number ≡ count_on c.object (take i seen)
+  pub numbers : (i : ℕ) (c : CallInfo) → i < n → slice_get calls i ≡ Some c → (c.number ≡ count_on c.object (take i seen)) × (c.mark ≡ Unmarked)
   pub counted : (object : ℕ) (k : ℕ) → slice_get counts object ≡ Some k → k ≡ count_on object (take n seen)
   pub below : (i : ℕ) (c : CallInfo) → slice_get calls i ≡ Some c → c.object < length counts
 
@@ -123,13 +123,13 @@ module _ (seen : List (Call Op Reply)) (calls : List CallInfo) (counts : List �
             omega (arith, was, now))
       ]
 
-  numbers_next : (i : ℕ) (d : CallInfo) → i < n + 1 → slice_get (set calls n numbered) i ≡ Some d → d.number ≡ count_on d.object (take i seen)
+  numbers_next : (i : ℕ) (d : CallInfo) → i < n + 1 → slice_get (set calls n numbered) i ≡ Some d → (d.number ≡ count_on d.object (take i seen)) × (d.mark ≡ Unmarked)
   numbers_next i d less at =
       elim (slice_get-set calls n numbered i d at) [
         | inl new ↦ (
-            let P : CallInfo → Type 0 = λ x. x.number ≡ count_on x.object (take i seen) in
+            let P : CallInfo → Type 0 = λ x. (x.number ≡ count_on x.object (take i seen)) × (x.mark ≡ Unmarked) in
             let here : k ≡ count_on c.object (take n seen) = is.counted c.object k count in
-            subst P new.1 (subst (λ j. k ≡ count_on c.object (take j seen)) (sym new.0) here))
+            subst P new.1 (subst (λ j. k ≡ count_on c.object (take j seen)) (sym new.0) here, refl))
         | inr old ↦ (let other = old.0 in is.numbers i d (omega (arith, less, other)) old.1)
       ]
 
@@ -163,7 +163,7 @@ numbering_next seen calls calls' counts counts' n is within made = at (slice_get
         let new = rw there at h in
         rw (new.0, new.1) (next_numbering seen calls counts n is c (get_or counts c.object 0) e there)
 
-pub numbering_done : (seen : List (Call Op Reply)) (calls : List CallInfo) (counts : List ℕ) (n : ℕ) → IsNumbering seen calls counts n → length calls ≤ n → AreNumbered calls
+pub numbering_done : (seen : List (Call Op Reply)) (calls : List CallInfo) (counts : List ℕ) (n : ℕ) → IsNumbering seen calls counts n → length calls ≤ n → AreFinished calls
 numbering_done seen calls counts n is over i c there =
     let within = slice_get_within calls i c there in
     rw (map_taken call_view i calls, is.same) (is.numbers i c (omega (arith, within, over)) there)

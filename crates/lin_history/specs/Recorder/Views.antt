@@ -5,6 +5,7 @@ use Rattle.lin_object.specs.declared.op.Op.{Op}
 use Rattle.lin_object.specs.declared.reply.Reply.{Reply}
 use Rattle.lin_history.specs.declared.limits.TheConstants.{MAX_CALLS_ON_OBJECT}
 use Rattle.lin_history.specs.declared.recorder.history.CallInfo.{CallInfo}
+use Rattle.lin_history.specs.declared.recorder.history.Mark.TheVariants.{Unmarked}
 use Rattle.lin_history.specs.declared.recorder.history.Declaration.{Declaration}
 use Rattle.lin_history.specs.Recorder.Events.{Call}
 use Rattle.lin_history.specs.Recorder.RecordedHistory.{DeclaredObject, is_on}
@@ -25,6 +26,6 @@ count_on object calls = length (filter (is_on object) calls)
 abbrev pub AreWithinLimit : List (Call Op Reply) → Type 0
 AreWithinLimit calls = (object : ℕ) → count_on object calls ≤ MAX_CALLS_ON_OBJECT
 
--- Each call has as its number how many calls before it are on its object.
-abbrev pub AreNumbered : List CallInfo → Type 0
-AreNumbered calls = (i : ℕ) (c : CallInfo) → slice_get calls i ≡ Some c → c.number ≡ count_on c.object (map call_view (take i calls))
+-- Each call is as a finished history keeps it: its number is how many calls before it are on its object, and it has no mark.
+abbrev pub AreFinished : List CallInfo → Type 0
+AreFinished calls = (i : ℕ) (c : CallInfo) → slice_get calls i ≡ Some c → (c.number ≡ count_on c.object (map call_view (take i calls))) × (c.mark ≡ Unmarked)

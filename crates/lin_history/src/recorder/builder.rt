@@ -6,7 +6,7 @@ ghost use Rattle.lin_history.specs.Refusals.{first_that_holds};
 ghost use Rattle.lin_history.specs.Recorder.Events.{calls, returns_, fails, ends, is_kept, calls_of};
 ghost use Rattle.lin_history.specs.Recorder.Names.{is_name};
 ghost use Rattle.lin_history.specs.Recorder.Recording.{is_pending, is_unknown, is_last_of, count_made_on, index_named, kind_named, declaration_refusals, end_refusals};
-ghost use Rattle.lin_history.specs.Recorder.Views.{object_view, call_view, AreNumbered};
+ghost use Rattle.lin_history.specs.Recorder.Views.{object_view, call_view, AreFinished};
 ghost use Rattle.lin_history.specs.Recorder.BuilderState.{recorded, made_view, name_refusals, process_refusals, KnowsLast, AreCounts, IsPendingAt};
 
 use crate::limits::{MAX_CALLS, MAX_CALLS_ON_OBJECT, MAX_OBJECTS};
@@ -377,7 +377,7 @@ fn number_calls(calls: &mut [CallInfo], counts: &mut [usize])
     requires { (i : ℕ) (c : CallInfo) → slice_get calls.old i ≡ Some c
         → c.object < length counts.old }
     ensures same { map call_view calls.new ≡ map call_view calls.old }
-    ensures numbered { AreNumbered calls.new }
+    ensures numbered { AreFinished calls.new }
 {
     clear(counts);
     for call in 0..calls.len() {
@@ -399,7 +399,7 @@ fn kept_calls(calls: Vec<CallInfo>, counts: Vec<usize>) -> Vec<CallInfo>
     requires { (i : ℕ) (c : CallInfo) → slice_get calls.items i ≡ Some c
         → c.object < length counts.items }
     ensures kept { map call_view result.items ≡ calls_of (map made_view calls.items) }
-    ensures numbered { AreNumbered result.items }
+    ensures numbered { AreFinished result.items }
 {
     let mut kept = without_failed(calls);
     let mut counts = counts;

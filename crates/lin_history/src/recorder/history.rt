@@ -89,7 +89,7 @@ pub struct History {
 impl Model for History {
     ghost use Rattle.std.specs.Prelude.{map};
     ghost use Rattle.lin_history.specs.Recorder.RecordedHistory.{RecordedHistory, IsHistory};
-    ghost use Rattle.lin_history.specs.Recorder.Views.{object_view, call_view, AreNumbered, AreWithinLimit};
+    ghost use Rattle.lin_history.specs.Recorder.Views.{object_view, call_view, AreFinished, AreWithinLimit};
 
     ghost Value = { RecordedHistory };
 
@@ -103,7 +103,7 @@ impl Model for History {
       objects = map object_view h.objects.entries;
       calls = map call_view h.calls.items;
       events = h.events;
-    }) × AreNumbered h.calls.items × AreWithinLimit (map call_view h.calls.items) };
+    }) × AreFinished h.calls.items × AreWithinLimit (map call_view h.calls.items) };
 }
 
 // The object of this index.
@@ -151,10 +151,10 @@ fn problem_at(
 
 impl History {
     ghost use Rattle.lin_history.specs.Recorder.RecordedHistory.{IsHistory};
-    ghost use Rattle.lin_history.specs.Recorder.Views.{count_on, AreNumbered, AreWithinLimit};
+    ghost use Rattle.lin_history.specs.Recorder.Views.{count_on, AreFinished, AreWithinLimit};
 
     /// The history of these objects, calls and number of events. Condition: it is one, each call has its
-    /// number among the calls on its object, and no object has more than 16,384 calls.
+    /// number among the calls on its object and no mark, and no object has more than 16,384 calls.
     pub(crate) fn new(
         objects: IndexMap<String, Declaration>,
         calls: Vec<CallInfo>,
@@ -165,7 +165,7 @@ impl History {
           calls = map call_view calls.items;
           events = events;
         }) }
-        requires numbers { AreNumbered calls.items }
+        requires numbers { AreFinished calls.items }
         requires limited { AreWithinLimit (map call_view calls.items) }
         ensures { result ≡ record {
           objects = map object_view objects.entries;
@@ -211,6 +211,7 @@ impl History {
         ensures call { slice_get self.now.calls call ≡ Some (call_view result.now) }
         ensures number { result.now.number ≡ count_on result.now.object (take call self.now.calls) }
         ensures declared { result.now.object < length self.now.objects }
+        ensures unmarked { result.now.mark ≡ Mark.Unmarked }
     {
         &self.calls[call]
     }

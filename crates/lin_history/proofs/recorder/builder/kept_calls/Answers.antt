@@ -13,3 +13,8 @@ returns-clause-kept c =
     let same : length c.number_calls.new.calls ≡ c.without_failed-kept.result.len = c.number_calls.auto.calls ∙ c.as_mut_slice.ensures.len in
     rw (written_over c.without_failed-kept.result.len c.number_calls.new.calls (drop (length c.number_calls.new.calls) c.without_failed-kept.result.items) same)
     (c.number_calls.ensures.same ∙ ap (map call_view) (c.as_mut_slice.ensures.value ∙ c.without_failed-kept.ensures) ∙ kept_seen c.args.calls.items)
+
+pub returns-clause-numbered : goal.returns-clause-numbered
+returns-clause-numbered c =
+    let same : length c.number_calls.new.calls ≡ c.without_failed-kept.result.len = c.number_calls.auto.calls ∙ c.as_mut_slice.ensures.len in
+    rw (written_over c.without_failed-kept.result.len c.number_calls.new.calls (drop (length c.number_calls.new.calls) c.without_failed-kept.result.items) same) c.number_calls.ensures.numbered

@@ -13,7 +13,15 @@ returns-clause-number c =
     let count : length (map call_view c.self.inside.calls.items) ≡ length c.args.self.now.calls = ap length calls in
     let within : c.args.call < length c.self.inside.calls.items = omega (arith, c.requires, count, length-map c.self.inside.calls.items call_view) in
     let there = slice_get_read c.self.inside.calls.items (length c.self.inside.calls.items) c.args.call c.index.result.now refl within c.index.ensures in
-    rw (← calls, take-map) (c.self.invariant.1 c.args.call c.index.result.now there)
+    rw (← calls, take-map) (c.self.invariant.1 c.args.call c.index.result.now there).0
+
+pub returns-clause-unmarked : goal.returns-clause-unmarked
+returns-clause-unmarked c =
+    let calls : map call_view c.self.inside.calls.items ≡ c.args.self.now.calls = ap (λ (h : RecordedHistory). h.calls) c.self.view_is in
+    let count : length (map call_view c.self.inside.calls.items) ≡ length c.args.self.now.calls = ap length calls in
+    let within : c.args.call < length c.self.inside.calls.items = omega (arith, c.requires, count, length-map c.self.inside.calls.items call_view) in
+    let there = slice_get_read c.self.inside.calls.items (length c.self.inside.calls.items) c.args.call c.index.result.now refl within c.index.ensures in
+    (c.self.invariant.1 c.args.call c.index.result.now there).1
 
 pub returns-clause-declared : goal.returns-clause-declared
 returns-clause-declared c =
