@@ -12,7 +12,7 @@ ghost use Rattle.lin_search.specs.NextCall.{IsNext, HasEveryCompleted};
 ghost use Rattle.lin_search.specs.Refutation.{IsRefutedWith};
 ghost use Rattle.lin_search.specs.Path.{Frame as PathFrame, calls_of};
 ghost use Rattle.lin_search.specs.declared.longest.Longest.{Longest};
-ghost use Rattle.lin_search.specs.declared.outcome.Outcome.TheVariants.{Found, Refuted};
+ghost use Rattle.lin_search.specs.declared.outcome.Outcome.TheVariants.{Found, Refuted, Undecided};
 ghost use Rattle.std.proofs.Common.{Break};
 ghost use Rattle.lin_search.specs.Progress.{IsProgress, IsStep, IsLifted, HoldsSearched, HoldsStep, IsTaken, IsRefusal, bound, work};
 
@@ -97,6 +97,7 @@ pub fn note_at<O: SeqObject, M: Memo<O>>(
         → HoldsSearched (problem_of O.after O.State.eq O.Reply.eq problem.now) (M.holds memo.new)
         root frames config None × M.holds memo.new config.lifted config.state }
     ensures kept { IsKept result → M.holds memo.new config.lifted config.state }
+    ensures exact { M.answers memo.old problem.now config longest result memo.new }
     ensures changes { M.changes memo.old memo.new }
 {
     lawful::<O>();
@@ -124,10 +125,12 @@ fn take_lift(left: &mut Option<u64>) -> bool
     }
 }
 
-// Why no call may be lifted: no lift is left, or the stop answers. Else one of the lifts left is taken.
+// Why no call may be lifted: no lift is left, and then the stop is not asked; or the stop answers. Else one of the lifts
+// left is taken.
 #[inline(always)]
 fn refusal<S: Stop>(left: &mut Option<u64>, stop: &mut S) -> Option<Outcome>
     ensures refused { IfSome result (IsRefusal left.old (S.tells stop.new)) }
+    ensures limit { left.old ≡ Some 0 → (result ≡ Some Undecided) × (stop.new ≡ stop.old) }
     ensures taken { IfNone result (IsTaken left.old left.new) }
     ensures stop { S.follows stop.old stop.new }
 {

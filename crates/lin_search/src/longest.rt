@@ -3,7 +3,8 @@ ghost use Rattle.std.specs.Prelude.{◌≡◌, ℕ, ◌+◌, ◌<◌, ◌≤◌,
 ghost use Rattle.lin_history.specs.declared.limits.TheConstants.{MAX_CALLS_ON_OBJECT};
 
 /// What the longest continuations of a configuration tell of it. A memo keeps one for each configuration, so it is
-/// small: the calls of a problem are few enough to be numbered with 16 bits.
+/// small: the calls of a problem are few enough to be numbered with 16 bits. `more` and `first` read the fields as numbers
+/// of calls.
 #[derive(Clone, Copy, PartialEq, Eq, Debug)]
 pub struct Longest {
     /// The greatest number of calls of a continuation.
@@ -23,8 +24,15 @@ impl Longest {
         }
     }
 
-    /// The first call, by its number in the problem.
-    pub fn first_call(self) -> Option<usize>
+    /// The greatest number of calls of a continuation.
+    pub fn more(self) -> usize
+        ensures { result ≡ self.more }
+    {
+        self.more as usize
+    }
+
+    /// The least first call of a continuation of so many calls, by its number in the problem; `None` where `more` is 0.
+    pub fn first(self) -> Option<usize>
         ensures { result ≡ self.first }
     {
         match self.first {

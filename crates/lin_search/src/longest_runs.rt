@@ -104,7 +104,7 @@ fn longest_from<O: SeqObject, M: Memo<O>>(
 {
     let mut longest = longest_of(alloc, problem, config, memo, is_for_problem)?;
     let mut calls = Vec::new(alloc);
-    while let Some(call) = longest.first_call() {
+    while let Some(call) = longest.first() {
         calls.push(call)?;
         follow(alloc, problem, config, call)?;
         longest = longest_of(alloc, problem, config, memo, is_for_problem)?;

@@ -25,5 +25,11 @@ pub returns-else-is_for_problem-clause-kept : goal.returns-else-is_for_problem-c
 returns-else-is_for_problem-clause-kept g c =
     λ kept. rw (c.into_parts-lifted.ensures.lifted, c.into_parts-lifted.ensures.state) at (c.note_parts.ensures.held kept)
 
+pub returns-then-is_for_problem-clause-exact : goal.returns-then-is_for_problem-clause-exact
+returns-then-is_for_problem-clause-exact g c = rw (c.into_parts-lifted.ensures.lifted, c.into_parts-lifted.ensures.state) at c.note_here.ensures.exact
+
+pub returns-else-is_for_problem-clause-exact : goal.returns-else-is_for_problem-clause-exact
+returns-else-is_for_problem-clause-exact g c = rw (c.into_parts-lifted.ensures.lifted, c.into_parts-lifted.ensures.state) at c.note_parts.ensures.exact
+
 pub note_here-requires-clause-refuted : goal.note_here-requires-clause-refuted
 note_here-requires-clause-refuted g c = search rules depth 3

@@ -18,7 +18,7 @@ loop-call-init g c = record {
 
 pub follow-requires-clause-next : goal.follow-requires-clause-next
 follow-requires-clause-next g c =
-    first_next _ _ _ c.loop-call.invariant.reachable.flags _ _ (rw (sym c.first_call.ensures ∙ c.in-Some.is) at c.loop-call.invariant.longest)
+    first_next _ _ _ c.loop-call.invariant.reachable.flags _ _ (rw (sym c.first.ensures ∙ c.in-Some.is) at c.loop-call.invariant.longest)
 
 pub loop-call-smaller : goal.loop-call-smaller
 loop-call-smaller g c =
@@ -30,7 +30,7 @@ loop-call-preserved g c = record {
   none = λ l k. none_after _ _ _ c.loop-call.invariant.reachable.flags _ _ c.in_ok-follow.ensures.next c.loop-call.invariant.none l (rw c.in_ok-follow.ensures.lifted at k);
   longest = c.in_ok-longest-2.ensures.longest;
   rest = λ m k. rest_next (IsFirstLongest (IsContinuation (problem_of g.O.SeqObject.after g.O.State.PartialEq.eq g.O.Reply.PartialEq.eq c.args.problem.now) c.args.config.now.lifted c.args.config.now.state)) c.loop-call.calls.items _ m c.in-Some.call c.in_ok-push.ensures.items
-      (c.loop-call.invariant.rest _ (longest_step _ _ _ c.loop-call.invariant.reachable.flags _ _ c.in_ok-follow.ensures.next _ (rw (sym c.first_call.ensures ∙ c.in-Some.is) at c.loop-call.invariant.longest) m (rw c.in_ok-follow.ensures.lifted at k)));
+      (c.loop-call.invariant.rest _ (longest_step _ _ _ c.loop-call.invariant.reachable.flags _ _ c.in_ok-follow.ensures.next _ (rw (sym c.first.ensures ∙ c.in-Some.is) at c.loop-call.invariant.longest) m (rw c.in_ok-follow.ensures.lifted at k)));
   memo = g.met.M.Memo.chained _ _ _ c.loop-call.invariant.memo c.longest_of-in-Some.ensures.memo;
 }
 
@@ -47,4 +47,4 @@ returns-in_err-longest-2-clause-memo g c = g.met.M.Memo.chained _ _ _ c.loop-cal
 pub returns-clause-run : goal.returns-clause-run
 returns-clause-run g c =
     rw c.new.ensures (rest_none (IsFirstLongest (IsContinuation (problem_of g.O.SeqObject.after g.O.State.PartialEq.eq g.O.Reply.PartialEq.eq c.args.problem.now) c.args.config.now.lifted c.args.config.now.state)) c.loop-call.calls.items
-    (c.loop-call.invariant.rest _ (none_left _ _ (none_continues _ _ _) (rw (sym c.first_call.ensures ∙ c.in_default.is) at c.loop-call.invariant.longest))))
+    (c.loop-call.invariant.rest _ (none_left _ _ (none_continues _ _ _) (rw (sym c.first.ensures ∙ c.in_default.is) at c.loop-call.invariant.longest))))

@@ -1,5 +1,5 @@
 use Rattle.std.proofs.Common.{refl}
-use Rattle.lin_search.proofs.longest.Longest.first_call.Goals as goal
+use Rattle.lin_search.proofs.longest.Longest.first.Goals as goal
 
 pub returns-in-Some : goal.returns-in-Some
 returns-in-Some c = rw c.in-Some.is refl
