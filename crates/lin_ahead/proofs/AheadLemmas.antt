@@ -1,6 +1,7 @@
 -- What is told ahead of a queue's problem is right, and is all that its calls tell by real time.
-use Rattle.std.proofs.Common.{◌≡◌, ℕ, zero, suc, ◌+◌, ◌≤◌, ◌^◌, Bool, true, false, Option, Some, None, List, [], ◌∷◌, refl, sym, ◌∙◌, ap, subst, arith}
+use Rattle.std.proofs.Common.{◌≡◌, ℕ, zero, suc, ◌+◌, ◌<◌, ◌≤◌, ◌^◌, Bool, true, false, Option, Some, None, List, [], ◌∷◌, length, refl, sym, ◌∙◌, ap, subst, arith}
 use Rattle.std.specs.Prelude.{ℤ, slice_get, if◌then◌else◌}
+use Rattle.std.proofs.lemmas.List.{length-map}
 use Rattle.lin_object.specs.declared.op.Op.{Op}
 use Rattle.lin_object.specs.declared.op.Op.TheVariants.{Write, Read, Cas, Add, Get, Enqueue, Dequeue, Push, Pop, Insert, Remove, Contains, Lock, Unlock, TryLock, Put, Lookup, Delete}
 use Rattle.lin_object.specs.declared.reply.Reply.{Reply}
@@ -133,6 +134,18 @@ every_taker p c (x, there, op, back) =
     let k = every_listed 0 p.calls c x there (rw (op, back) refl) in
     (k.0, k.1 ∙ ap Some (omega arith))
 
+takers_rise : (n : ℕ) (calls : List (ProblemCall Op Reply)) (i j c d : ℕ) → slice_get (takers_from n calls) i ≡ Some c → slice_get (takers_from n calls) j ≡ Some d → i < j → c < d
+takers_rise n [] i j c d e f h = absurd (cc)
+takers_rise n (x ∷ xs) i j c d e f h = go (is_taker x.op x.returned) i j e f h (λ k m a b l. takers_rise (n + 1) xs k m c d a b l) (λ k a. listed (n + 1) xs k d a)
+  where
+    go : (b : Bool) (i j : ℕ) → slice_get (if b then n ∷ takers_from (n + 1) xs else takers_from (n + 1) xs) i ≡ Some c → slice_get (if b then n ∷ takers_from (n + 1) xs else takers_from (n + 1) xs) j ≡ Some d → i < j
+        → ((k m : ℕ) → slice_get (takers_from (n + 1) xs) k ≡ Some c → slice_get (takers_from (n + 1) xs) m ≡ Some d → k < m → c < d) → ((k : ℕ) → slice_get (takers_from (n + 1) xs) k ≡ Some d → TakerAt (n + 1) xs d) → c < d
+    go true zero zero e f h more later = absurd (omega (arith, h))
+    go true zero (suc j) e f h more later = let at = (later j f).2 in let same : n ≡ c = cc in omega (arith, at, same)
+    go true (suc i) zero e f h more later = absurd (omega (arith, h))
+    go true (suc i) (suc j) e f h more later = more i j e f (omega (arith, h))
+    go false i j e f h more later = more i j e f h
+
 -- ---- the numbers by takers that have returned
 
 taken_at : (p : Problem ObjState Op Reply) (b n : ℕ) (v : ℤ) → slice_get (taken_row (told p.calls) p.calls) b ≡ Some n → Puts p b v → n ≡ (told p.calls v).called
@@ -145,13 +158,16 @@ pub is_told : (p : Problem ObjState Op Reply) → AreTimed p.calls → (ahead : 
 is_told p timed ahead bys froms taken takers owed = record {
   numbers = are_numbers p timed ahead.needs bys froms;
   owed = λ c e. flagged_took p c (rw (← owed) e);
+  each_owed = rw owed (length-map p.calls _);
   every_owed = λ a c v puts only took. rw owed (took_flagged p a c v puts only took);
+  each_taken = rw taken (length-map p.calls _);
   taken = λ b n v e put. (
       let is : n ≡ (told p.calls v).called = taken_at p b n v (rw (← taken) e) put in
       let few : (told p.calls v).called ≤ 2 ^ 32 = (less nothing_told p.calls v).1 in
       ((omega (arith, is, few), λ j took. (bounds p timed v n (omega (arith, is)) j took).0), λ k h. (let below = below_takers p k v h.0 h.1 in omega (arith, is, below))));
   takers = λ i c e. takers_are p i c (rw (← takers) e);
   every_taker = λ c is. rw takers (every_taker p c is);
+  rising_takers = λ i j c d e f h. takers_rise 0 p.calls i j c d (rw (← takers) e) (rw (← takers) f) h;
 }
 
 module _ {Object : Type 0} (p : ProblemParts Object ObjState Op Reply) where

@@ -1,5 +1,5 @@
 -- What is told ahead of a queue's problem, of its calls by real time: which took an item that goes in once, when an item was taken, and which may take any (this project's own).
-use Rattle.std.specs.Prelude.{◌≡◌, ℕ, ◌+◌, ◌≤◌, ◌^◌, ℤ, Bool, true, false, Option, Some, None, List, [], ◌∷◌, map, slice_get, if◌then◌else◌}
+use Rattle.std.specs.Prelude.{◌≡◌, ℕ, ◌+◌, ◌<◌, ◌≤◌, ◌^◌, ℤ, Bool, true, false, Option, Some, None, List, [], ◌∷◌, map, length, slice_get, if◌then◌else◌}
 use Rattle.lin_object.specs.declared.op.Op.{Op}
 use Rattle.lin_object.specs.declared.op.Op.TheVariants.{Enqueue, Dequeue}
 use Rattle.lin_object.specs.declared.reply.Reply.{Reply}
@@ -54,14 +54,17 @@ module _ (p : Problem ObjState Op Reply) where
   abbrev pub IsTaker : ℕ → Type 0
   IsTaker c = (x : ProblemCall Op Reply) × (slice_get p.calls c ≡ Some x) × (x.op ≡ Dequeue) × (x.returned ≡ None)
 
--- All is told that the calls tell by real time.
+-- All is told that the calls tell by real time, of each call.
 pub record IsToldAhead (p : Problem ObjState Op Reply) (ahead : KnownAhead) : Type 0 where
   pub numbers : AreNumbers p ahead.needs
   -- The calls that are owed their replies took an item that no two calls put in, and all that took one which just one call puts in are.
   pub owed : (c : ℕ) → slice_get ahead.owed.items c ≡ Some true → (v : ℤ) × Took p c v × PutOnce p v
+  pub each_owed : length ahead.owed.items ≡ length p.calls
   pub every_owed : (a c : ℕ) (v : ℤ) → Puts p a v → OnlyPuts p a v → Took p c v → slice_get ahead.owed.items c ≡ Some true
+  pub each_taken : length ahead.taken.items ≡ length p.calls
   -- Of the numbers that are below all takers of the item that a call puts in, it has the greatest.
   pub taken : (b n : ℕ) (v : ℤ) → slice_get ahead.taken.items b ≡ Some n → Puts p b v → IsBelowTakers p n v × ((k : ℕ) → IsBelowTakers p k v → k ≤ n)
-  -- The takers are the pending dequeues.
+  -- The takers are the pending dequeues, each once, in rising order.
   pub takers : (i c : ℕ) → slice_get ahead.takers.items i ≡ Some c → IsTaker p c
   pub every_taker : (c : ℕ) → IsTaker p c → (i : ℕ) × (slice_get ahead.takers.items i ≡ Some c)
+  pub rising_takers : (i j c d : ℕ) → slice_get ahead.takers.items i ≡ Some c → slice_get ahead.takers.items j ≡ Some d → i < j → c < d
