@@ -103,7 +103,7 @@ fn is_as_answered(found: Option<ObjectVerdict>, answer: &Outcome) -> bool {
         (Some(ObjectVerdict::Yes(order)), Outcome::Found(least)) => order.calls() == least.calls(),
         (Some(ObjectVerdict::No(order)), Outcome::Refuted(longest)) => {
             order.calls().len() == longest.more as usize
-                && order.calls().first().copied() == longest.first_call()
+                && order.calls().first().copied() == longest.first()
         }
         _ => false,
     }

@@ -32,8 +32,8 @@ const REFUTED: &str = r#"{"event":"object","object":"x","kind":"register"}
 {"event":"return","process":4,"object":"x","result":9}
 "#;
 
-// Two registers, each read while the other is written.
-const CROSSED: &str = r#"{"event":"object","object":"x","kind":"register"}
+/// Two registers, each read while the other is written.
+pub const CROSSED: &str = r#"{"event":"object","object":"x","kind":"register"}
 {"event":"object","object":"y","kind":"register"}
 {"event":"call","process":1,"object":"x","op":"write","args":[1]}
 {"event":"call","process":2,"object":"y","op":"write","args":[7]}

@@ -1,7 +1,9 @@
 //! Events that are recorded or read, and what is made of a history.
 
 use super::starved::{Attempt, is_refused};
-use lin_history::{BuildFault, Builder, History, Placed, Problem, ProblemFault, WholeOrder, verify};
+use lin_history::{
+    BuildFault, Builder, History, Placed, Problem, ProblemFault, WholeOrder, verify,
+};
 use lin_object::{AnyObject, Kind, ObjState, Op, Reply};
 use lin_text::{Cause, read_history};
 use std::alloc::{AllocError, Global};
@@ -43,8 +45,7 @@ impl Attempt for Calling {
         match self.builder.call(1, "x", Op::Write(1)) {
             Ok(()) => Ok(self.builder.call(1, "x", Op::Read) == Err(BuildFault::Busy(1))),
             Err(BuildFault::OutOfMemory)
-                if self.builder.ret(1, "x", Reply::Okay) == Err(BuildFault::NoCall(1)) =>
-            {
+                if self.builder.ret(1, "x", Reply::Okay) == Err(BuildFault::NoCall(1)) => {
                 Err(AllocError)
             }
             Err(_) => Ok(false),
@@ -127,9 +128,7 @@ impl Attempt for Reading {
         match read_history(self.alloc, text.as_bytes()) {
             Ok(history) => Ok(!self.is_faulty && is_the_queue(&history)),
             Err(fault) if fault.cause == Cause::OutOfMemory => Err(AllocError),
-            Err(fault) => {
-                Ok(self.is_faulty && fault.line == 3 && fault.cause == Cause::Busy(1))
-            }
+            Err(fault) => { Ok(self.is_faulty && fault.line == 3 && fault.cause == Cause::Busy(1)) }
         }
     }
 }

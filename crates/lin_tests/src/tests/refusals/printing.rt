@@ -1,7 +1,9 @@
 //! Steps, copies and printed forms.
 
 use super::starved::{Attempt, is_refused};
-use lin_object::{AnyObject, Kind, ObjState, Op, Reply, SeqObject, start_state, write_op, write_reply};
+use lin_object::{
+    AnyObject, Kind, ObjState, Op, Reply, SeqObject, start_state, write_op, write_reply,
+};
 use lin_text::{Cause, TextFault, write_cause};
 use std::alloc::{AllocError, Global};
 

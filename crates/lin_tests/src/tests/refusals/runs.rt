@@ -1,7 +1,10 @@
-//! Runs whose reader or writer fails after each number of bytes.
+//! Runs that are refused memory, or whose reader or writer fails after each number of bytes.
 
+use super::checking::CROSSED;
+use super::starved::{Attempt, is_refused};
 use crate::choice::options_of;
-use lincheck::{RunFault, Status, StdSink, StdSource, run};
+use lincheck::{Options, RunFault, Status, StdSink, StdSource, run};
+use std::alloc::AllocError;
 use std::io;
 use std::io::{Read, Write};
 use std::thread::Threads;
@@ -224,4 +227,61 @@ fn bytes_read<R: AllocGlobal + Threads + Sync>(
 fn nothing_is_read_after_the_end_or_behind_what_is_too_long(rt: HostRuntime) {
     assert!(rt; bytes_read(&rt, 70_000, Status::Yes) == Some(70_000));
     assert!(rt; bytes_read(&rt, 70_000_000, Status::Refused) == Some(67_108_865));
+}
+
+const CROSSED_REPORT: &str = "linearizable
+1 2 y write(7) = ok
+2 2 x read() = 0
+3 1 x write(1) = ok
+4 2 y read() = 7
+";
+
+// A run on two registers, with a writer that needs no memory.
+#[derive(Drop)]
+struct Running<'a, R> {
+    rt: &'a R,
+    options: Options,
+    writer: Narrow,
+}
+
+impl<'a, R: AllocGlobal + Threads + Sync> Attempt for Running<'a, R> {
+    fn attempt(&mut self) -> Result<bool, AllocError> {
+        self.writer.taken.clear();
+        self.writer.before = MUCH;
+        let reader = Failing {
+            left: CROSSED.as_bytes(),
+            before: MUCH,
+        };
+        let mut source = StdSource::new(reader);
+        let mut sink = StdSink::new(&mut self.writer);
+        let ended = run(self.rt, &mut source, &mut sink, &self.options);
+        match ended {
+            Err(RunFault::Memory) if self.writer.taken.is_empty() => Err(AllocError),
+            Ok(Status::Yes) => Ok(self.writer.taken.as_slice() == CROSSED_REPORT.as_bytes()),
+            _ => Ok(false),
+        }
+    }
+}
+
+// Whether a run is refused at least so often, with nothing written, until it writes its report.
+fn is_run<R: AllocGlobal + Threads + Sync>(rt: &R, times: u64) -> Result<bool, AllocError> {
+    let Some(options) = options_of("") else {
+        return Ok(false);
+    };
+    let mut running = Running {
+        rt,
+        options,
+        writer: Narrow {
+            taken: Vec::with_capacity(rt.alloc(), 200)?,
+            before: MUCH,
+            end: End::Fails,
+        },
+    };
+    Ok(is_refused(rt.alloc(), &mut running, times))
+}
+
+#[test]
+fn a_run_is_refused_memory_and_writes_nothing_or_reports(rt: HostRuntime) {
+    let told = is_run(&rt, 25);
+    assert!(rt; told == Ok(true), "{told:?}");
 }

@@ -89,7 +89,10 @@ fn a_shard_is_refused(alloc: Global, problem: &Part) -> Result<bool, AllocError>
     let roots = refuted_roots(alloc, problem)?;
     let mut shard = Shard::new(alloc, problem);
     let mut starved = Starved::new(alloc, TIMES)?;
-    Ok(matches!(refusals_of_a_shard(&mut starved, &mut shard, roots), Some(2..)))
+    Ok(matches!(
+        refusals_of_a_shard(&mut starved, &mut shard, roots),
+        Some(2..)
+    ))
 }
 
 // The same of a table with one shard, and the hand.
