@@ -7,6 +7,7 @@ use lin_history::{
 use lin_object::{AnyObject, Kind, ObjState, Op, Reply};
 use lin_text::{Cause, read_history};
 use std::alloc::{AllocError, Global};
+use std::mem;
 
 // A declaration.
 #[derive(Drop)]
@@ -37,13 +38,17 @@ fn a_declaration_is_refused_or_recorded(rt: HostRuntime) {
 // A call of a process on a register.
 #[derive(Drop)]
 struct Calling {
+    alloc: Global,
     builder: Builder,
 }
 
 impl Attempt for Calling {
     fn attempt(&mut self) -> Result<bool, AllocError> {
         match self.builder.call(1, "x", Op::Write(1)) {
-            Ok(()) => Ok(self.builder.call(1, "x", Op::Read) == Err(BuildFault::Busy(1))),
+            Ok(()) => {
+                let builder = mem::replace(&mut self.builder, Builder::new(self.alloc));
+                Ok(builder.finish().call_count() == 1)
+            }
             Err(BuildFault::OutOfMemory)
                 if self.builder.ret(1, "x", Reply::Okay) == Err(BuildFault::NoCall(1)) => {
                 Err(AllocError)
@@ -56,6 +61,7 @@ impl Attempt for Calling {
 #[test]
 fn a_call_is_refused_or_recorded(rt: HostRuntime) {
     let mut calling = Calling {
+        alloc: rt.alloc(),
         builder: Builder::new(rt.alloc()),
     };
     let declared = calling.builder.declare(rt.alloc(), "x", Kind::Register, 0);
