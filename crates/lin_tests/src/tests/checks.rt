@@ -102,7 +102,7 @@ fn is_as_answered(found: Option<ObjectVerdict>, answer: &Outcome) -> bool {
     match (found, answer) {
         (Some(ObjectVerdict::Yes(order)), Outcome::Found(least)) => order.calls() == least.calls(),
         (Some(ObjectVerdict::No(order)), Outcome::Refuted(longest)) => {
-            order.calls().len() == longest.more as usize
+            order.calls().len() == longest.more()
                 && order.calls().first().copied() == longest.first()
         }
         _ => false,
