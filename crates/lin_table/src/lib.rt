@@ -19,4 +19,4 @@ mod table;
 pub use hand::Hand;
 pub use shard::Shard;
 pub use shared_memo::SharedMemo;
-pub use table::{HandsMissing, Table};
+pub use table::{HandsMissing, STORED_BOUND, Table};

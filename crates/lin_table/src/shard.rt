@@ -1,6 +1,6 @@
 //! One shard: refuted configurations of one problem.
 
-ghost use Rattle.std.specs.Prelude.{◌≡◌, ◌≢◌, ◌↔◌, ◌++◌, ◌∷◌, [], IfOk, IfSome, IsSome, length, replicate};
+ghost use Rattle.std.specs.Prelude.{◌≡◌, ◌≢◌, ◌↔◌, ◌++◌, ◌∷◌, [], IfOk, IfSome, IsSome, IsTrue, length, replicate};
 ghost use Rattle.lin_history.specs.Problems.Problem.{problem_of};
 ghost use Rattle.lin_history.specs.Problems.SameProblem.{SameProblem};
 ghost use Rattle.lin_search.specs.Refutation.{IsRefutedWith};
@@ -77,24 +77,58 @@ impl<'p, O: SeqObject> Shard<'p, O> {
         ensures refuted { IfSome result (λ longest. IsRefutedWith
             (problem_of O.after O.State.eq O.Reply.eq problem.now) config.now.lifted
             config.now.state longest) }
+        ensures exact { IsSome result ↔ Holds O.State.eq self.old.pairs config.now.lifted
+            config.now.state }
         ensures same { self.new ≡ self.old }
     {
         self.memo.look_here(problem, config)
     }
 
     // `add` for a problem that is the same as the shard's: nothing is compared.
-    pub(crate) fn add_here(&mut self, refutation: Refutation<'_, O>) -> Noted
+    fn add_here(&mut self, refutation: Refutation<'_, O>) -> Noted
+        requires { SameProblem O.eq O.State.eq O.Op.eq O.Reply.eq self.old.problem
+            refutation.problem }
+        ensures problem { self.new.problem ≡ self.old.problem }
+        ensures exact { IsNoted O.State.eq (Unit {0}) self.old.pairs self.new.pairs
+            refutation.entry.config refutation.entry.longest result }
+    {
+        let (problem, config, longest) = refutation.into_parts();
+        let (lifted, state) = config.into_parts();
+        self.memo.note_here(problem, lifted, state, longest)
+    }
+
+    // What `add_here` answers where there is no room for one more: `Known` or `NoRoom`.
+    fn add_to_full(&mut self, refutation: Refutation<'_, O>) -> Noted
+        requires { SameProblem O.eq O.State.eq O.Op.eq O.Reply.eq self.old.problem
+            refutation.problem }
+        ensures exact { IsNoted O.State.eq (Unit {0}) self.old.pairs self.new.pairs
+            refutation.entry.config refutation.entry.longest result }
+        ensures room { result ≢ Noted.New }
+        ensures same { self.new ≡ self.old }
+    {
+        match self.look_here(refutation.problem(), refutation.config()) {
+            Some(_) => Noted::Known,
+            None => Noted::NoRoom,
+        }
+    }
+
+    // The same where there may be room, or not.
+    pub(crate) fn add_within(&mut self, refutation: Refutation<'_, O>, has_room: bool) -> Noted
         requires { SameProblem O.eq O.State.eq O.Op.eq O.Reply.eq self.old.problem
             refutation.problem }
         ensures problem { self.new.problem ≡ self.old.problem }
         ensures new { result ≡ Noted.New → self.new.pairs ≡ self.old.pairs
             ++ (refutation.entry.config, refutation.entry.longest) ∷ [] }
         ensures same { result ≢ Noted.New → self.new ≡ self.old }
-        ensures own { result ≢ Noted.Stranger }
+        ensures exact { IsNoted O.State.eq (Unit {0}) self.old.pairs self.new.pairs
+            refutation.entry.config refutation.entry.longest result }
+        ensures room { result ≡ Noted.New → IsTrue has_room }
     {
-        let (problem, config, longest) = refutation.into_parts();
-        let (lifted, state) = config.into_parts();
-        self.memo.note_here(problem, lifted, state, longest)
+        if has_room {
+            self.add_here(refutation)
+        } else {
+            self.add_to_full(refutation)
+        }
     }
 }
 

@@ -1,9 +1,10 @@
 //! A table and a hand, as the memo of a search.
 
-ghost use Rattle.std.specs.Prelude.{◌≡◌, ◌↔◌, Bool, List, IfSome, IsTrue};
+ghost use Rattle.std.specs.Prelude.{◌≡◌, ◌↔◌, Bool, List, IfSome, IsSome, IsTrue};
 ghost use Rattle.lin_history.specs.Problems.Problem.{problem_of};
 ghost use Rattle.lin_history.specs.Problems.SameProblem.{SameProblem};
 ghost use Rattle.lin_search.specs.Refutation.{IsRefutedWith};
+ghost use Rattle.lin_search.specs.Store.{Holds};
 ghost use Rattle.lin_table.specs.Hand.{IsHandOf};
 ghost use Rattle.lin_table.specs.Shared.{HasGrown, IsToldTo};
 
@@ -65,6 +66,11 @@ impl<'a, 'p, O: SeqObject> Memo<O> for SharedMemo<'a, 'p, O> {
             × (self.new.hand.ghost_name ≡ self.old.hand.ghost_name)
             × HasGrown self.old.hand.now self.new.hand.now }
         ensures same { self.new.hand.now ≡ self.old.hand.now }
+        ensures ours { IsSome result → SameProblem O.eq O.State.eq O.Op.eq O.Reply.eq
+            self.old.table.now.problem problem.now }
+        ensures known { SameProblem O.eq O.State.eq O.Op.eq O.Reply.eq self.old.table.now.problem
+            problem.now → Holds O.State.eq self.old.table.now.known config.now.lifted
+            config.now.state → IsSome result }
     {
         self.table.look(self.hand, problem, config)
     }
@@ -102,6 +108,8 @@ impl<'a, 'p, O: SeqObject> Memo<O> for SharedMemo<'a, 'p, O> {
             × (self.new.hand.ghost_name ≡ self.old.hand.ghost_name)
             × HasGrown self.old.hand.now self.new.hand.now }
         ensures same { self.new.hand.now ≡ self.old.hand.now }
+        ensures known { Holds O.State.eq self.old.table.now.known config.now.lifted
+            config.now.state → IsSome result }
     {
         self.table.look_here(self.hand, problem, config)
     }

@@ -4,9 +4,9 @@ ghost use Rattle.std.specs.Prelude.{◌≡◌, ◌≢◌, ℕ, ◌<◌, ◌∷�
 ghost use Rattle.lin_history.specs.Problems.Problem.{problem_of};
 ghost use Rattle.lin_history.specs.Problems.SameProblem.{SameProblem};
 ghost use Rattle.lin_search.specs.Refutation.{IsRefutedWith};
-ghost use Rattle.lin_search.specs.Store.{Holds};
+ghost use Rattle.lin_search.specs.Store.{Holds, IsNoted};
 ghost use Rattle.lin_table.specs.Home.{home_of};
-ghost use Rattle.lin_table.specs.Rule.{known_in};
+ghost use Rattle.lin_table.specs.Rule.{Pairs, known_in};
 ghost use Rattle.lin_table.specs.Steps.{HasOut, HasMore, with_out, with_none_out, with_entry, with_added};
 
 use crate::rule::{GiveBackStep, GiveMoreStep, Plan, ShardRule, TakeStep, View};
@@ -102,12 +102,14 @@ pub(crate) fn give_more<'p, O: SeqObject>(
     shards.store::<GiveMoreStep>(token, shard, 0);
 }
 
-/// Adds a refutation to the shard that is out, and gives it back. Its configuration was not known before.
+/// Adds a refutation to the shard that is out, where the hand has room for one more, and gives it back. `Known` exactly
+/// where the shard has its configuration, which was not known before; `NoRoom` only in place of `New`.
 pub(crate) fn note_out<'p, O: SeqObject>(
     shards: &Shards<'p, O>,
     token: &mut Token<'p, O>,
     shard: usize,
     refutation: Refutation<'_, O>,
+    has_room: bool,
 ) -> Noted
     requires table { (token.old.table_id ≡ shards.now.table_id)
         × (shard < shards.now.table_id.words) × (0 < token.old.me.0.parts) }
@@ -124,10 +126,14 @@ pub(crate) fn note_out<'p, O: SeqObject>(
     ensures new { result ≡ Noted.New → (p : ℕ) × (token.new.me.0 ≡ with_entry token.old.me.0
         (record { shard = shard; place = p; config = refutation.entry.config })) }
     ensures same { result ≢ Noted.New → token.new.me.0 ≡ with_none_out token.old.me.0 }
+    ensures room { result ≡ Noted.New → IsTrue has_room }
     ensures own { result ≢ Noted.Stranger }
+    ensures told { (y : _) → token.old.me.1 ≡ (shard, y) ∷ [] → (pairs : Pairs O.State)
+        × IsNoted O.State.eq (Unit {0}) y.pairs pairs refutation.entry.config
+        refutation.entry.longest result }
 {
     let it = token.slot_mut(&*shards, shard);
-    let noted = it.add_here(refutation);
+    let noted = it.add_within(refutation, has_room);
     if noted == Noted::New {
         give_more(&*shards, &mut *token, shard);
     } else {
@@ -164,13 +170,14 @@ pub(crate) fn look_in<'p, O: SeqObject>(
     found
 }
 
-/// Adds a refutation to this shard, which is its configuration's home. `Busy` where the shard was not got. The
-/// configuration was not known before.
+/// Adds a refutation to this shard, which is its configuration's home, where the hand has room for one more. `Busy`
+/// exactly where the shard was not got; else as `note_out` answers. The configuration was not known before.
 pub(crate) fn note_in<'p, O: SeqObject>(
     shards: &Shards<'p, O>,
     token: &mut Token<'p, O>,
     shard: usize,
     refutation: Refutation<'_, O>,
+    has_room: bool,
 ) -> Noted
     requires table { (token.old.table_id ≡ shards.now.table_id)
         × (shard < shards.now.table_id.words) × (shard < shards.now.key.shards) }
@@ -186,10 +193,11 @@ pub(crate) fn note_in<'p, O: SeqObject>(
     ensures new { result ≡ Noted.New → (p : ℕ) × (token.new.me.0 ≡ with_entry token.old.me.0
         (record { shard = shard; place = p; config = refutation.entry.config })) }
     ensures same { result ≢ Noted.New → token.new.me.0 ≡ token.old.me.0 }
+    ensures room { result ≡ Noted.New → IsTrue has_room }
     ensures own { result ≢ Noted.Stranger }
 {
     if !take_out(&*shards, &mut *token, shard) {
         return Noted::Busy;
     }
-    note_out(&*shards, &mut *token, shard, refutation)
+    note_out(&*shards, &mut *token, shard, refutation, has_room)
 }

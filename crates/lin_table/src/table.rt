@@ -1,9 +1,9 @@
 //! The table as its callers see it.
 
-ghost use Rattle.std.specs.Prelude.{◌≡◌, ◌≢◌, ◌↔◌, ℕ, ◌+◌, ◌%◌, ◌^◌, ◌<◌, ◌≤◌, [], None, Some, All, length, vec_len, IfOk, IfErr, IsErr, IfSome, IsSome, IsTrue};
+ghost use Rattle.std.specs.Prelude.{◌≡◌, ◌≢◌, ◌↔◌, ℕ, ◌+◌, ◌%◌, ◌<◌, ◌≤◌, [], None, Some, All, length, vec_len, IfOk, IfErr, IsErr, IfSome, IsSome, IsTrue};
 ghost use Rattle.lin_history.specs.Problems.Problem.{problem_of};
 ghost use Rattle.lin_history.specs.Problems.SameProblem.{SameProblem};
-ghost use Rattle.lin_search.specs.Count.{IsNumberReachable};
+ghost use Rattle.lin_search.specs.Count.{HasReachable, IsNumberReachable};
 ghost use Rattle.lin_search.specs.Refutation.{IsRefutedWith};
 ghost use Rattle.lin_search.specs.Store.{Holds, IsStore};
 ghost use Rattle.lin_table.specs.Gather.{AreStored, entries_in};
@@ -30,6 +30,9 @@ type Inner<'p, O> = AtomicTable<Shard<'p, O>, View<O>, Plan<'p, O>, ShardRule, G
 
 // A memo that has 2^52 configurations or more is not taken for what was known before.
 pub(crate) const MAX_KNOWN: u64 = 4_503_599_627_370_496;
+
+/// The number of configurations stored, in the memo that a table stands over and by its hands, is less than this: 2^54.
+pub const STORED_BOUND: u64 = 18_014_398_509_481_984;
 
 /// Refuted configurations of one problem, which several threads share. They are kept in shards, each of which one hand
 /// at a time takes out. What was known before the table was made stands in a memo, which all only read. Contracts see
@@ -241,7 +244,9 @@ impl<'p, O: SeqObject> Table<'p, O> {
         ensures stored { IfOk result (λ _. (lists : ℕ → Pairs O.State) × AreStored
             (problem_of O.after O.State.eq O.Reply.eq self.entry.problem) self.entry.known
             self.entry.shards lists (entries_in hands.items)) }
-        ensures bound { IfOk result (λ n. n < 2 ^ 54) }
+        ensures bound { IfOk result (λ n. n < STORED_BOUND) }
+        ensures reachable { IfOk result (λ n. HasReachable
+            (problem_of O.after O.State.eq O.Reply.eq self.entry.problem) n) }
         ensures at_most { IfOk result (λ n. (m : ℕ) → IsNumberReachable
             (problem_of O.after O.State.eq O.Reply.eq self.entry.problem) m → n ≤ m) }
     {
@@ -342,8 +347,8 @@ impl<'p, O: SeqObject> Table<'p, O> {
     }
 
     /// What the longest continuations of the configuration tell, where it was known before or its shard has it, and the
-    /// table's problem is the `same` as this one: then the configuration is refuted in the asker's problem. A shard that
-    /// is not got within 64 tries has nothing. It takes no memory.
+    /// table's problem is the `same` as this one: then the configuration is refuted in the asker's problem. `None` where
+    /// the problem is not the `same`. A shard that is not got within 64 tries has nothing. It takes no memory.
     ///
     /// Condition: the hand came with this table.
     pub fn look(
@@ -356,6 +361,8 @@ impl<'p, O: SeqObject> Table<'p, O> {
         ensures refuted { IfSome result (λ longest. IsRefutedWith
             (problem_of O.after O.State.eq O.Reply.eq problem.now) config.now.lifted
             config.now.state longest) }
+        ensures ours { IsSome result
+            → SameProblem O.eq O.State.eq O.Op.eq O.Reply.eq self.now.problem problem.now }
         ensures known { SameProblem O.eq O.State.eq O.Op.eq O.Reply.eq self.now.problem problem.now
             → Holds O.State.eq self.now.known config.now.lifted config.now.state → IsSome result }
         ensures hand { hand.new ≡ hand.old }
@@ -367,10 +374,9 @@ impl<'p, O: SeqObject> Table<'p, O> {
         }
     }
 
-    // Stores a refutation in its home, with a hand that has not stored too much. Its configuration was not known before.
+    // Stores a refutation in its home, where the hand has room for one more. Its configuration was not known before.
     fn store(&self, hand: &mut Hand<O>, refutation: Refutation<'_, O>) -> Noted
         requires hand { IsHandOf self.now hand.old }
-        requires room { length hand.old.entries < MAX_STORED }
         requires here { SameProblem O.eq O.State.eq O.Op.eq O.Reply.eq self.now.problem
             refutation.problem }
         requires fresh { Holds O.State.eq self.now.known refutation.config.lifted
@@ -378,13 +384,15 @@ impl<'p, O: SeqObject> Table<'p, O> {
         ensures new { result ≡ Noted.New → HasStored hand.old
             (home_of refutation.entry.config.lifted self.now.shards) refutation.entry.config
             hand.new }
+        ensures room { result ≡ Noted.New → length hand.old.entries < MAX_STORED }
         ensures same { result ≢ Noted.New → hand.new ≡ hand.old }
         ensures came { IsHandOf self.now hand.new }
         ensures own { result ≢ Noted.Stranger }
     {
         let shard = self.home(refutation.config());
+        let has_room = hand.has_room();
         let mut token = mem::replace(&mut hand.badge, Badge::blank()).into_seat();
-        let noted = note_in(&self.inner.shared, &mut token, shard, refutation);
+        let noted = note_in(&self.inner.shared, &mut token, shard, refutation, has_room);
         if noted == Noted::New {
             hand.count += 1;
         }
@@ -411,6 +419,7 @@ impl<'p, O: SeqObject> Table<'p, O> {
         ensures new { result ≡ Noted.New → HasStored hand.old
             (home_of refutation.entry.config.lifted self.now.shards) refutation.entry.config
             hand.new }
+        ensures room { result ≡ Noted.New → length hand.old.entries < MAX_STORED }
         ensures same { result ≢ Noted.New → hand.new ≡ hand.old }
         ensures came { IsHandOf self.now hand.new }
         ensures known { Holds O.State.eq self.now.known refutation.entry.config.lifted
@@ -420,13 +429,7 @@ impl<'p, O: SeqObject> Table<'p, O> {
         if self.is_known(&refutation) {
             return Noted::Known;
         }
-        if hand.has_room() {
-            return self.store(hand, refutation);
-        }
-        match self.look_home(hand, refutation.problem(), refutation.config()) {
-            Some(_) => Noted::Known,
-            None => Noted::NoRoom,
-        }
+        self.store(hand, refutation)
     }
 
     /// `note` for a problem that is the `same` as the table's, by the parts of a refutation: nothing is compared.
@@ -447,6 +450,7 @@ impl<'p, O: SeqObject> Table<'p, O> {
             lifted state longest }
         ensures new { result ≡ Noted.New → HasStored hand.old (home_of lifted self.now.shards)
             (record { lifted = lifted; state = state }) hand.new }
+        ensures room { result ≡ Noted.New → length hand.old.entries < MAX_STORED }
         ensures same { result ≢ Noted.New → hand.new ≡ hand.old }
         ensures came { IsHandOf self.now hand.new }
         ensures known { Holds O.State.eq self.now.known lifted state → result ≡ Noted.Known }
@@ -457,9 +461,9 @@ impl<'p, O: SeqObject> Table<'p, O> {
     }
 
     /// Hands a refutation to the table, which keeps it in its home. `Stranger` exactly where the table's problem is
-    /// not the `same` as the refutation's; `Known` where it was there or was known before; `Busy` where its shard was
-    /// not got within 64 tries; `NoRoom` where memory was refused, or the hand has stored 2^47 configurations; else
-    /// `New`, which alone changes anything: the hand has an entry more.
+    /// not the `same` as the refutation's; `Known` where it was known before; else `Busy` where its shard was not got
+    /// within 64 tries; else `Known` where it was there; else `NoRoom` where memory was refused, or the hand has stored
+    /// 2^47 configurations; else `New`, which alone changes anything: the hand has an entry more.
     ///
     /// Condition: the hand came with this table.
     pub fn note(&self, hand: &mut Hand<O>, refutation: Refutation<'_, O>) -> Noted
@@ -467,14 +471,18 @@ impl<'p, O: SeqObject> Table<'p, O> {
         ensures new { result ≡ Noted.New → HasStored hand.old
             (home_of refutation.entry.config.lifted self.now.shards) refutation.entry.config
             hand.new }
+        ensures room { result ≡ Noted.New → length hand.old.entries < MAX_STORED }
         ensures same { result ≢ Noted.New → hand.new ≡ hand.old }
         ensures came { IsHandOf self.now hand.new }
         ensures known { SameProblem O.eq O.State.eq O.Op.eq O.Reply.eq self.now.problem
             refutation.entry.problem → Holds O.State.eq self.now.known
             refutation.entry.config.lifted refutation.entry.config.state → result ≡ Noted.Known }
-        ensures stranger { (result ≡ Noted.Stranger)
-            ↔ (SameProblem O.eq O.State.eq O.Op.eq O.Reply.eq self.now.problem
-            refutation.entry.problem → ⊥) }
+        ensures stranger { result ≡ Noted.Stranger
+            → SameProblem O.eq O.State.eq O.Op.eq O.Reply.eq self.now.problem
+            refutation.entry.problem → ⊥ }
+        ensures ours { result ≢ Noted.Stranger
+            → SameProblem O.eq O.State.eq O.Op.eq O.Reply.eq self.now.problem
+            refutation.entry.problem }
     {
         let problem = refutation.problem();
         if !self.is_for(problem) {

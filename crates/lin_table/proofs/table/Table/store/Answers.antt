@@ -16,8 +16,9 @@ invariant_of-hand g c =
     elim c.if-eq.branch [
       | then-eq w ↦
           let stored = c.note_in-noted.ensures.new (search rules) in
+          let room = c.has_room-has_room.ensures.0 (c.note_in-noted.ensures.room (search rules)) in
           let count = i.counted ∙ sym (ap (λ views. length (facts_of c.hand.inside.badge.table_id views).entries) i.only) ∙ ap (λ h. length h.entries) c.hand.view_is in
-          rw w.hand-inside-is (free_with_entry _ _ _ _ _ (rw count c.requires.room) free stored.1 c.into_badge.ensures.2)
+          rw w.hand-inside-is (free_with_entry _ _ _ _ _ (rw count room) free stored.1 c.into_badge.ensures.2)
       | else-eq w ↦
           let same = c.note_in-noted.ensures.same (search rules) in
           rw w.hand-inside-is (free_still _ _ _ _ free same c.into_badge.ensures.2)

@@ -39,12 +39,13 @@ returns-clause-bound g c =
     let most = few g c in
     omega arith
 
-pub returns-clause-at_most : goal.returns-clause-at_most
-returns-clause-at_most g c =
-    λ m number.
+pub returns-clause-reachable : goal.returns-clause-reachable
+returns-clause-reachable g c =
     let told = returns-clause-stored g c in
-    let count = returns-clause-count g c in
     let p = problem_of g.O.SeqObject.after g.O.State.PartialEq.eq g.O.Reply.PartialEq.eq c.args.self.problem in
     let reached = has_all p c.lawful.ensures.states c.args.self.known c.known_count-known.ensures.store c.args.self.shards told.0 (entries_in c.args.hands.items) told.1 in
-    let most = number_at_most p c.lawful.ensures.states (alike_reachable (alike_itself c.lawful.ensures c.args.self.problem)) _ m reached number in
-    omega (arith, count, most)
+    (reached.0, reached.1, reached.2 ∙ sym (returns-clause-count g c))
+
+pub returns-clause-at_most : goal.returns-clause-at_most
+returns-clause-at_most g c =
+    λ m number. number_at_most (problem_of g.O.SeqObject.after g.O.State.PartialEq.eq g.O.Reply.PartialEq.eq c.args.self.problem) c.lawful.ensures.states (alike_reachable (alike_itself c.lawful.ensures c.args.self.problem)) _ m (returns-clause-reachable g c) number
