@@ -62,9 +62,13 @@ found_append (v ∷ vs) us = ap (λ (l : List ℕ). if_found v.0 v.1 ++ l) (foun
     append_assoc' [] b c = refl
     append_assoc' (x ∷ a) b c = ap (λ (l : List ℕ). x ∷ l) (append_assoc' a b c)
 
+-- what was claimed first stands in front when more is claimed
+claims_then : (start before after more : List ℕ) → (claims : List ℕ) × (before ≡ start ++ claims) → after ≡ before ++ more → (claims : List ℕ) × (after ≡ start ++ claims)
+claims_then start before after more claims e = (claims.0 ++ more, e ∙ ap (λ (l : List ℕ). l ++ more) claims.1 ∙ append_assoc start claims.0 more)
+
 -- nothing is brought before the first claim
 pub brought_none : {State Op Reply : Type 0} (p : Problem State Op Reply) (ts : List (Task State)) (limit : Option ℕ) (a : SeatFacts) → HasBrought p ts limit a a []
-brought_none p ts limit a = record { values = tt; once = tt; found = sym (append-nil a.found) }
+brought_none p ts limit a = record { values = tt; once = tt; found = sym (append-nil a.found); claimed = ([], sym (append-nil a.claimed)) }
 
 module _ {State Op Reply : Type 0} (p : Problem State Op Reply) (ts : List (Task State)) (limit : Option ℕ) (start s c : SeatFacts) (vs : List (ℕ × Outcome)) (n : ℕ) (answer : Option ℕ) (some : answer ≡ Some n) (claim : c ≡ record s { claimed = s.claimed ++ option_to_list answer; ended = is_none answer }) (brought : HasBrought p ts limit start s vs) where
   claimed_is : c.claimed ≡ s.claimed ++ n ∷ []
@@ -91,6 +95,7 @@ module _ {State Op Reply : Type 0} (p : Problem State Op Reply) (ts : List (Task
     values = values_later p ts limit s h vs (later_heard h k) brought.values;
     once = brought.once;
     found = k.found ∙ found_is ∙ brought.found;
+    claimed = claims_then start.claimed s.claimed h.claimed (n ∷ []) brought.claimed (k.claimed ∙ claimed_is);
   }
 
   -- the task's value was kept, or there was no memory for it
@@ -102,6 +107,7 @@ module _ {State Op Reply : Type 0} (p : Problem State Op Reply) (ts : List (Task
         told = λ x q. rw f.told ((later_heard h heard).told x q);
       } in
       let before = brought_same h heard in
+      let claims : (claims : List ℕ) × (e.claimed ≡ start.claimed ++ claims) = claims_then start.claimed s.claimed e.claimed (n ∷ []) brought.claimed (f.claimed ∙ heard.claimed ∙ claimed_is) in
       let found : e.found ≡ start.found ++ found_of now = f.found ∙ ap (λ (l : List ℕ). l ++ found_of kept.0) before.found ∙ append_assoc start.found (found_of vs) (found_of kept.0) ∙ ap (λ (l : List ℕ). start.found ++ l) (sym (found_append vs kept.0)) ∙ ap (λ (l : List (ℕ × Outcome)). start.found ++ found_of l) (sym kept.2) in
       elim kept.1 [
         | inl none ↦ (
@@ -110,6 +116,7 @@ module _ {State Op Reply : Type 0} (p : Problem State Op Reply) (ts : List (Task
               values = rw same (values_later p ts limit s e vs later brought.values);
               once = rw same brought.once;
               found = found;
+              claimed = claims;
             }
             )
         | inr one ↦ (
@@ -124,6 +131,7 @@ module _ {State Op Reply : Type 0} (p : Problem State Op Reply) (ts : List (Task
               values = rw same (values_end p ts limit e vs (n, o) (values_later p ts limit s e vs later brought.values) value);
               once = rw same (once_end vs (n, o) brought.once (λ h. fresh (tasks_claimed p ts limit s vs n brought.values h)));
               found = found;
+              claimed = claims;
             }
             )
       ]
@@ -138,6 +146,7 @@ brought_ended p ts limit start s c vs answer none claim brought =
       values = values_later p ts limit s c vs (record { claimed = λ x q. rw claimed_is (Contains-append_left s.claimed [] x q); told = λ x q. rw told_is q }) brought.values;
       once = brought.once;
       found = found_is ∙ brought.found;
+      claimed = claims_then start.claimed s.claimed c.claimed [] brought.claimed claimed_is;
     }
 
 -- the values stand when the seat is told more

@@ -1,10 +1,12 @@
 -- What a check of one object finds (this project's own; the definition is that of Herlihy and Wing 1990).
-use Rattle.std.specs.Prelude.{◌≡◌, ℕ, Option, Some, IsSomeAnd, List, slice_get}
+use Rattle.std.specs.Prelude.{◌≡◌, ℕ, ◌<◌, Option, Some, IsSomeAnd, List, slice_get}
 use Rattle.lin_history.specs.Problems.Problem.{Problem}
 use Rattle.lin_history.specs.Problems.Lists.{IsLeast}
 use Rattle.lin_history.specs.Problems.Linearizations.{IsRun, IsLinearization}
+use Rattle.lin_search.specs.Count.{HasReachable}
 use Rattle.lin_search.specs.LongestRun.{IsFirstLongest}
 use Rattle.lin_search.specs.Size.{HasMoreThan}
+use Rattle.lin_table.specs.declared.table.TheConstants.{STORED_BOUND}
 use Rattle.lin_workers.specs.declared.verdict.ObjectVerdict.{ObjectVerdict}
 use Rattle.lin_workers.specs.declared.verdict.ObjectVerdict.TheVariants.{Yes, No, Undecided}
 use Rattle.lin_workers.specs.Cut.{Task, IsCut, DecideBy, HasNoneBefore}
@@ -15,6 +17,12 @@ abbrev pub IsObjectVerdict : {State Op Reply : Type 0} → Problem State Op Repl
 IsObjectVerdict p limit (Yes order) = IsLeast (IsLinearization p) order
 IsObjectVerdict p limit (No run) = ((l : List ℕ) → IsLinearization p l → ⊥) × IsFirstLongest (IsRun p) run
 IsObjectVerdict p limit Undecided = IsSomeAnd limit (λ most. HasMoreThan (IsRun p) most)
+
+-- So many configurations were stored in the check: fewer than the bound, and the problem has as many reachable ones or more,
+-- where equal ones count once (Lowe 2017).
+pub record IsNumberStored {State Op Reply : Type 0} (p : Problem State Op Reply) (stored : ℕ) : Type 0 where
+  pub few : stored < STORED_BOUND
+  pub reachable : HasReachable p stored
 
 -- The task is one of a cut that decides the problem, and none before it has a completion.
 pub record IsNextTask {State Op Reply : Type 0} (p : Problem State Op Reply) (t : Task State) : Type 0 where

@@ -1,11 +1,10 @@
 //! The check of one object.
-ghost use Rattle.std.specs.Prelude.{◌≡◌, ◌≢◌, ℕ, ◌^◌, ◌<◌, ◌≤◌, All, IfNone, IfOk, IfSome, vec_capacity, vec_len};
+ghost use Rattle.std.specs.Prelude.{◌≡◌, ◌≢◌, ℕ, ◌≤◌, All, IfNone, IfOk, IfSome, IsSomeAnd, vec_capacity, vec_len};
 ghost use Rattle.lin_history.specs.Problems.Problem.{problem_of};
-ghost use Rattle.lin_search.specs.Count.{IsNumberReachable};
 ghost use Rattle.lin_table.specs.Hand.{IsHandOf};
 ghost use Rattle.lin_workers.specs.Cut.{IsCut};
 ghost use Rattle.lin_workers.specs.Outcomes.{AreOutcomes};
-ghost use Rattle.lin_workers.specs.Verdict.{IsObjectVerdict};
+ghost use Rattle.lin_workers.specs.Verdict.{IsNumberStored, IsObjectVerdict};
 
 use crate::cutting::cut;
 use crate::deciding::decide;
@@ -17,17 +16,14 @@ use crate::stalling::outcomes_unless_stalled;
 use crate::task::Task;
 use crate::verdict::{CheckFault, ObjectVerdict};
 use lin_history::Problem;
-use lin_object::{SeqObject, SharedObject, lawful};
+use lin_object::{SeqObject, SharedObject};
 use lin_search::{Memo, Outcome, OwnMemo};
-use lin_table::{Hand, SharedMemo, Table};
+use lin_table::{Hand, STORED_BOUND, SharedMemo, Table};
 use std::alloc::{AllocError, AllocGlobal, Global};
 use std::thread::Threads;
 
 // How many tasks are wanted for each worker.
 const TASKS_EACH: usize = 4;
-
-// The number stored that is told is less than this.
-const STORED_BOUND: u64 = 1 << 54;
 
 // The verdict, where the search ended with one.
 fn unless_undecided(verdict: ObjectVerdict) -> Option<ObjectVerdict>
@@ -98,12 +94,10 @@ fn check_over_memo<O: SeqObject>(
     requires { memo.old.problem ≡ problem.now }
     ensures verdict { IfOk result (λ checked. IfSome checked (λ r. IsObjectVerdict
         (problem_of O.after O.State.eq O.Reply.eq problem.now) limit r.0)) }
-    ensures bound { IfOk result (λ checked. IfSome checked (λ r. r.1 < 2 ^ 54)) }
-    ensures at_most { IfOk result (λ checked. IfSome checked (λ r. (n : ℕ) → IsNumberReachable
-        (problem_of O.after O.State.eq O.Reply.eq problem.now) n → r.1 ≤ n)) }
+    ensures stored { IfOk result (λ checked. IfSome checked (λ r. IsNumberStored
+        (problem_of O.after O.State.eq O.Reply.eq problem.now) r.1)) }
     ensures memo { memo.new.problem ≡ memo.old.problem }
 {
-    lawful::<O>();
     let decided = decide_alone(alloc, problem, memo, workers, limit)?;
     let stored = memo.count();
     match decided {
@@ -123,9 +117,8 @@ fn check_alone<O: SeqObject, G: Gate>(
     requires { memo.old.problem ≡ problem.now }
     ensures verdict { IfOk result (λ checked. IfSome checked (λ r. IsObjectVerdict
         (problem_of O.after O.State.eq O.Reply.eq problem.now) options.now.limit r.0)) }
-    ensures bound { IfOk result (λ checked. IfSome checked (λ r. r.1 < 2 ^ 54)) }
-    ensures at_most { IfOk result (λ checked. IfSome checked (λ r. (n : ℕ) → IsNumberReachable
-        (problem_of O.after O.State.eq O.Reply.eq problem.now) n → r.1 ≤ n)) }
+    ensures stored { IfOk result (λ checked. IfSome checked (λ r. IsNumberStored
+        (problem_of O.after O.State.eq O.Reply.eq problem.now) r.1)) }
     ensures memo { memo.new.problem ≡ memo.old.problem }
 {
     if gate.wants_workers() {
@@ -235,9 +228,8 @@ fn check_over_table<O: SharedObject, R: Threads + Sync, G: Gate>(
 ) -> Result<(ObjectVerdict, u64), AllocError>
     ensures verdict { IfOk result (λ r. IsObjectVerdict
         (problem_of O.after O.State.eq O.Reply.eq memo.now.problem) options.now.limit r.0) }
-    ensures bound { IfOk result (λ r. r.1 < 2 ^ 54) }
-    ensures at_most { IfOk result (λ r. (n : ℕ) → IsNumberReachable
-        (problem_of O.after O.State.eq O.Reply.eq memo.now.problem) n → r.1 ≤ n) }
+    ensures stored { IfOk result (λ r. IsNumberStored
+        (problem_of O.after O.State.eq O.Reply.eq memo.now.problem) r.1) }
 {
     let shards = options.shards() as usize;
     let workers = options.workers() as usize;
@@ -260,9 +252,8 @@ fn check_by_any<O: SharedObject, R: Threads + Sync, G: Gate>(
 ) -> Result<(ObjectVerdict, u64), AllocError>
     ensures verdict { IfOk result (λ r. IsObjectVerdict
         (problem_of O.after O.State.eq O.Reply.eq problem.now) options.now.limit r.0) }
-    ensures bound { IfOk result (λ r. r.1 < 2 ^ 54) }
-    ensures at_most { IfOk result (λ r. (n : ℕ) → IsNumberReachable
-        (problem_of O.after O.State.eq O.Reply.eq problem.now) n → r.1 ≤ n) }
+    ensures stored { IfOk result (λ r. IsNumberStored
+        (problem_of O.after O.State.eq O.Reply.eq problem.now) r.1) }
 {
     let mut memo = OwnMemo::new(alloc, problem);
     match check_alone(alloc, problem, &mut memo, options, gate)? {
@@ -282,23 +273,23 @@ fn check_by_any<O: SharedObject, R: Threads + Sync, G: Gate>(
 /// for every number of workers and shards and on every schedule; with a limit, which bounds the search of each task, it may be
 /// `Undecided`, and that only where there are more runs than the limit.
 ///
-/// The number stored is below 2^54 and at most that of the reachable configurations. `CheckFault::Memory` where the calling
-/// thread was refused memory; a worker that was refused some leaves its task to the calling thread, and where no thread can be
-/// had the workers work one after another. It may wait: for its workers, which wait where the gate does.
+/// The number stored is always told. It is below 2^54, and there are as many reachable configurations or more.
+/// `CheckFault::Memory` where the calling thread was refused memory; a worker that was refused some leaves its task to the
+/// calling thread, and where no thread can be had the workers work one after another. It may wait: for its workers, which wait
+/// where the gate does.
 pub fn check_object<O: SharedObject, R: AllocGlobal + Threads + Sync, G: Gate>(
     rt: &R,
     problem: &Problem<O>,
     options: &Options,
     gate: &G,
-) -> Result<(ObjectVerdict, u64), CheckFault>
+) -> Result<(ObjectVerdict, Option<u64>), CheckFault>
     ensures verdict { IfOk result (λ r. IsObjectVerdict
         (problem_of O.after O.State.eq O.Reply.eq problem.now) options.now.limit r.0) }
-    ensures bound { IfOk result (λ r. r.1 < 2 ^ 54) }
-    ensures at_most { IfOk result (λ r. (n : ℕ) → IsNumberReachable
-        (problem_of O.after O.State.eq O.Reply.eq problem.now) n → r.1 ≤ n) }
+    ensures stored { IfOk result (λ r. IsSomeAnd r.1 (IsNumberStored
+        (problem_of O.after O.State.eq O.Reply.eq problem.now))) }
 {
     match check_by_any(rt, rt.alloc(), problem, options, gate) {
-        Ok(checked) => Ok(checked),
+        Ok((verdict, stored)) => Ok((verdict, Some(stored))),
         Err(AllocError) => Err(CheckFault::Memory),
     }
 }

@@ -7,6 +7,7 @@ ghost use Rattle.lin_search.specs.Answer.{IsAnswer};
 ghost use Rattle.lin_search.specs.declared.outcome.Outcome.{Outcome as OutcomeOf};
 ghost use Rattle.lin_board.specs.Board.{IsSeatOf};
 ghost use Rattle.lin_table.specs.Hand.{IsHandOf};
+ghost use Rattle.lin_table.specs.Shared.{HasGrown};
 ghost use Rattle.lin_workers.specs.Cut.{IsCut};
 ghost use Rattle.lin_workers.specs.Heard.{HasHeard};
 ghost use Rattle.lin_workers.specs.Values.{AreValues};
@@ -133,6 +134,7 @@ pub(crate) fn scout_until_leading<O: SeqObject>(
     requires hand { IsHandOf table.now hand.old }
     requires seat { IsSeatOf board.now seat.old }
     ensures hand { IsHandOf table.now hand.new }
+    ensures grown { HasGrown hand.old hand.new }
     ensures seat { HasHeard seat.old seat.new }
 {
     let Some(role) = role else {

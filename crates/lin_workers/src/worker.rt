@@ -5,6 +5,7 @@ ghost use Rattle.lin_history.specs.Problems.Configurations.{IsReachable};
 ghost use Rattle.lin_search.specs.Answer.{IsAnswer};
 ghost use Rattle.lin_board.specs.Board.{IsSeatOf};
 ghost use Rattle.lin_table.specs.Hand.{IsHandOf};
+ghost use Rattle.lin_table.specs.Shared.{HasGrown};
 ghost use Rattle.lin_workers.specs.Cut.{IsCut};
 ghost use Rattle.lin_search.specs.declared.outcome.Outcome.{Outcome as OutcomeOf};
 ghost use Rattle.lin_workers.specs.Heard.{HasFound, HasHeard, IsTold};
@@ -53,6 +54,7 @@ fn search_over_table<O: SeqObject>(
         (problem_of O.after O.State.eq O.Reply.eq problem.now) task.now.config.lifted
         task.now.config.state limit (IsTold number seat.new)) }
     ensures hand { IsHandOf table.now hand.new }
+    ensures grown { HasGrown hand.old hand.new }
     ensures seat { HasHeard seat.old seat.new }
 {
     let mut memo = SharedMemo::new(table, hand);
@@ -82,6 +84,7 @@ fn search_task<O: SeqObject>(
         (problem_of O.after O.State.eq O.Reply.eq problem.now) task.now.config.lifted
         task.now.config.state limit (IsTold number seat.new)) }
     ensures hand { IsHandOf table.now hand.new }
+    ensures grown { HasGrown hand.old hand.new }
     ensures seat { HasHeard seat.old seat.new }
 {
     scout_until_leading(alloc, problem, task, number, role, table, hand, board, seat);
@@ -134,6 +137,7 @@ pub(crate) fn claim_all<O: SeqObject, G: Gate>(
     ensures brought { HasBrought (problem_of O.after O.State.eq O.Reply.eq problem.now) tasks.now
         limit seat.old seat.new values.new.items }
     ensures hand { IsHandOf table.now hand.new }
+    ensures grown { HasGrown hand.old hand.new }
     ensures seat { IsSeatOf board.now seat.new }
     ensures ended { seat.new.ended ≡ true }
 {
@@ -154,7 +158,8 @@ pub(crate) fn claim_all<O: SeqObject, G: Gate>(
 /// Claims tasks of a cut and searches each over the table, until all are claimed. A task's value is the outcome of its
 /// search, within the limit where one is given; the search is stopped where the board tells of a smaller task that was
 /// found. A task whose search or whose value was refused memory has no value, and the worker goes on. The gate is entered
-/// after each claim, and may wait.
+/// after each claim, and may wait. What the hand had stored stands in front of what it has stored then, and what the seat had
+/// claimed in front of its claims.
 ///
 /// Conditions: the tasks are a cut of the problem, and the board has as many; the hand came with the table and the seat with
 /// the board.
@@ -177,6 +182,7 @@ pub fn work<O: SeqObject, G: Gate>(
     ensures brought { HasBrought (problem_of O.after O.State.eq O.Reply.eq problem.now) tasks.now
         limit seat result.seat result.values.items }
     ensures hand { IsHandOf table.now result.hand }
+    ensures grown { HasGrown hand result.hand }
     ensures seat { IsSeatOf board.now result.seat }
     ensures ended { result.seat.ended ≡ true }
 {

@@ -1,5 +1,6 @@
 use Rattle.std.proofs.Common.{◌∙◌, arith}
 use Rattle.lin_history.specs.Problems.Problem.{problem_of}
+use Rattle.lin_table.specs.SharedLemmas.{grown_twice}
 use Rattle.lin_workers.proofs.RunLemmas.{leads_reachable}
 use Rattle.lin_workers.proofs.LevelLemmas.{item_at, task_at}
 use Rattle.lin_workers.proofs.ValueLemmas.{brought_same, brought_kept, brought_ended}
@@ -13,6 +14,7 @@ search_task-searched-requires-clause-reachable g c =
 pub loop-number-preserved-in-Some-searched : goal.loop-number-preserved-in-Some-searched
 loop-number-preserved-in-Some-searched g c = record {
   hand = c.search_task-searched.ensures.hand;
+  grown = grown_twice _ _ _ c.loop-number.invariant.grown c.search_task-searched.ensures.grown;
   seat = c.keep.ensures.kept.3.board ∙ c.search_task-searched.ensures.seat.board ∙ c.in-Some.ensures.seat;
   brought = brought_kept (problem_of g.O.SeqObject.after g.O.State.PartialEq.eq g.O.Reply.PartialEq.eq c.args.problem.now) c.args.tasks.now c.args.limit c.args.seat.now c.loop-number.seat c.claim.new.seat c.loop-number.values.items c.in-Some.number c.claim.result c.in-Some.is c.claim.ensures.changed c.loop-number.invariant.brought c.search_task-searched.new.seat c.keep.new.seat c.in-Some-searched.outcome c.index-tasks-number.result c.keep.new.values.items c.search_task-searched.ensures.seat c.in-Some.ensures.other (item_at c.args.tasks.now c.in-Some.number c.index-tasks-number.result (let b = c.in-Some.ensures.below in let e = c.requires.tasks in omega (arith, b, e)) c.index-tasks-number.is) c.in-Some-searched.ensures.answer c.keep.ensures.kept;
 }
@@ -20,6 +22,7 @@ loop-number-preserved-in-Some-searched g c = record {
 pub loop-number-preserved : goal.loop-number-preserved
 loop-number-preserved g c = record {
   hand = c.search_task-searched.ensures.hand;
+  grown = grown_twice _ _ _ c.loop-number.invariant.grown c.search_task-searched.ensures.grown;
   seat = c.search_task-searched.ensures.seat.board ∙ c.in-Some.ensures.seat;
   brought = brought_same (problem_of g.O.SeqObject.after g.O.State.PartialEq.eq g.O.Reply.PartialEq.eq c.args.problem.now) c.args.tasks.now c.args.limit c.args.seat.now c.loop-number.seat c.claim.new.seat c.loop-number.values.items c.in-Some.number c.claim.result c.in-Some.is c.claim.ensures.changed c.loop-number.invariant.brought c.search_task-searched.new.seat c.search_task-searched.ensures.seat;
 }
