@@ -1,7 +1,7 @@
 //! A memo that forgets, one that keeps copies of what is new, and a stop that counts down.
 
-ghost use Rattle.std.specs.Prelude.{◌≡◌};
-ghost use Rattle.lin_search.specs.declared.memo.Noted.TheVariants.{Busy};
+ghost use Rattle.std.specs.Prelude.{◌≡◌, if◌then◌else◌};
+ghost use Rattle.lin_search.specs.declared.memo.Noted.TheVariants.{Busy, NoRoom};
 ghost use Rattle.lin_table.specs.Shared.{HasGrown};
 
 use lin_history::Problem;
@@ -10,9 +10,11 @@ use lin_search::{CallSet, Config, Longest, Memo, Noted, Stop};
 use lin_table::SharedMemo;
 use std::alloc::{AllocError, Global};
 
-/// A memo that keeps nothing: it knows no configuration, and is always busy.
+/// A memo that keeps nothing: it knows no configuration, and is always busy, or has no room where it is full.
 #[derive(Drop)]
-pub struct Forgetful;
+pub struct Forgetful {
+    pub is_full: bool,
+}
 
 impl Memo<AnyObject> for Forgetful {
     ghost changes = { λ old new. Unit {0} };
@@ -21,7 +23,8 @@ impl Memo<AnyObject> for Forgetful {
 
     ghost is_of = { λ m p. Unit {0} };
 
-    ghost answers = { λ old p config longest noted new. noted ≡ Busy };
+    ghost answers = { λ old p config longest noted new. noted
+        ≡ (if old.is_full then NoRoom else Busy) };
 
     fn look(
         &mut self,
@@ -38,7 +41,11 @@ impl Memo<AnyObject> for Forgetful {
         state: ObjState,
         longest: Longest,
     ) -> Noted {
-        Noted::Busy
+        if self.is_full {
+            Noted::NoRoom
+        } else {
+            Noted::Busy
+        }
     }
 
     ghost unchanged = { λ m. tt };

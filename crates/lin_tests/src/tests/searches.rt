@@ -7,8 +7,8 @@ use super::random::random_history;
 use lin_history::{History, Order, Placed, Problem, WholeOrder, verify};
 use lin_object::{AnyObject, Kind, ObjState, Op, Reply, SeqObject, start_state};
 use lin_search::{
-    Config, Entries, Longest, Memo, NoStop, Noted, Outcome, OwnMemo, Refutation, Stop, search,
-    search_alone,
+    Config, Entries, Longest, Memo, NoStop, Noted, Outcome, OwnMemo, Refutation, Stop, longest_run,
+    search, search_alone,
 };
 use lin_workers::{Scouting, scout};
 use std::alloc::{AllocError, Global};
@@ -179,6 +179,44 @@ fn a_search_ends_at_its_limit(rt: HostRuntime) {
     assert!(rt; matches!(early, Ok(Some(2))));
 }
 
+// Whether the search over this memo refutes the problem within 15 lifts, and not within 14.
+fn takes_15_lifts(alloc: Global, problem: &Part, memo: &mut Forgetful) -> Result<bool, AllocError> {
+    let refuted = Outcome::Refuted(THREE_MORE);
+    let enough = answers(alloc, problem, memo, Some(15), &mut NoStop, &refuted)?;
+    let undecided = Outcome::Undecided;
+    let less = answers(alloc, problem, memo, Some(14), &mut NoStop, &undecided)?;
+    Ok(enough && less)
+}
+
+// The longest run over this memo, where the problem has no linearization.
+fn longest_over(
+    alloc: Global,
+    problem: &Part,
+    memo: &mut Forgetful,
+) -> Result<Option<Order>, AllocError> {
+    let (outcome, _) = search_alone(alloc, problem)?;
+    let Outcome::Refuted(_) = outcome else {
+        return Ok(None);
+    };
+    Ok(Some(longest_run(alloc, problem, memo)?))
+}
+
+// Whether a search and a longest run go on over this memo, whatever it answers to what it is handed.
+fn goes_on_over(alloc: Global, problem: &Part, memo: &mut Forgetful) -> Result<bool, AllocError> {
+    let writes = Order::new(vec![in alloc; 0, 1, 2]?);
+    let run = longest_over(alloc, problem, memo)?;
+    Ok(run == Some(writes) && takes_15_lifts(alloc, problem, memo)?)
+}
+
+#[test]
+fn no_answer_to_what_it_notes_ends_a_search(rt: HostRuntime) {
+    let problem = posed_by(rt.alloc(), Kind::Register, &READ_OF_NO_WRITTEN_VALUE);
+    let mut busy = Forgetful { is_full: false };
+    assert!(rt; matches!(goes_on_over(rt.alloc(), &problem, &mut busy), Ok(true)));
+    let mut full = Forgetful { is_full: true };
+    assert!(rt; matches!(goes_on_over(rt.alloc(), &problem, &mut full), Ok(true)));
+}
+
 #[test]
 fn a_hit_is_a_lift(rt: HostRuntime) {
     let problem = posed_by(rt.alloc(), Kind::Register, &WRITES_OF_ONE_VALUE);
@@ -246,6 +284,19 @@ fn a_scout_refutes_in_any_direction(rt: HostRuntime) {
     assert!(rt; is_scouted(rt.alloc(), &problem, 1) && is_scouted(rt.alloc(), &problem, 2));
 }
 
+// Whether a search whose limit is three lifts ends at it, with a stop that answers after as many.
+fn is_undecided_first(alloc: Global, problem: &Part) -> Result<bool, AllocError> {
+    let mut stop = Countdown { lifts: 3 };
+    let stored = stored_by(alloc, problem, Some(3), &mut stop, &Outcome::Undecided)?;
+    Ok(stored == Some(2))
+}
+
+#[test]
+fn the_limit_comes_before_the_stop(rt: HostRuntime) {
+    let problem = posed_by(rt.alloc(), Kind::Register, &READ_OF_NO_WRITTEN_VALUE);
+    assert!(rt; matches!(is_undecided_first(rt.alloc(), &problem), Ok(true)));
+}
+
 #[test]
 fn a_search_is_stopped_and_taken_up(rt: HostRuntime) {
     let problem = posed_by(rt.alloc(), Kind::Register, &READ_OF_NO_WRITTEN_VALUE);
@@ -282,7 +333,8 @@ pub(super) fn refuted_root(
     problem: &Part,
 ) -> Result<Option<Refutation<'_, AnyObject>>, AllocError> {
     let root = Config::root(alloc, problem)?;
-    match search(alloc, problem, &root, &mut Forgetful, None, &mut NoStop)? {
+    let mut memo = Forgetful { is_full: false };
+    match search(alloc, problem, &root, &mut memo, None, &mut NoStop)? {
         Outcome::Refuted(longest) => Ok(Some(Refutation::new(problem, root, longest))),
         Outcome::Found(_) | Outcome::Undecided | Outcome::Stopped(_) => Ok(None),
     }
@@ -434,7 +486,8 @@ fn replayed(alloc: Global, problem: &Part, order: &Order) -> Result<WholeOrder, 
 // What a search answers over a memo that keeps nothing.
 pub(super) fn plainly_searched(alloc: Global, problem: &Part) -> Result<Outcome, AllocError> {
     let root = Config::root(alloc, problem)?;
-    search(alloc, problem, &root, &mut Forgetful, None, &mut NoStop)
+    let mut memo = Forgetful { is_full: false };
+    search(alloc, problem, &root, &mut memo, None, &mut NoStop)
 }
 
 // Whether the verifier takes the order that was found, if one was.
