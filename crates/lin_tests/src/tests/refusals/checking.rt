@@ -58,9 +58,9 @@ impl Gate for Eager {
 type Row = (&'static str, bool, &'static [usize], u64);
 
 const ROWS: [Row; 3] = [
-    (QUEUE, true, &[1, 0, 2, 3], 15),
-    (CROSSED, true, &[1, 2, 0, 3], 15),
-    (REFUTED, false, &[0, 1, 2], 15),
+    (QUEUE, true, &[1, 0, 2, 3], 200),
+    (CROSSED, true, &[1, 2, 0, 3], 200),
+    (REFUTED, false, &[0, 1, 2], 200),
 ];
 
 // Whether these are the calls.
@@ -344,8 +344,8 @@ fn is_asked(alloc: Global, words: &[&str], times: u64) -> Result<bool, AllocErro
 
 #[test]
 fn words_are_refused_memory_or_told_in_the_same_words(rt: HostRuntime) {
-    let none = is_asked(rt.alloc(), &[], 4);
+    let none = is_asked(rt.alloc(), &[], 200);
     assert!(rt; none == Ok(true), "{none:?}");
-    let wrong = is_asked(rt.alloc(), &["--workers", "65"], 3);
+    let wrong = is_asked(rt.alloc(), &["--workers", "65"], 200);
     assert!(rt; wrong == Ok(true), "{wrong:?}");
 }

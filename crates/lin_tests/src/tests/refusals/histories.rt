@@ -32,7 +32,7 @@ fn a_declaration_is_refused_or_recorded(rt: HostRuntime) {
         alloc: rt.alloc(),
         builder: Builder::new(rt.alloc()),
     };
-    assert!(rt; is_refused(rt.alloc(), &mut declaring, 3));
+    assert!(rt; is_refused(rt.alloc(), &mut declaring, 10));
 }
 
 // A call of a process on a register.
@@ -65,7 +65,7 @@ fn a_call_is_refused_or_recorded(rt: HostRuntime) {
         builder: Builder::new(rt.alloc()),
     };
     let declared = calling.builder.declare(rt.alloc(), "x", Kind::Register, 0);
-    assert!(rt; declared == Ok(()) && is_refused(rt.alloc(), &mut calling, 5));
+    assert!(rt; declared == Ok(()) && is_refused(rt.alloc(), &mut calling, 20));
 }
 
 // A call of a problem by hand.
@@ -89,7 +89,7 @@ fn a_call_by_hand_is_refused_or_added(rt: HostRuntime) {
     let mut adding = Adding {
         problem: Problem::new(rt.alloc(), AnyObject, ObjState::Register(0)),
     };
-    assert!(rt; is_refused(rt.alloc(), &mut adding, 1));
+    assert!(rt; is_refused(rt.alloc(), &mut adding, 10));
 }
 
 /// Two enqueues at once, and two dequeues in another order.
@@ -146,7 +146,7 @@ fn a_text_is_refused_memory_or_read(rt: HostRuntime) {
             alloc: rt.alloc(),
             is_faulty,
         };
-        assert!(rt; is_refused(rt.alloc(), &mut reading, 16));
+        assert!(rt; is_refused(rt.alloc(), &mut reading, 30));
     }
 }
 
@@ -203,6 +203,6 @@ fn is_made(alloc: Global, verifies: bool, times: u64) -> Result<bool, AllocError
 
 #[test]
 fn a_problem_and_a_check_of_an_order_are_refused_or_made(rt: HostRuntime) {
-    assert!(rt; matches!(is_made(rt.alloc(), false, 2), Ok(true)));
+    assert!(rt; matches!(is_made(rt.alloc(), false, 10), Ok(true)));
     assert!(rt; matches!(is_made(rt.alloc(), true, 2), Ok(true)));
 }

@@ -282,6 +282,6 @@ fn is_run<R: AllocGlobal + Threads + Sync>(rt: &R, times: u64) -> Result<bool, A
 
 #[test]
 fn a_run_is_refused_memory_and_writes_nothing_or_reports(rt: HostRuntime) {
-    let told = is_run(&rt, 25);
+    let told = is_run(&rt, 100);
     assert!(rt; told == Ok(true), "{told:?}");
 }

@@ -156,8 +156,8 @@ fn are_made(alloc: Global, cuts: bool, times: u64) -> bool {
 
 #[test]
 fn entries_and_a_cut_are_refused_or_made(rt: HostRuntime) {
-    assert!(rt; are_made(rt.alloc(), false, 4));
-    assert!(rt; are_made(rt.alloc(), true, 4));
+    assert!(rt; are_made(rt.alloc(), false, 10));
+    assert!(rt; are_made(rt.alloc(), true, 20));
 }
 
 // A memo that is refused memory for one note.

@@ -45,7 +45,7 @@ fn is_made(alloc: Global, board: bool, times: u64) -> bool {
 
 #[test]
 fn a_table_and_a_board_are_refused_or_made(rt: HostRuntime) {
-    assert!(rt; is_made(rt.alloc(), false, 4));
+    assert!(rt; is_made(rt.alloc(), false, 20));
     assert!(rt; is_made(rt.alloc(), true, 2));
 }
 
