@@ -42,7 +42,7 @@ impl Printing {
 
 impl Attempt for Printing {
     fn attempt(&mut self) -> Result<bool, AllocError> {
-        let mut out = Vec::with_capacity(self.alloc, 1)?;
+        let mut out = Vec::with_capacity(self.alloc, 24)?;
         for _ in 0..out.capacity() {
             out.push(b'x')?;
         }
