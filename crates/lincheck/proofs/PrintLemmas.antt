@@ -1,5 +1,5 @@
 -- What is printed of what was read is printed of the text.
-use Rattle.std.proofs.Common.{◌≡◌, ℕ, ◌+◌, ◌<◌, List, [], ◌∷◌, length, length-append, take, Option, Some, None, IfSome, Result, Ok, Err, OnOk, OnErr, Bool, false, inl, inr, refl, sym, ap, subst, ◌∙◌, arith}
+use Rattle.std.proofs.Common.{◌≡◌, ℕ, ◌+◌, ◌<◌, ◌≤◌, List, [], ◌∷◌, length, length-append, take, Option, Some, None, IfSome, Result, Ok, Err, OnOk, OnErr, Bool, true, false, inl, inr, refl, sym, ap, subst, ◌∙◌, arith}
 use Rattle.std.proofs.lemmas.Option.{slice_get_within}
 use Rattle.lin_object.specs.declared.reply.Reply.{Reply}
 use Rattle.lin_object.specs.declared.state.ObjState.{ObjState}
@@ -22,7 +22,10 @@ use Rattle.std.specs.Io.KnownBytes.{Appends}
 use Rattle.lincheck.specs.declared.fault.RunFault.{RunFault}
 use Rattle.lincheck.specs.declared.fault.RunFault.TheVariants.{Read, Write, Memory}
 use Rattle.lincheck.proofs.Bytes.{kept}
-use Rattle.lincheck.specs.Prints.{IsReport, WithStats, Follows, Prints, status_of}
+use Rattle.lin_history.specs.declared.limits.TheConstants.{MAX_OBJECTS}
+use Rattle.lincheck.specs.Report.{with_stats}
+use Rattle.lincheck.specs.Stored.{IsStoredTold, judged_of}
+use Rattle.lincheck.specs.Prints.{IsReport, WithStats, Prints, status_of}
 use Rattle.std.specs.Result.{result_map_both, is_err}
 use Rattle.lincheck.specs.Ran.{is_read, is_write, is_fault, RanFrom}
 
@@ -38,14 +41,11 @@ means_fault text read line cause (inr long) (inl m) =
     inl (omega (arith, l, n), m.1, m.2)
 means_fault text read line cause (inr long) (inr m) = absurd (let s = m.2.short in let l = long.0 in omega (arith, s, l))
 
-report_read : (limit : Option ℕ) (text read : List ℕ) (status : Status) (printed : List ℕ) → IsReadOf text read → IsReport limit read status printed → IsReport limit text status printed
-report_read limit text read Yes printed r p = (p.0, means_history text read p.0 r p.1, p.2)
-report_read limit text read No printed r p = (p.0, means_history text read p.0 r p.1, p.2, p.3)
-report_read limit text read Undecided printed r p = (p.0, means_history text read p.0 r p.1, p.2)
-report_read limit text read Refused printed r p = (p.0, means_fault text read p.0.line p.0.cause r p.1, p.2)
-
 pub prints_read : (options : Options) (text read : List ℕ) (status : Status) (printed : List ℕ) → IsReadOf text read → Prints options read status printed → Prints options text status printed
-prints_read options text read status printed r p = (p.0, report_read options.limit text read status p.0 r p.1, p.2)
+prints_read options text read Yes printed r p = (p.0, means_history text read p.0 r p.1, p.2)
+prints_read options text read No printed r p = (p.0, means_history text read p.0 r p.1, p.2)
+prints_read options text read Undecided printed r p = (p.0, means_history text read p.0 r p.1, p.2)
+prints_read options text read Refused printed r p = (p.0, means_fault text read p.0.line p.0.cause r p.1, p.2)
 
 -- the calls of a list are known where its first and the rest are
 known_more : (h : RecordedHistory) (x : Placed Reply) (xs : List (Placed Reply)) → x.call < length h.calls → AreKnown (whole_of h) xs → AreKnown (whole_of h) (x ∷ xs)
@@ -70,21 +70,29 @@ verdict_of h limit (verdicts.Yes l) v = replayed_known h (start_at h) l v.1.lega
 verdict_of h limit (verdicts.No object run) v = (v.0.0.declared, placed_known h object (start_at h object) v.0.1.order run.items v.0.1.placed)
 verdict_of h limit (verdicts.Undecided object) v = v.declared
 
--- the report of a right verdict is the report of the text
-report_of_verdict : (text : List ℕ) (h : RecordedHistory) (limit : Option ℕ) (v : Verdict) (printed : List ℕ) → MeansHistory text h → IsVerdict h limit v → printed ≡ report_of h v → IsReport limit text (status_of v) printed
-report_of_verdict text h limit (verdicts.Yes l) printed m v p = (h, m, (v.0.0, l, v.0.1, v.0.2, v.1, p))
-report_of_verdict text h limit (verdicts.No object run) printed m v p = (h, m, (object, run.items, v.0.0, v.0.1, p), v.1)
-report_of_verdict text h limit (verdicts.Undecided object) printed m v p = (h, m, (object, v, p))
+-- the report of a right verdict is the report of the history
+report_of_verdict : (h : RecordedHistory) (limit : Option ℕ) (v : Verdict) (printed : List ℕ) → IsVerdict h limit v → printed ≡ report_of h v → IsReport limit h (status_of v) (judged_of h v) printed
+report_of_verdict h limit (verdicts.Yes l) printed v p = ((v.0.0, l, v.0.1, v.0.2, v.1, p), refl)
+report_of_verdict h limit (verdicts.No object run) printed v p = (object, (run.items, v.0.0, v.0.1, p), v.1, refl)
+report_of_verdict h limit (verdicts.Undecided object) printed v p = (object, (v, p), refl)
 
-stats_follow : (stats : Bool) (v : Verdict) (report printed : List ℕ) → WithStats stats report printed → Follows stats (status_of v) report printed
-stats_follow stats (verdicts.Yes l) report printed s = s
-stats_follow stats (verdicts.No object run) report printed s = s
-stats_follow stats (verdicts.Undecided object) report printed s = s
+-- no more objects are judged than there are
+pub judged_few : (h : RecordedHistory) (limit : Option ℕ) (v : Verdict) (most : ℕ) → IsVerdict h limit v → length h.objects ≤ most → judged_of h v ≤ most
+judged_few h limit (verdicts.Yes l) most v few = few
+judged_few h limit (verdicts.No object run) most v few = let d = v.0.0.declared in omega (arith, d, few)
+judged_few h limit (verdicts.Undecided object) most v few = let d = v.declared in omega (arith, d, few)
 
--- and it is what the text prints, with the statistics after it
-pub prints_verdict : (text : List ℕ) (h : RecordedHistory) (options : Options) (v : Verdict) (report printed : List ℕ) → MeansHistory text h → IsVerdict h options.limit v → report ≡ report_of h v → WithStats options.stats report printed → Prints options text (status_of v) printed
-prints_verdict text h options v report printed m right is stats =
-    (report, report_of_verdict text h options.limit v report m right is, stats_follow options.stats v report printed stats)
+-- the statistics, where the number is told
+pub stats_told : (stats : Bool) (h : RecordedHistory) (n : ℕ) (stored : Option ℕ) (report printed : List ℕ) → printed ≡ with_stats stats stored report → IsStoredTold h n stored → n ≤ MAX_OBJECTS → WithStats stats h n report printed
+stats_told false h n stored report printed e told few = e
+stats_told true h n (Some stored) report printed e told few = (stored, told.is_sum, e)
+stats_told true h n None report printed e told few = absurd (let q = told.is_told few in cc)
+
+-- and the text prints it, with the statistics after it
+pub prints_verdict : (text : List ℕ) (h : RecordedHistory) (options : Options) (v : Verdict) (report printed : List ℕ) → MeansHistory text h → IsVerdict h options.limit v → report ≡ report_of h v → WithStats options.stats h (judged_of h v) report printed → Prints options text (status_of v) printed
+prints_verdict text h options (verdicts.Yes l) report printed m right is stats = (h, m, (length h.objects, report, report_of_verdict h options.limit (verdicts.Yes l) report right is, stats))
+prints_verdict text h options (verdicts.No object run) report printed m right is stats = (h, m, (object + 1, report, report_of_verdict h options.limit (verdicts.No object run) report right is, stats))
+prints_verdict text h options (verdicts.Undecided object) report printed m right is stats = (h, m, (object + 1, report, report_of_verdict h options.limit (verdicts.Undecided object) report right is, stats))
 
 -- ---- a run on what was read
 

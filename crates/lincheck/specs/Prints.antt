@@ -1,5 +1,5 @@
 -- What a text prints.
-use Rattle.std.specs.Prelude.{◌≡◌, ℕ, Bool, true, false, Option, List, ◌++◌}
+use Rattle.std.specs.Prelude.{◌≡◌, ℕ, ◌+◌, Bool, true, false, Option, Some, List, ◌++◌, length}
 use Rattle.lin_object.specs.declared.reply.Reply.{Reply}
 use Rattle.lin_history.specs.declared.locality.placed.Placed.{Placed}
 use Rattle.lin_history.specs.Recorder.RecordedHistory.{RecordedHistory}
@@ -15,6 +15,7 @@ use Rattle.lincheck.specs.declared.status.Status.TheVariants.{Yes, No, Undecided
 use Rattle.lincheck.specs.declared.verdict.Verdict.{Verdict}
 use Rattle.lincheck.specs.declared.verdict.Verdict.TheVariants as verdicts
 use Rattle.lincheck.specs.Verdict.{AreLeast, IsFirstWithout, IsLongestRunOf, IsUndecidedAt}
+use Rattle.lincheck.specs.Stored.{IsStoredSum}
 use Rattle.lincheck.specs.Report.{yes_report, no_report, undecided_report, stored_line}
 
 -- A text that means a fault prints the line of the fault.
@@ -27,35 +28,35 @@ abbrev pub PrintsYes : RecordedHistory → List ℕ → Type 0
 PrintsYes h printed = (orders : List (List ℕ)) × (l : List (Placed Reply)) × AreLeast h orders × IsJoined (whole_of h) orders l × IsLinearizationOfWhole (whole_of h) l × (printed ≡ yes_report h l)
 
 -- Otherwise it prints the first object that has none, with its longest run.
-abbrev pub PrintsNo : RecordedHistory → List ℕ → Type 0
-PrintsNo h printed = (object : ℕ) × (run : List (Placed Reply)) × IsFirstWithout h object × IsLongestRunOf h object run × (printed ≡ no_report h object run)
+abbrev pub PrintsNo : RecordedHistory → ℕ → List ℕ → Type 0
+PrintsNo h object printed = (run : List (Placed Reply)) × IsFirstWithout h object × IsLongestRunOf h object run × (printed ≡ no_report h object run)
 
 -- Within a limit it may print an object that is not decided.
-abbrev pub PrintsUndecided : RecordedHistory → Option ℕ → List ℕ → Type 0
-PrintsUndecided h limit printed = (object : ℕ) × IsUndecidedAt h limit object × (printed ≡ undecided_report h object)
+abbrev pub PrintsUndecided : RecordedHistory → Option ℕ → ℕ → List ℕ → Type 0
+PrintsUndecided h limit object printed = IsUndecidedAt h limit object × (printed ≡ undecided_report h object)
 
--- The report of the text within the limit, with each status.
-abbrev pub IsReport : Option ℕ → List ℕ → Status → List ℕ → Type 0
-IsReport limit text Yes printed = (h : RecordedHistory) × MeansHistory text h × PrintsYes h printed
-IsReport limit text No printed = (h : RecordedHistory) × MeansHistory text h × PrintsNo h printed × ((l : List (Placed Reply)) → IsLinearizationOfWhole (whole_of h) l → ⊥)
-IsReport limit text Undecided printed = (h : RecordedHistory) × MeansHistory text h × PrintsUndecided h limit printed
-IsReport limit text Refused printed = PrintsRefused text printed
+-- The report of a history within the limit, with each status, where so many objects were judged: all, or those up to the one that is told.
+abbrev pub IsReport : Option ℕ → RecordedHistory → Status → ℕ → List ℕ → Type 0
+IsReport limit h Yes judged printed = PrintsYes h printed × (judged ≡ length h.objects)
+IsReport limit h No judged printed = (object : ℕ) × PrintsNo h object printed × ((l : List (Placed Reply)) → IsLinearizationOfWhole (whole_of h) l → ⊥) × (judged ≡ object + 1)
+IsReport limit h Undecided judged printed = (object : ℕ) × PrintsUndecided h limit object printed × (judged ≡ object + 1)
+IsReport limit h Refused judged printed = ⊥
 
--- The report alone, or with the line of statistics after it.
-abbrev pub WithStats : Bool → List ℕ → List ℕ → Type 0
-WithStats false report printed = printed ≡ report
-WithStats true report printed = (stored : Option ℕ) × (printed ≡ report ++ stored_line stored)
+-- The report alone, or with the line of statistics after it: how many configurations were stored for the objects that were judged.
+abbrev pub WithStats : Bool → RecordedHistory → ℕ → List ℕ → List ℕ → Type 0
+WithStats false h judged report printed = printed ≡ report
+WithStats true h judged report printed = (stored : ℕ) × IsStoredSum h judged stored × (printed ≡ report ++ stored_line (Some stored))
 
--- Statistics follow the report of a history, where they are asked for; none follow a refusal.
-abbrev pub Follows : Bool → Status → List ℕ → List ℕ → Type 0
-Follows stats Yes report printed = WithStats stats report printed
-Follows stats No report printed = WithStats stats report printed
-Follows stats Undecided report printed = WithStats stats report printed
-Follows stats Refused report printed = printed ≡ report
+-- What a history prints with these options, with each status: its report, and then statistics where they are asked for.
+abbrev pub PrintsWith : Options → RecordedHistory → Status → List ℕ → Type 0
+PrintsWith options h status printed = (judged : ℕ) × (report : List ℕ) × IsReport options.limit h status judged report × WithStats options.stats h judged report printed
 
--- What the text prints with these options, with each status: its report, and then statistics.
+-- What a text prints with these options, with each status: what the history prints that it means, or the line of its fault, which no statistics follow.
 abbrev pub Prints : Options → List ℕ → Status → List ℕ → Type 0
-Prints options text status printed = (report : List ℕ) × IsReport options.limit text status report × Follows options.stats status report printed
+Prints options text Yes printed = (h : RecordedHistory) × MeansHistory text h × PrintsWith options h Yes printed
+Prints options text No printed = (h : RecordedHistory) × MeansHistory text h × PrintsWith options h No printed
+Prints options text Undecided printed = (h : RecordedHistory) × MeansHistory text h × PrintsWith options h Undecided printed
+Prints options text Refused printed = PrintsRefused text printed
 
 -- The status that tells a verdict.
 abbrev pub status_of : Verdict → Status

@@ -1,5 +1,5 @@
 -- What a report shows (this project's own).
-use Rattle.std.specs.Prelude.{ℕ, ◌+◌, ◌==◌, ◌++◌, Bool, Option, Some, None, List, [], ◌∷◌, codes, length, slice_get, if◌then◌else◌}
+use Rattle.std.specs.Prelude.{ℕ, ◌+◌, ◌==◌, ◌++◌, Bool, true, false, Option, Some, None, List, [], ◌∷◌, codes, length, slice_get, if◌then◌else◌}
 use Rattle.std.specs.List.{list_any}
 use Rattle.std.specs.Option.{option_map_or}
 use Rattle.std.specs.Fmt.{decimal}
@@ -70,3 +70,8 @@ no_report h object run = name_line h object ++ length_line h object run ++ call_
 abbrev pub stored_line : Option ℕ → List ℕ
 stored_line (Some stored) = codes "stored " ++ decimal stored ++ codes "\n"
 stored_line None = codes "stored unknown\n"
+
+-- The report, with the line of statistics after it where they are asked for.
+abbrev pub with_stats : Bool → Option ℕ → List ℕ → List ℕ
+with_stats false stored report = report
+with_stats true stored report = report ++ stored_line stored

@@ -1,13 +1,14 @@
 //! The check of a history: its objects are searched one after another.
 
-ghost use Rattle.std.specs.Prelude.{◌≡◌, ◌<◌, ◌≤◌, ℕ, List, Option, Some, length, option_map, slice_get, IfOk, IfSome};
+ghost use Rattle.std.specs.Prelude.{◌≡◌, ◌+◌, ◌^◌, ◌<◌, ◌≤◌, ℕ, List, Option, Some, length, option_map, slice_get, IfOk, IfSome, IsSome, IsSomeAnd};
 ghost use Rattle.std.specs.ControlFlow.{ForBreak, ForContinue};
 ghost use Rattle.lin_history.specs.Locality.RecordedWhole.{part_of};
 ghost use Rattle.lin_history.specs.Problems.Linearizations.{IsLinearization};
 ghost use Rattle.lin_history.specs.Problems.Lists.{IsLeast};
 ghost use Rattle.lin_history.specs.Recorder.Parts.{start_of, part_calls};
 ghost use Rattle.lin_ahead.specs.AnyProblem.{any_problem};
-ghost use Rattle.lin_workers.specs.Verdict.{IsObjectVerdict};
+ghost use Rattle.lin_workers.specs.Verdict.{IsNumberStored, IsObjectVerdict};
+ghost use Rattle.lincheck.specs.Stored.{IsStoredTold, judged_of};
 ghost use Rattle.lincheck.specs.Verdict.{AreLeastOf, IsVerdict};
 
 use crate::verdict::{Checked, Verdict};
@@ -34,18 +35,23 @@ fn lifts_ahead(calls: usize, limit: Option<u64>) -> u64
     }
 }
 
-// The least linearization of the problem, where a first search finds it. What else such a search answers is of no use here,
-// nor is it where it was refused memory: the search that follows tells more.
-fn first_order(alloc: Global, problem: &Problem<AnyObject>, limit: Option<u64>) -> Option<Order>
-    ensures { IfSome result (IsLeast (IsLinearization (any_problem problem.now))) }
+// The least linearization of the problem, where a first search finds it. What else such a search answers is of no use here:
+// the search that follows tells more.
+fn first_order(
+    alloc: Global,
+    problem: &Problem<AnyObject>,
+    limit: Option<u64>,
+) -> Result<Option<Order>, AllocError>
+    ensures { IfOk result (λ found. IfSome found
+        (IsLeast (IsLinearization (any_problem problem.now)))) }
 {
-    let Ok(Some(ahead)) = known_ahead(alloc, problem) else {
-        return None;
+    let Some(ahead) = known_ahead(alloc, problem)? else {
+        return Ok(None);
     };
     let lifts = lifts_ahead(problem.len(), limit);
-    match search_first(alloc, problem, &ahead, lifts) {
-        Ok(FirstAnswer::Found(order)) => Some(order),
-        Ok(FirstAnswer::Refuted | FirstAnswer::Exhausted) | Err(AllocError) => None,
+    match search_first(alloc, problem, &ahead, lifts)? {
+        FirstAnswer::Found(order) => Ok(Some(order)),
+        FirstAnswer::Refuted | FirstAnswer::Exhausted => Ok(None),
     }
 }
 
@@ -58,16 +64,18 @@ fn judge_object<R: AllocGlobal + Threads + Sync, G: Gate>(
     problem: &Problem<AnyObject>,
     options: &Options,
     gate: &G,
-) -> Result<(ObjectVerdict, u64), AllocError>
+) -> Result<(ObjectVerdict, Option<u64>), AllocError>
     requires start { option_map start_of (slice_get history.now.objects object)
         ≡ Some problem.now.start }
     requires calls { problem.now.calls ≡ part_calls history.now object }
-    ensures { IfOk result (λ judged. IsObjectVerdict (part_of history.now object)
+    ensures verdict { IfOk result (λ judged. IsObjectVerdict (part_of history.now object)
         options.now.limit judged.0) }
+    ensures stored { IfOk result (λ judged. IsSomeAnd judged.1
+        (IsNumberStored (part_of history.now object))) }
 {
     if !gate.wants_workers() {
-        if let Some(order) = first_order(rt.alloc(), problem, options.limit()) {
-            return Ok((ObjectVerdict::Yes(order), 0));
+        if let Some(order) = first_order(rt.alloc(), problem, options.limit())? {
+            return Ok((ObjectVerdict::Yes(order), Some(0)));
         }
     }
     match check_object(rt, problem, options, gate) {
@@ -93,6 +101,8 @@ fn order_or_end(
         → AreLeastOf history.now object orders
         → IsObjectVerdict (part_of history.now object) limit verdict
         → ForBreak next (IsVerdict history.now limit)) }
+    ensures judged { IfOk result (λ next. ForBreak next (λ verdict.
+        judged_of history.now verdict ≡ object + 1)) }
 {
     match verdict {
         ObjectVerdict::Yes(order) => Ok(ControlFlow::Continue(order)),
@@ -104,19 +114,27 @@ fn order_or_end(
     }
 }
 
-// How many configurations were stored with these, where that can be told.
-fn with_more(stored: Option<u64>, more: u64) -> Option<u64> {
-    stored?.checked_add(more)
+// How many configurations were stored with these, where both numbers are told and the sum has 64 bits.
+fn with_more(stored: Option<u64>, more: Option<u64>) -> Option<u64>
+    ensures sum { IfSome result (λ all. IsSomeAnd stored (λ before. IsSomeAnd more (λ number.
+        all ≡ before + number))) }
+    ensures told { IfSome stored (λ before. IfSome more (λ number. before + number < 2 ^ 64
+        → IsSome result)) }
+{
+    stored?.checked_add(more?)
 }
 
-// The verdict on a history, and how many configurations were stored.
+// The verdict on a history, and how many configurations were stored up to there.
 fn judge<R: AllocGlobal + Threads + Sync, G: Gate>(
     rt: &R,
     history: &History,
     options: &Options,
     gate: &G,
 ) -> Result<Checked, AllocError>
-    ensures { IfOk result (λ checked. IsVerdict history.now options.now.limit checked.verdict) }
+    ensures verdict { IfOk result (λ checked. IsVerdict history.now options.now.limit
+        checked.verdict) }
+    ensures stored { IfOk result (λ checked. IsStoredTold history.now
+        (judged_of history.now checked.verdict) checked.stored) }
 {
     let problems = history.problems(rt.alloc())?;
     let mut orders = Vec::new(rt.alloc());
@@ -138,6 +156,10 @@ fn judge<R: AllocGlobal + Threads + Sync, G: Gate>(
 /// something is known ahead, a queue that starts empty, a first search is made (`search_first`), unless the gate
 /// wants workers; where that finds the order, nothing is stored for the object.
 ///
+/// The number stored is the sum over the objects up to where the check ended; of each object it is below 2^54, and the object
+/// has as many reachable configurations or more. It is told of every history with no more objects than `MAX_OBJECTS`, and no
+/// history has more.
+///
 /// The verdict is the same for every number of workers and shards and on every schedule. `CheckFault::Memory` where the
 /// calling thread was refused memory. It may wait, for its workers.
 pub fn check<R: AllocGlobal + Threads + Sync, G: Gate>(
@@ -146,7 +168,10 @@ pub fn check<R: AllocGlobal + Threads + Sync, G: Gate>(
     options: &Options,
     gate: &G,
 ) -> Result<Checked, CheckFault>
-    ensures { IfOk result (λ checked. IsVerdict history.now options.now.limit checked.verdict) }
+    ensures verdict { IfOk result (λ checked. IsVerdict history.now options.now.limit
+        checked.verdict) }
+    ensures stored { IfOk result (λ checked. IsStoredTold history.now
+        (judged_of history.now checked.verdict) checked.stored) }
 {
     match judge(rt, history, options, gate) {
         Ok(checked) => Ok(checked),

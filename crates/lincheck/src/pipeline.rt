@@ -1,13 +1,13 @@
 //! The way from the bytes of a text to the bytes of its answer.
 
-ghost use Rattle.std.specs.Prelude.{◌≡◌, ◌≢◌, ◌||◌, ℕ, List, false, take, is_err, OnOk, OnErr, IfOk, IfErr, IfSome};
+ghost use Rattle.std.specs.Prelude.{◌≡◌, ◌≢◌, ◌≤◌, ◌||◌, ℕ, List, false, length, take, is_err, OnOk, OnErr, IfOk, IfErr, IfSome};
 ghost use Rattle.std.specs.Result.{result_map_both};
 ghost use Rattle.std.specs.Io.KnownBytes.{Appends};
 ghost use Rattle.lin_text.specs.Text.{MeansHistory};
 ghost use Rattle.lin_text.specs.Words.{fault_line};
 ghost use Rattle.lincheck.specs.Prints.{Prints, status_of};
 ghost use Rattle.lincheck.specs.Ran.{is_read, is_write, is_fault, RanFrom};
-ghost use Rattle.lincheck.specs.Reading.{IsReadOf};
+ghost use Rattle.lincheck.specs.Reading.{IsReadOf, TakesAtMost};
 
 use crate::device::{DeviceFault, Sink, Source};
 use crate::fault::RunFault;
@@ -32,6 +32,8 @@ fn read_text<S: Source>(alloc: Global, source: &mut S) -> Result<Vec<u8>, RunFau
     requires { S.failed source.old ≡ false }
     ensures text { IfOk result (λ read. IfSome (S.remaining source.old)
         (λ text. IsReadOf text read.items)) }
+    ensures size { IfOk result (λ read. length read.items ≤ ENOUGH) }
+    ensures taken { TakesAtMost ENOUGH (S.remaining source.old) (S.remaining source.new) }
     ensures fault { IfErr result (λ fault. fault ≢ RunFault.Write) }
     ensures failed { S.failed source.new ≡ is_fault is_read result }
 {
@@ -134,7 +136,7 @@ fn ended(status: Status, written: Result<(), DeviceFault>) -> Result<Status, Run
 
 /// Reads a text from the source, checks it and writes the answer to the sink.
 ///
-/// The text is read whole, or until it is too long; then the whole answer is made, and then it is written and flushed
+/// The text is read whole, or until it is too long: at most 67,108,865 bytes are taken. Then the whole answer is made, and then it is written and flushed
 /// once. Faults: `Read` where the source failed, `Memory` where memory was refused; nothing was written then. `Write`
 /// where the sink failed; a prefix of the answer was written.
 ///
@@ -152,6 +154,7 @@ pub fn run<R: AllocGlobal + Threads + Sync, S: Source, W: Sink>(
     requires sink { W.failed sink.old ≡ false }
     ensures ran { RanFrom options.now (S.remaining source.old) (W.contents sink.old)
         (W.contents sink.new) result }
+    ensures taken { TakesAtMost ENOUGH (S.remaining source.old) (S.remaining source.new) }
     ensures source { S.failed source.new ≡ is_fault is_read result }
     ensures sink { W.failed sink.new ≡ is_fault is_write result }
 {

@@ -26,6 +26,7 @@ pub enum Verdict {
 pub struct Checked {
     /// What it found.
     pub verdict: Verdict,
-    /// How many configurations were stored in the searches of all objects; `None` where that is not known.
+    /// How many configurations were stored in the searches of the objects up to where the check ended; `None` where that is not
+    /// known, which of no history is.
     pub stored: Option<u64>,
 }

@@ -1,7 +1,8 @@
 use Rattle.std.proofs.Common.{◌≡◌}
+use Rattle.lincheck.specs.Stored.{IsStoredTold}
 use Rattle.lincheck.specs.Verdict.{AreLeastOf}
 use Rattle.lincheck.proofs.judgement.judge.Given as goal
 
--- the orders so far are the least, and the parts are as they were
+-- the orders so far are the least, the parts are as they were, and the number stored so far is told
 abbrev pub invariant-loop-object : goal.invariant-loop-object
-invariant-loop-object g l = AreLeastOf l.history l.object l.orders.items × (l.problems.items ≡ l.initial.problems.items)
+invariant-loop-object g l = AreLeastOf l.history l.object l.orders.items × (l.problems.items ≡ l.initial.problems.items) × IsStoredTold l.history l.object l.stored

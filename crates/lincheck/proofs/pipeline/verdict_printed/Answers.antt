@@ -1,12 +1,14 @@
-use Rattle.std.proofs.Common.{Bool, subst}
-use Rattle.lincheck.specs.Prints.{WithStats}
-use Rattle.lincheck.proofs.PrintLemmas.{verdict_of, prints_verdict}
+use Rattle.std.proofs.Common.{◌≡◌, Bool, subst}
+use Rattle.lincheck.specs.Report.{with_stats}
+use Rattle.lincheck.proofs.LimitLemmas.{few_objects}
+use Rattle.lincheck.proofs.PrintLemmas.{verdict_of, judged_few, stats_told, prints_verdict}
 use Rattle.lincheck.proofs.pipeline.verdict_printed.Goals as goal
 
 pub report-requires : goal.report-requires
-report-requires g c = verdict_of _ _ _ c.in-Ok.ensures
+report-requires g c = verdict_of _ _ _ c.in-Ok.ensures.verdict
 
 pub returns : goal.returns
 returns g c = λ text means.
-    rw c.status_of.ensures (prints_verdict text _ c.args.options.now _ _ _ means c.in-Ok.ensures c.in_ok-reported.ensures
-    (subst (λ (stats : Bool). WithStats stats c.in_ok-reported.reported.items c.in_ok-printed.printed.items) c.stats.ensures c.in_ok-printed.ensures))
+    let few = judged_few c.args.history.now c.args.options.now.limit c.in-Ok.checked.verdict _ c.in-Ok.ensures.verdict (few_objects text c.args.history.now means) in
+    let printed = subst (λ (stats : Bool). c.in_ok-printed.printed.items ≡ with_stats stats c.in-Ok.checked.stored c.in_ok-reported.reported.items) c.stats.ensures c.in_ok-printed.ensures in
+    rw c.status_of.ensures (prints_verdict text _ c.args.options.now _ _ _ means c.in-Ok.ensures.verdict c.in_ok-reported.ensures (stats_told c.args.options.now.stats c.args.history.now _ c.in-Ok.checked.stored _ _ printed c.in-Ok.ensures.stored few))
