@@ -1,18 +1,20 @@
 -- A completion of a reachable configuration, put behind its run, is a linearization: so none begins with a call that needs one that is left out, or with a pending one that would get a reply which is owed.
-use Rattle.std.proofs.Common.{◌≡◌, ℕ, Bool, true, false, Some, List, [], ◌∷◌, ◌++◌, length, ◌⊎◌, inl, inr, refl, sym, ap, subst}
+use Rattle.std.proofs.Common.{◌≡◌, ◌≢◌, ℕ, Bool, true, false, Some, List, [], ◌∷◌, ◌++◌, length, ◌⊎◌, inl, inr, refl, sym, ◌∙◌, ap, subst}
 use Rattle.std.specs.Prelude.{Option, None, is_some, IfSome}
 use Rattle.lin_history.specs.Problems.Problem.{Problem}
 use Rattle.lin_history.specs.Problems.Lists.{In, IsDistinct}
-use Rattle.lin_history.specs.Problems.LegalLists.{Legal}
+use Rattle.lin_history.specs.Problems.LegalLists.{next, Legal}
 use Rattle.lin_history.specs.Problems.Precedence.{Before}
 use Rattle.lin_history.specs.Problems.Continuations.{has, no_calls, IsCompletion}
 use Rattle.lin_history.specs.Problems.Linearizations.{IsRun, IsLinearization}
 use Rattle.lin_history.specs.Problems.Configurations.{IsReachable}
 use Rattle.lin_search.specs.CallSetLemmas.{no_calls_has}
+use Rattle.lin_search.specs.NextCall.{IsNext}
 use Rattle.lin_search.specs.AlikeLemmas.{AreAlike, turned, like_completion}
 use Rattle.lin_object.specs.StepAnswers.{SameStep}
 use Rattle.lin_ahead.specs.FirstProgress.{BeginsNone}
 use Rattle.lin_ahead.specs.Behind.{NeedsBehind}
+use Rattle.lin_ahead.specs.Held.{Changes, CanFollow, IsHeldUntil, HoldsAt}
 use Rattle.lin_ahead.specs.Owed.{IsPendingAnswer, IsOwed}
 
 in_early : (c : ℕ) (xs ys : List ℕ) → In c xs → In c (xs ++ ys)
@@ -52,7 +54,7 @@ module _ {State Op Reply : Type 0} (p : Problem State Op Reply) where
   legal_joined (x ∷ xs) ys s t u k l = (k.0, k.1, legal_joined xs ys k.0 t u k.2 l)
 
   -- the run of a reachable configuration, and then a completion of it
-  joined : AreAlike p p → (set : List Bool) (s : State) → (k : IsReachable p set s) → (c : List ℕ) → IsCompletion p set s c → IsLinearization p (k.run.0 ++ c)
+  pub joined : AreAlike p p → (set : List Bool) (s : State) → (k : IsReachable p set s) → (c : List ℕ) → IsCompletion p set s c → IsLinearization p (k.run.0 ++ c)
   joined alike set s k c h = record {
     continuation = record {
       distinct = distinct_joined l c run.distinct more.continuation.distinct (λ d i j. let x = (k.run.2 d).1 i in let y = more.continuation.outside d j in cc);
@@ -115,3 +117,19 @@ module _ {State Op Reply : Type 0} (p : Problem State Op Reply) where
       let x = answer.0 in
       let there = alike_answer p.same_state p.same_reply (p.after k.run.3.0 x.process x.op) (p.after s x.process x.op) answer.3.0 r (steps k.run.3.0 s x.process x.op k.run.3.2) answer.3.1 in
       owed (k.run.0 ++ c ∷ cs) k.run.0 cs c k.run.3.0 there.1 (joined p alike set s k (c ∷ cs) h) refl k.run.3.1 (x, answer.1, answer.2, (there.0, there.2)) there.3
+
+  -- where a call that is held until it stands is left out and could follow, no completion begins with another one that changes the state
+  pub held_begins_none : AreAlike p p → (set : List Bool) (s : State) → IsReachable p set s → (g c : ℕ) → IsHeldUntil p g → has set g ≡ false → g ≢ c → CanFollow p s g → Changes p s c → BeginsNone p set s c
+  held_begins_none alike set s k g c until out other follows changes cs h =
+      let e : State = k.run.3.0 in
+      let same = k.run.3.2 in
+      let back = turned alike e s same in
+      let there = alike.there.steps s e follows.0 g back follows.1 in
+      until (k.run.0 ++ c ∷ cs) k.run.0 cs c e (joined p alike set s k (c ∷ cs) h) refl k.run.3.1 (λ i. let f = (k.run.2 g).1 i in cc) other (there.0, there.1)
+      (λ t step unchanged. (let here = alike.there.steps e s t c same step in
+      changes here.0 here.1 (alike.equal_states.congr here.0 t s (turned alike t here.0 here.2) ∙ (alike.equal_states.congr t e s unchanged ∙ same))))
+
+  -- the same, of a call that leads to a state which differs
+  pub held_next_none : AreAlike p p → (set : List Bool) (s : State) → IsReachable p set s → (c : ℕ) (t : State) → IsNext p set s c t → p.same_state t s ≡ false → (g : ℕ) → HoldsAt p set s g c → BeginsNone p set s c
+  held_next_none alike set s k c t next differs g holds =
+      held_begins_none alike set s k g c holds.0 holds.1 holds.2 holds.3 (λ u step same. (let f = next.step in let e : u ≡ t = cc in let h : p.same_state t s ≡ true = subst (λ (x : State). p.same_state x s ≡ true) e same in cc))

@@ -1,6 +1,7 @@
 -- The rows of a queue's problem are the numbers of its calls.
-use Rattle.std.proofs.Common.{◌≡◌, ℕ, ◌<◌, ◌≤◌, ◌^◌, ◌↔◌, Bool, true, false, min, map, Option, Some, None, List, [], ◌∷◌, inl, inr, refl, ◌∙◌, ap, subst, arith, zero, suc, is_some, not, IsTrue}
+use Rattle.std.proofs.Common.{◌≡◌, ℕ, ◌<◌, ◌≤◌, ◌^◌, ◌↔◌, Bool, true, false, min, map, Option, Some, None, List, [], ◌∷◌, ◌++◌, length, drop, inl, inr, refl, sym, ◌∙◌, ap, subst, arith, zero, suc, is_some, not, IsTrue}
 use Rattle.std.specs.Prelude.{ℤ, slice_get, IfSome}
+use Rattle.std.proofs.lemmas.List.{append-nil, drop_all}
 use Rattle.lin_object.specs.declared.op.Op.{Op}
 use Rattle.lin_object.specs.declared.op.Op.TheVariants.{Write, Read, Cas, Add, Get, Enqueue, Dequeue, Push, Pop, Insert, Remove, Contains, Lock, Unlock, TryLock, Put, Lookup, Delete}
 use Rattle.lin_object.specs.declared.reply.Reply.{Reply}
@@ -33,6 +34,10 @@ pub seen_through : {A B : Type 0} (f : A → B) (xs : List A) (i : ℕ) (x : A) 
 seen_through f [] i x e = absurd (cc)
 seen_through {A} f (y ∷ xs) zero x e = (let h : y ≡ x = cc in ap (λ (z : A). Some (f z)) h)
 seen_through f (y ∷ xs) (suc i) x e = seen_through f xs i x e
+
+-- a row is whole once no call is left
+pub row_done : {A B : Type 0} (f : A → B) (row all : List B) (calls : List A) (i : ℕ) → length calls ≤ i → row ++ map f (drop i calls) ≡ all → row ≡ all
+row_done {A} f row all calls i past e = sym (append-nil row) ∙ ap (λ (l : List A). row ++ map f l) (sym (drop_all i calls past)) ∙ e
 
 module _ (p : Problem ObjState Op Reply) where
   -- ---- the number by which a call is needed

@@ -9,8 +9,8 @@ use Rattle.lin_object.specs.declared.reply.Reply.{Reply}
 use Rattle.lin_object.specs.declared.reply.Reply.TheVariants.{Okay, Int, Flag, Empty}
 use Rattle.lin_history.specs.declared.problems.problem.ProblemCall.{ProblemCall}
 use Rattle.lin_ahead.specs.declared.item_calls.ItemCalls.{ItemCalls}
-use Rattle.lin_ahead.specs.declared.item_calls.Putters.{Putters}
-use Rattle.lin_ahead.specs.declared.item_calls.Putters.TheVariants.{Nobody, One, Several}
+use Rattle.lin_ahead.specs.declared.item_calls.Callers.{Callers}
+use Rattle.lin_ahead.specs.declared.item_calls.Callers.TheVariants.{Nobody, One, Several}
 use Rattle.lin_ahead.specs.declared.item_calls.TheConstants.{BEYOND}
 use Rattle.lin_ahead.specs.ItemCalls.{one_more, goes_in_once, item_of, is_of, with_call, told_next, told_from, pending_at, pending_from}
 
@@ -251,7 +251,7 @@ several_stay : (t : ItemCalls) (cs : List (ProblemCall Op Reply)) (v : ℤ) → 
 several_stay t [] v e = e
 several_stay t (c ∷ cs) v e = several_stay (told_next t c v) cs v (elim (puts_or_not t c v) [ inl k ↦ k.1 ∙ ap one_more e | inr k ↦ k.1 ∙ e ])
 
-not_once : (p : Putters) → p ≡ Several → goes_in_once p ≡ true → ⊥
+not_once : (p : Callers) → p ≡ Several → goes_in_once p ≡ true → ⊥
 not_once p several once = absurd (let e = ap goes_in_once several in cc)
 
 -- where one call put the item in before, and it goes in once, none of these does

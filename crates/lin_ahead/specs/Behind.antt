@@ -1,12 +1,13 @@
 -- Calls that need others at the configuration that a search is at, and what is known ahead of a problem (this project's own).
-use Rattle.std.specs.Prelude.{◌≡◌, ℕ, ◌<◌, Bool, false, Some, List, ◌∷◌, ◌++◌, slice_get, IsSomeAnd}
+use Rattle.std.specs.Prelude.{◌≡◌, ◌≢◌, ℕ, ◌<◌, Bool, false, Some, List, ◌∷◌, ◌++◌, length, slice_get, IsSomeAnd}
 use Rattle.lin_history.specs.Problems.Lists.{In}
 use Rattle.lin_history.specs.Problems.Problem.{Problem}
 use Rattle.lin_history.specs.Problems.Continuations.{has}
 use Rattle.lin_history.specs.Problems.Linearizations.{IsLinearization}
-use Rattle.lin_history.specs.Problems.Needs.{AreNeeds}
+use Rattle.lin_history.specs.Problems.Needs.{NeedNumbers, Needs}
 use Rattle.lin_ahead.specs.declared.look_ahead.KnownAhead.{KnownAhead}
 use Rattle.lin_ahead.specs.Owed.{AreOwed}
+use Rattle.lin_ahead.specs.Held.{AreHeldUntil}
 
 -- Call b needs call a behind the set: wherever b stands in a linearization, with no call of the set behind it, a stands before it.
 abbrev pub NeedsBehind : {State Op Reply : Type 0} → Problem State Op Reply → List Bool → ℕ → ℕ → Type 0
@@ -24,8 +25,16 @@ OthersCalledAfter p set n calls = (i c : ℕ) → slice_get calls i ≡ Some c �
 abbrev pub AreNeedsBehind : {State Op Reply : Type 0} → Problem State Op Reply → List ℕ → List ℕ → List ℕ → Type 0
 AreNeedsBehind p by taken takers = (set : List Bool) (a b m n : ℕ) → slice_get by a ≡ Some m → slice_get taken b ≡ Some n → m < n → OthersCalledAfter p set m takers → NeedsBehind p set a b
 
+-- Each call has its two numbers, and a call needs every other call whose number 'by' is less than its own number 'from'. Of one
+-- and the same call nothing is said: the first return of a value's calls is before the last of their call events as a rule.
+pub record AreOtherNeeds {State Op Reply : Type 0} (p : Problem State Op Reply) (rows : NeedNumbers) : Type 0 where
+  pub each_by : length rows.by ≡ length p.calls
+  pub each_from : length rows.from ≡ length p.calls
+  pub needed : (a b m n : ℕ) → slice_get rows.by a ≡ Some m → slice_get rows.from b ≡ Some n → m < n → a ≢ b → Needs p a b
+
 -- What is known ahead is right for the problem.
 pub record IsRightAhead {State Op Reply : Type 0} (p : Problem State Op Reply) (ahead : KnownAhead) : Type 0 where
-  pub needs : AreNeeds p ahead.needs
+  pub needs : AreOtherNeeds p ahead.needs
   pub behind : AreNeedsBehind p ahead.needs.by ahead.taken.items ahead.takers.items
   pub owed : AreOwed p ahead.owed.items
+  pub held : AreHeldUntil p ahead.held.items

@@ -8,18 +8,18 @@ use Rattle.lin_object.specs.declared.reply.Reply.{Reply}
 use Rattle.lin_object.specs.declared.reply.Reply.TheVariants.{Int}
 use Rattle.lin_history.specs.declared.problems.problem.ProblemCall.{ProblemCall}
 use Rattle.lin_ahead.specs.declared.item_calls.ItemCalls.{ItemCalls}
-use Rattle.lin_ahead.specs.declared.item_calls.Putters.{Putters}
-use Rattle.lin_ahead.specs.declared.item_calls.Putters.TheVariants.{Nobody, One, Several}
+use Rattle.lin_ahead.specs.declared.item_calls.Callers.{Callers}
+use Rattle.lin_ahead.specs.declared.item_calls.Callers.TheVariants.{Nobody, One, Several}
 use Rattle.lin_ahead.specs.declared.item_calls.TheConstants.{BEYOND}
 
 -- One call more puts the item in.
-abbrev pub one_more : Putters → Putters
+abbrev pub one_more : Callers → Callers
 one_more Nobody = One
 one_more One = Several
 one_more Several = Several
 
 -- One call puts the item in, and no other.
-abbrev pub goes_in_once : Putters → Bool
+abbrev pub goes_in_once : Callers → Bool
 goes_in_once Nobody = false
 goes_in_once One = true
 goes_in_once Several = false

@@ -8,3 +8,7 @@ pub mod FirstAnswer
 pub mod Owed
 pub mod Behind
 pub mod ToldAhead
+pub mod Register
+pub mod Held
+pub mod ValueCalls
+pub mod ToldOfRegister

@@ -15,7 +15,9 @@ ghost use Rattle.lin_search.specs.Progress.{bound};
 ghost use Rattle.std.proofs.Common.{Break};
 
 use crate::calls_in_turn::CallsInTurn;
+use crate::finders::Finders;
 use crate::first_answer::FirstAnswer;
+use crate::held_state::held_until;
 use crate::look_ahead::KnownAhead;
 use crate::needed_calls::{left_out, needed_in_turn};
 use crate::owed_replies::{is_owed, owed_in_turn, pending_answer};
@@ -35,6 +37,7 @@ struct FirstSearch<'p, O: SeqObject> {
     refuted: RefutedSet<O>,
     needed: CallsInTurn,
     owed: CallsInTurn,
+    held: Finders,
     lifts: u64,
 }
 
@@ -69,6 +72,7 @@ impl<'p, O: SeqObject> FirstSearch<'p, O> {
         self.path.unlift(frame)?;
         self.needed.unlifted(frame.call());
         self.owed.unlifted(frame.call());
+        self.held.unlifted(frame.call());
         Ok(self.path.after(frame.call(), Longest::none()).candidate)
     }
 
@@ -86,6 +90,7 @@ impl<'p, O: SeqObject> FirstSearch<'p, O> {
             self.old.path.entries.problem) self.new.refuted self.new.lifts
             self.new.path.entries.lifted self.new.path.frames.items self.new.path.config) }
     {
+        self.held.lifted(self.path.config(), frame.call());
         if self.refuted.has(self.path.config()) {
             let mut left = frame;
             let next = self.leave(&mut left)?;
@@ -163,6 +168,44 @@ impl<'p, O: SeqObject> FirstSearch<'p, O> {
         self.takes_what_is_owed(ahead, call)
     }
 
+    // Whether the call, which leads to the state, is known to begin no completion: it changes the state, and another call that
+    // is not lifted could follow and is held until it stands.
+    fn leaves_what_is_held(
+        &self,
+        ahead: &KnownAhead,
+        call: usize,
+        state: &O::State,
+    ) -> Result<bool, AllocError>
+        requires ahead { IsRightAhead (problem_of O.after O.State.eq O.Reply.eq
+            self.now.path.entries.problem) ahead.now }
+        requires reachable { IsReachable (problem_of O.after O.State.eq O.Reply.eq
+            self.now.path.entries.problem) self.now.path.config.lifted self.now.path.config.state }
+        requires next { IsNext (problem_of O.after O.State.eq O.Reply.eq
+            self.now.path.entries.problem) self.now.path.config.lifted self.now.path.config.state
+            call state.now }
+        ensures { IfOk result (λ known. IsTrue known → BeginsNone
+            (problem_of O.after O.State.eq O.Reply.eq self.now.path.entries.problem)
+            self.now.path.config.lifted self.now.path.config.state call) }
+    {
+        lawful::<O>();
+        let config = self.path.config();
+        if *state == *config.state() {
+            return Ok(false);
+        }
+        let problem = self.path.problem();
+        match held_until(
+            self.alloc,
+            problem,
+            ahead.held.as_slice(),
+            &self.held,
+            config,
+            call,
+        )? {
+            Some(_other) => Ok(true),
+            None => Ok(false),
+        }
+    }
+
     // The state that the call, which is minimal, leads to. `None` where no completion begins with the call: where that is
     // known ahead, or it can't follow.
     fn follow(&self, ahead: &KnownAhead, call: usize) -> Result<Option<O::State>, AllocError>
@@ -185,7 +228,13 @@ impl<'p, O: SeqObject> FirstSearch<'p, O> {
         if self.begins_none(ahead, call)? {
             return Ok(None);
         }
-        self.path.next_state(call)
+        let Some(state) = self.path.next_state(call)? else {
+            return Ok(None);
+        };
+        if self.leaves_what_is_held(ahead, call, &state)? {
+            return Ok(None);
+        }
+        Ok(Some(state))
     }
 
     // Tries the call, the candidate: passes it over where no completion begins with it.
@@ -366,6 +415,7 @@ pub fn search_first<O: SeqObject>(
         refuted: RefutedSet::new(alloc),
         needed: needed_in_turn(alloc, &ahead.needs)?,
         owed: owed_in_turn(alloc, ahead.owed.as_slice())?,
+        held: Finders::new(alloc, &ahead.values)?,
         lifts: 0,
     };
     search.go(ahead, lifts)

@@ -9,9 +9,9 @@ use lin_object::{Op, Reply};
 /// A number beyond those of all events.
 pub(crate) const BEYOND: u64 = 1 << 32;
 
-/// How many calls put an item in.
+/// How many calls do something, as put an item in or write a value.
 #[derive(Clone, Copy, Debug)]
-pub(crate) enum Putters {
+pub(crate) enum Callers {
     /// No call does.
     Nobody,
     /// One call does.
@@ -24,7 +24,7 @@ pub(crate) enum Putters {
 #[derive(Clone, Copy, Debug)]
 pub(crate) struct ItemCalls {
     /// How many calls put it in.
-    pub putters: Putters,
+    pub putters: Callers,
     /// Whether a call took it.
     pub taken: bool,
     /// The least number of the return events of the calls that took it; beyond all events where none did.
@@ -33,13 +33,13 @@ pub(crate) struct ItemCalls {
     pub called: u64,
 }
 
-// With one call more that puts the item in.
-fn one_more(putters: Putters) -> Putters
-    ensures { result ≡ one_more putters }
+/// With one call more that does it.
+pub(crate) fn one_more(callers: Callers) -> Callers
+    ensures { result ≡ one_more callers }
 {
-    match putters {
-        Putters::Nobody => Putters::One,
-        Putters::One | Putters::Several => Putters::Several,
+    match callers {
+        Callers::Nobody => Callers::One,
+        Callers::One | Callers::Several => Callers::Several,
     }
 }
 
@@ -81,7 +81,7 @@ impl ItemCalls {
         ensures { result ≡ nothing_told }
     {
         ItemCalls {
-            putters: Putters::Nobody,
+            putters: Callers::Nobody,
             taken: false,
             returned: BEYOND,
             called: BEYOND,
@@ -114,8 +114,8 @@ impl ItemCalls {
         ensures { result ≡ goes_in_once self.now.putters }
     {
         match self.putters {
-            Putters::One => true,
-            Putters::Nobody | Putters::Several => false,
+            Callers::One => true,
+            Callers::Nobody | Callers::Several => false,
         }
     }
 }

@@ -11,16 +11,22 @@
 //!   `first_answer`: what it answers.
 #![tactic(auto)]
 
+mod call_values;
 mod calls_in_turn;
 mod each_item;
+mod each_value;
+mod finders;
 mod first_answer;
 mod first_search;
+mod held_state;
 mod item_calls;
 mod look_ahead;
 mod needed_calls;
 mod numbers;
 mod owed_replies;
 mod refuted_set;
+mod value_calls;
+mod value_rows;
 
 pub use first_answer::FirstAnswer;
 pub use first_search::search_first;

@@ -1,18 +1,22 @@
-//! What the calls of a queue's problem tell before any search: which calls need which, and which are owed their replies.
+//! What the calls of a queue's or a register's problem tell before any search: which calls need which, which are owed their
+//! replies, and until which of them the state is held.
 
-ghost use Rattle.std.specs.Prelude.{◌≡◌, ◌↔◌, [], IfOk, IfSome, IsSome, IsTrue};
+ghost use Rattle.std.specs.Prelude.{◌≡◌, ◌↔◌, ◌⊎◌, ℤ, [], Some, IfOk, IfSome, IsSome, IsTrue};
 ghost use Rattle.std.specs.Ordering.{int_eq};
 ghost use Rattle.indexmap.specs.IndexMap.{get};
-ghost use Rattle.lin_object.specs.declared.state.ObjState.TheVariants.{Queue};
+ghost use Rattle.lin_object.specs.declared.state.ObjState.TheVariants.{Queue, Register};
 ghost use Rattle.lin_ahead.specs.ItemCalls.{told, told_in, least_pending};
 ghost use Rattle.lin_ahead.specs.CallNumbers.{by_row, from_row};
 ghost use Rattle.lin_ahead.specs.Behind.{IsRightAhead};
 ghost use Rattle.lin_ahead.specs.ToldAhead.{once_row, taken_row, takers_from, IsToldAhead};
+ghost use Rattle.lin_ahead.specs.ToldOfRegister.{IsToldOfRegister};
 ghost use Rattle.lin_ahead.specs.AnyProblem.{any_problem};
 
+use crate::call_values::ValueNumbers;
 use crate::each_item::told_by_calls;
 use crate::item_calls::{ItemCalls, least_pending};
 use crate::numbers::{by_of, from_of, is_taker, taken_of, took_once};
+use crate::value_rows::told_of_register;
 use indexmap::IndexMap;
 use lin_history::{NeedRows, Problem, ProblemCall};
 use lin_object::{AnyObject, Items, ObjState, Op, Reply};
@@ -23,16 +27,6 @@ fn is_empty(items: &Items) -> bool
     ensures { IsTrue result ↔ (items.now ≡ []) }
 {
     items.first().is_none()
-}
-
-// Whether the state is that of a queue with no item.
-fn is_empty_queue(state: &ObjState) -> bool
-    ensures { IsTrue result ↔ (state.now ≡ Queue []) }
-{
-    match state {
-        ObjState::Queue(items) => is_empty(items),
-        _ => false,
-    }
 }
 
 // For each call the event from which on it is needed.
@@ -126,10 +120,14 @@ pub struct KnownAhead {
     pub takers: Vec<usize>,
     /// For each call, whether it returned with a reply that no pending call can be answered with.
     pub owed: Vec<bool>,
+    /// For each call, whether the state may not change where it could follow, until it stands.
+    pub held: Vec<bool>,
+    /// The values of each call, by which a search finds one that has this flag.
+    pub values: ValueNumbers,
 }
 
-// What these calls tell.
-fn told_ahead(alloc: Global, calls: &[ProblemCall<Op, Reply>]) -> Result<KnownAhead, AllocError>
+// What these calls tell, on a queue that starts empty.
+fn told_of_queue(alloc: Global, calls: &[ProblemCall<Op, Reply>]) -> Result<KnownAhead, AllocError>
     ensures by { IfOk result (λ ahead. ahead.needs.by ≡ by_row (told calls.now) calls.now) }
     ensures from { IfOk result (λ ahead. ahead.needs.from
         ≡ from_row (told calls.now) (least_pending calls.now) calls.now) }
@@ -138,6 +136,7 @@ fn told_ahead(alloc: Global, calls: &[ProblemCall<Op, Reply>]) -> Result<KnownAh
     ensures takers { IfOk result (λ ahead. ahead.takers.items ≡ takers_from 0 calls.now) }
     ensures owed { IfOk result (λ ahead. ahead.owed.items
         ≡ once_row (told calls.now) calls.now) }
+    ensures held { IfOk result (λ ahead. ahead.held.items ≡ []) }
 {
     let items = told_by_calls(alloc, calls)?;
     let by = by_row(alloc, &items, calls)?;
@@ -147,23 +146,32 @@ fn told_ahead(alloc: Global, calls: &[ProblemCall<Op, Reply>]) -> Result<KnownAh
         taken: taken_row(alloc, &items, calls)?,
         takers: takers_of(alloc, calls)?,
         owed: once_row(alloc, &items, calls)?,
+        held: Vec::new(alloc),
+        values: ValueNumbers::none(alloc),
     })
 }
 
-/// What is known of a problem before any search: of one that starts with an empty queue what its calls tell by real time,
-/// and all of that (as `IsToldAhead` says); `None` of every other problem. `AllocError` where memory was refused. (This
-/// project's own.)
+/// What is known of a problem before any search: of one that starts with an empty queue, or with a register, what its calls
+/// tell by real time, and all of that (as `IsToldAhead` and `IsToldOfRegister` say); `None` of every other problem.
+/// `AllocError` where memory was refused. (This project's own.)
 pub fn known_ahead(
     alloc: Global,
     problem: &Problem<AnyObject>,
 ) -> Result<Option<KnownAhead>, AllocError>
     ensures right { IfOk result (λ known. IfSome known
         (IsRightAhead (any_problem problem.now))) }
-    ensures told { IfOk result (λ known. IfSome known (IsToldAhead (any_problem problem.now))) }
-    ensures when { IfOk result (λ known. IsSome known ↔ (problem.now.start ≡ Queue [])) }
+    ensures told { IfOk result (λ known. IfSome known (λ ahead. problem.now.start ≡ Queue []
+        → IsToldAhead (any_problem problem.now) ahead)) }
+    ensures told_of_register { IfOk result (λ known. IfSome known (λ ahead. (v : ℤ)
+        → problem.now.start ≡ Register v
+        → IsToldOfRegister (any_problem problem.now) v ahead)) }
+    ensures when { IfOk result (λ known. IsSome known
+        ↔ ((problem.now.start ≡ Queue []) ⊎ ((v : ℤ) × (problem.now.start ≡ Register v)))) }
 {
-    if !is_empty_queue(problem.start()) {
-        return Ok(None);
+    let calls = problem.calls();
+    match problem.start() {
+        ObjState::Queue(items) if is_empty(items) => Ok(Some(told_of_queue(alloc, calls)?)),
+        ObjState::Register(start) => Ok(Some(told_of_register(alloc, start, calls)?)),
+        _ => Ok(None),
     }
-    Ok(Some(told_ahead(alloc, problem.calls())?))
 }

@@ -1,5 +1,5 @@
 //! The calls of a problem by how early they are needed.
-ghost use Rattle.std.specs.Prelude.{◌≡◌, false, IfSome, IsTrue};
+ghost use Rattle.std.specs.Prelude.{◌≡◌, ◌≢◌, false, IfSome, IsTrue};
 ghost use Rattle.lin_history.specs.Problems.Problem.{problem_of};
 ghost use Rattle.lin_history.specs.Problems.Continuations.{has};
 ghost use Rattle.lin_ahead.specs.Behind.{NeedsBehind, CalledAfter, OthersCalledAfter, IsRightAhead};
@@ -73,7 +73,8 @@ fn needs<O: SeqObject>(
     other: usize,
     call: usize,
 ) -> Option<bool>
-    requires { IsRightAhead (problem_of O.after O.State.eq O.Reply.eq problem.now) ahead.now }
+    requires other { other ≢ call }
+    requires ahead { IsRightAhead (problem_of O.after O.State.eq O.Reply.eq problem.now) ahead.now }
     ensures { IfSome result (λ needs. IsTrue needs → NeedsBehind
         (problem_of O.after O.State.eq O.Reply.eq problem.now) config.now.lifted other call) }
 {
@@ -86,7 +87,24 @@ fn needs<O: SeqObject>(
     Some(by < taken && others_called_after(problem, config, ahead.takers.as_slice(), by))
 }
 
-// A call that this call needs and that the configuration does not have, where one is known. It looks at the first in turn.
+// How many calls in turn are looked at for another one that is not lifted.
+const CALLS_IN_SIGHT: usize = 64;
+
+// The first call in turn that the configuration does not have, but this one.
+fn first_other<O: SeqObject>(needed: &CallsInTurn, config: &Config<O>, call: usize) -> Option<usize>
+    ensures { IfSome result (λ other. (other ≢ call) × (has config.now.lifted other ≡ false)) }
+{
+    for count in 0..CALLS_IN_SIGHT {
+        let other = needed.ahead(count)?;
+        if other != call && !config.has(other) {
+            return Some(other);
+        }
+    }
+    None
+}
+
+// A call that this call needs and that the configuration does not have, where one is known. It looks at the first in
+// turn.
 pub(crate) fn left_out<O: SeqObject>(
     problem: &Problem<O>,
     ahead: &KnownAhead,
@@ -99,9 +117,9 @@ pub(crate) fn left_out<O: SeqObject>(
         (problem_of O.after O.State.eq O.Reply.eq problem.now) config.now.lifted other call
         × (has config.now.lifted other ≡ false)) }
 {
-    let first = needed.ahead(0)?;
-    if !config.has(first) && needs(problem, ahead, config, first, call)? {
-        Some(first)
+    let other = first_other(needed, config, call)?;
+    if needs(problem, ahead, config, other, call)? {
+        Some(other)
     } else {
         None
     }
