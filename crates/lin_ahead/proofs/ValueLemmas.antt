@@ -466,6 +466,7 @@ module _ {Object : Type 0} (p : ProblemParts Object ObjState Op Reply) where
       let same : start ≡ v = (let e : Register start ≡ Register v = sym here ∙ there in cc) in
       subst (λ (w : ℤ). IsToldOfRegister (any_problem p) w ahead) same (record {
         numbers = are_cluster_numbers (any_problem p) start ahead.needs bys froms;
+        each_held = ap length held ∙ length-map p.calls _;
         held = λ c e. held_found (any_problem p) start c (rw (← held) e);
         every_held = λ c w found single. rw held (found_held (any_problem p) start c w found single);
         taken = taken;
