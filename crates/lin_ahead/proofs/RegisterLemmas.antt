@@ -1,5 +1,5 @@
 -- What a register holds stays until all that found it are there, and the calls that write and find two values stand apart.
-use Rattle.std.proofs.Common.{◌≡◌, ◌≢◌, ℕ, zero, suc, ◌<◌, ◌≤◌, ◌^◌, Bool, true, false, Option, Some, None, IsSome, List, [], ◌∷◌, ◌++◌, length, ◌⊎◌, inl, inr, refl, sym, ◌∙◌, ap, subst, arith, append_assoc, replicate}
+use Rattle.std.proofs.Common.{◌≡◌, ◌≢◌, ℕ, zero, suc, ◌<◌, ◌≤◌, Bool, true, false, Option, Some, None, IsSome, List, [], ◌∷◌, ◌++◌, length, ◌⊎◌, inl, inr, refl, sym, ◌∙◌, ap, subst, arith, append_assoc, replicate}
 use Rattle.std.specs.Prelude.{ℤ, slice_get, IfSome, IsSomeAnd, if◌then◌else◌}
 use Rattle.std.specs.Ordering.{int_eq}
 use Rattle.std.specs.Cmp.{signed_Decides}
@@ -15,17 +15,14 @@ use Rattle.lin_history.specs.Problems.Problem.{Problem}
 use Rattle.lin_history.specs.Problems.Lists.{In, IsDistinct}
 use Rattle.lin_history.specs.Problems.LegalLists.{fits, state_if_fits, next, Legal}
 use Rattle.lin_history.specs.Problems.Precedence.{Before, IsCompleted}
-use Rattle.lin_history.specs.Problems.Continuations.{has, IsCompletion}
+use Rattle.lin_history.specs.Problems.Continuations.{has}
 use Rattle.lin_history.specs.Problems.Linearizations.{IsRun, IsLinearization}
-use Rattle.lin_history.specs.Problems.Configurations.{IsReachable}
 use Rattle.lin_history.specs.Problems.Needs.{Needs, NeedNumbers}
-use Rattle.lin_search.specs.AlikeLemmas.{AreAlike}
-use Rattle.lin_ahead.specs.FirstProgress.{BeginsNone}
 use Rattle.lin_ahead.specs.Numbers.{ReturnsAt, CalledFrom}
 use Rattle.lin_ahead.specs.Register.{IsOfRegister, value_written, value_found, MayWrite, Finds, IsSingle, OfCluster, IsClusterBy, IsClusterFrom, AreClusterNumbers}
 use Rattle.lin_ahead.specs.Behind.{AreOtherNeeds}
-use Rattle.lin_ahead.specs.Held.{Changes, CanFollow, IsHeldUntil}
-use Rattle.lin_ahead.proofs.NeedsLemmas.{place_split, joined}
+use Rattle.lin_ahead.specs.Held.{Changes, IsHeldUntil}
+use Rattle.lin_ahead.proofs.NeedsLemmas.{place_split}
 
 -- ---- one step of a register
 

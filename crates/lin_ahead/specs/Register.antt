@@ -1,9 +1,9 @@
 -- Problems of a register, and what their calls tell of values (this project's own).
-use Rattle.std.specs.Prelude.{◌≡◌, ◌≢◌, ℕ, ◌<◌, ◌≤◌, ◌^◌, ℤ, Bool, true, false, Option, Some, None, List, ◌⊎◌, length, slice_get}
+use Rattle.std.specs.Prelude.{◌≡◌, ℕ, ◌<◌, ◌≤◌, ◌^◌, ℤ, true, false, Option, Some, None, ◌⊎◌, length, slice_get}
 use Rattle.lin_object.specs.declared.op.Op.{Op}
 use Rattle.lin_object.specs.declared.op.Op.TheVariants.{Write, Read, Cas}
 use Rattle.lin_object.specs.declared.reply.Reply.{Reply}
-use Rattle.lin_object.specs.declared.reply.Reply.TheVariants.{Okay, Int, Flag, Empty}
+use Rattle.lin_object.specs.declared.reply.Reply.TheVariants.{Int, Flag}
 use Rattle.lin_object.specs.declared.state.ObjState.{ObjState}
 use Rattle.lin_object.specs.declared.state.ObjState.TheVariants.{Register}
 use Rattle.lin_object.specs.Kinds.{after}

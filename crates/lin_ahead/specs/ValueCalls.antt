@@ -1,5 +1,5 @@
 -- What the calls on a register tell of one value, and the numbers and flags of its calls (this project's own).
-use Rattle.std.specs.Prelude.{ℕ, ℤ, Bool, true, false, not, min, max, map, Option, Some, None, List, [], ◌∷◌, ◌||◌, if◌then◌else◌}
+use Rattle.std.specs.Prelude.{ℕ, ℤ, Bool, true, false, not, min, max, map, Option, Some, None, List, [], ◌∷◌, if◌then◌else◌}
 use Rattle.std.specs.Ordering.{int_eq}
 use Rattle.std.specs.Option.{unwrap_or}
 use Rattle.lin_object.specs.declared.op.Op.{Op}
