@@ -124,6 +124,22 @@ class Map:
         return "true" if self.values.pop(value, None) is not None else "false"
 
 
+class Exchanged(Register):
+    """A register of which one call in five is a `cas` from what it holds as the call is made."""
+
+    take = "cas"
+
+    def choose(self, chance, number):
+        return ("cas", (self.value, number)) if chance.random() < 0.2 else super().choose(chance, number)
+
+    def reply(self, op, value):
+        if op != "cas":
+            return super().reply(op, value)
+        found = self.value == value[0]
+        self.value = value[1] if found else self.value
+        return "true" if found else "false"
+
+
 class Event(NamedTuple):
     process: int
     op: str
@@ -199,6 +215,11 @@ def register_refuted(processes):
         yield from impossible_read("x")
 
     return history
+
+
+def stopping(stops):
+    """A register of four processes, and so many more that stop within a `cas`."""
+    return lambda calls: lines("x", "register", simulated(Exchanged(), 4 + stops, calls, stops))
 
 
 def crashed(writes):
@@ -327,6 +348,9 @@ FAMILIES = {
     "register_14": Family("a register, 14 processes", "calls", CALLS[-1:], 0, register(14)),
     "register_14_no": Family("the same, and an impossible read", "calls", CALLS[-1:], 1, register_refuted(14)),
     "register_16": Family("a register, 16 processes", "calls", CALLS[-1:], 0, register(16)),
+    "register_32": Family("a register, 32 processes", "calls", MORE_CALLS[-1:], 0, register(32)),
+    "register_64": Family("a register, 64 processes", "calls", MORE_CALLS[-1:], 0, register(64)),
+    "stopping_20": Family("a register with cas, 4 processes, and 20 more that stop within a cas", "calls", CALLS, 0, stopping(20)),
     "queue": Family("a queue, 6 processes", "calls", CALLS, 0, buffer(Queue)),
     "queue_no": Family("the same, two results swapped", "calls", CALLS, 1, buffer_swapped(Queue)),
     **{

@@ -209,10 +209,11 @@ module _ {Object : Type 0} (p : ProblemParts Object ObjState Op Reply) where
       go x is (Lookup k) e f = absurd (omega (arith, below, f))
       go x is (Delete k) e f = absurd (omega (arith, below, f))
 
-  pub is_right : p.start ≡ Queue [] → AreTimed p.calls → (ahead : KnownAhead) → ahead.needs.by ≡ by_row (told p.calls) p.calls → ahead.needs.from ≡ from_row (told p.calls) (least_pending p.calls) p.calls → ahead.taken.items ≡ taken_row (told p.calls) p.calls → ahead.takers.items ≡ takers_from 0 p.calls → ahead.owed.items ≡ once_row (told p.calls) p.calls → ahead.held.items ≡ [] → IsRightAhead (any_problem p) ahead
-  is_right start timed ahead bys froms taken takers owed held = record {
+  pub is_right : p.start ≡ Queue [] → AreTimed p.calls → (ahead : KnownAhead) → ahead.needs.by ≡ by_row (told p.calls) p.calls → ahead.needs.from ≡ from_row (told p.calls) (least_pending p.calls) p.calls → ahead.taken.items ≡ taken_row (told p.calls) p.calls → ahead.takers.items ≡ takers_from 0 p.calls → ahead.owed.items ≡ once_row (told p.calls) p.calls → ahead.held.items ≡ [] → ahead.in_vain ≡ false → IsRightAhead (any_problem p) ahead
+  is_right start timed ahead bys froms taken takers owed held in_vain = record {
     needs = (let k = known p ahead.needs start timed bys froms in record { each_by = k.each_by; each_from = k.each_from; needed = λ a b m n there here below other. k.needed a b m n there here below });
     behind = rw (bys, taken, takers) (are_behind start timed);
     owed = rw owed (are_owed start);
     held = rw held (λ g e. absurd (cc));
+    in_vain = λ e. absurd (cc);
   }

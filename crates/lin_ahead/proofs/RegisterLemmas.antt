@@ -398,10 +398,10 @@ module _ {p : Problem ObjState Op Reply} {start : ℤ} (of : IsOfRegister p star
   later_called None m n h k = k
   later_called (Some y) m n h k = omega (arith, h, k)
 
-  before_of : (i j m n : ℕ) → ReturnsAt p i m → m < n → CalledFrom p n j → Before p i j
+  pub before_of : (i j m n : ℕ) → ReturnsAt p i m → m < n → CalledFrom p n j → Before p i j
   before_of i j m n r h k = rw (r.1, r.2.1) (later_called (slice_get p.calls j) m n h k)
 
-  completed_at : (i m : ℕ) → ReturnsAt p i m → IsCompleted p i
+  pub completed_at : (i m : ℕ) → ReturnsAt p i m → IsCompleted p i
   completed_at i m r = rw (r.1, r.2.1) refl
 
   pub cluster_numbers_need : (a b m n : ℕ) → a ≢ b → IsClusterBy p start a m → IsClusterFrom p start b n → m < n → Needs p a b

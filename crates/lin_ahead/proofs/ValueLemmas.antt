@@ -47,13 +47,13 @@ not_the (Some w) v e f =
 
 -- ---- who may write
 
-abbrev WritesAt : List (ProblemCall Op Reply) → ℕ → ℤ → Type 0
+abbrev pub WritesAt : List (ProblemCall Op Reply) → ℕ → ℤ → Type 0
 WritesAt calls i v = (x : ProblemCall Op Reply) × (slice_get calls i ≡ Some x) × (value_written x.op x.returned ≡ Some v)
 
-abbrev NoneWrites : List (ProblemCall Op Reply) → ℤ → Type 0
+abbrev pub NoneWrites : List (ProblemCall Op Reply) → ℤ → Type 0
 NoneWrites calls v = (i : ℕ) → WritesAt calls i v → ⊥
 
-abbrev OneWrites : List (ProblemCall Op Reply) → ℤ → Type 0
+abbrev pub OneWrites : List (ProblemCall Op Reply) → ℤ → Type 0
 OneWrites calls v = (a b : ℕ) → WritesAt calls a v → WritesAt calls b v → a ≡ b
 
 module _ (c : ProblemCall Op Reply) (cs : List (ProblemCall Op Reply)) (v : ℤ) where
@@ -129,13 +129,13 @@ after_one told (c ∷ cs) v e = go (is_of (value_written c.op c.returned) v) ref
     ]
 
 -- two calls write, or one alone, or none does
-abbrev TwoWrite : List (ProblemCall Op Reply) → ℤ → Type 0
+abbrev pub TwoWrite : List (ProblemCall Op Reply) → ℤ → Type 0
 TwoWrite calls v = (a : ℕ) × (b : ℕ) × (a ≢ b) × WritesAt calls a v × WritesAt calls b v
 
-abbrev Writers : Callers → List (ProblemCall Op Reply) → ℤ → Type 0
+abbrev pub Writers : Callers → List (ProblemCall Op Reply) → ℤ → Type 0
 Writers writers calls v = ((writers ≡ Several) × TwoWrite calls v) ⊎ (((writers ≡ One) × ((a : ℕ) × WritesAt calls a v) × OneWrites calls v) ⊎ ((writers ≡ Nobody) × NoneWrites calls v))
 
-from_nobody : (told : ValueCalls) (calls : List (ProblemCall Op Reply)) (v : ℤ) → told.writers ≡ Nobody → Writers (value_from told calls v).writers calls v
+pub from_nobody : (told : ValueCalls) (calls : List (ProblemCall Op Reply)) (v : ℤ) → told.writers ≡ Nobody → Writers (value_from told calls v).writers calls v
 from_nobody told [] v e = inr (inr (e, λ i w. (let f = w.1 in cc)))
 from_nobody told (c ∷ cs) v e = go (is_of (value_written c.op c.returned) v) refl (λ f. after_one (value_next told c v) cs v f) (λ f. from_nobody (value_next told c v) cs v f)
   where
@@ -153,7 +153,7 @@ from_nobody told (c ∷ cs) v e = go (is_of (value_written c.op c.returned) v) r
       | inr (inr q) ↦ inr (inr (q.0, none_more c cs v is q.1))
     ]
 
-single_is : (p : Problem ObjState Op Reply) (start v : ℤ) → single_by (value_told p.calls) start v ≡ true → IsSingle p start v
+pub single_is : (p : Problem ObjState Op Reply) (start v : ℤ) → single_by (value_told p.calls) start v ≡ true → IsSingle p start v
 single_is p start v e = elim (from_nobody no_value_told p.calls v refl) [
   | inl q ↦ absurd (let f : is_single Several (int_eq v start) ≡ true = rw q.0 at e in cc)
   | inr (inl q) ↦ record { one = q.2; fresh = λ same. absurd (let is : int_eq v start ≡ true = (signed_Decides v start).1 same in let f : is_single One true ≡ true = rw (q.0, is) at e in cc) }
@@ -181,7 +181,7 @@ InCluster x v = (value_written x.op x.returned ≡ Some v) ⊎ (value_found x.op
 abbrev Returned : List (ProblemCall Op Reply) → ℤ → ℕ → Type 0
 Returned calls v n = (i : ℕ) × (x : ProblemCall Op Reply) × (slice_get calls i ≡ Some x) × InCluster x v × ((r : Reply) × (x.returned ≡ Some (n, r)))
 
-abbrev Called : List (ProblemCall Op Reply) → ℤ → ℕ → Type 0
+abbrev pub Called : List (ProblemCall Op Reply) → ℤ → ℕ → Type 0
 Called calls v n = (i : ℕ) × (x : ProblemCall Op Reply) × (slice_get calls i ≡ Some x) × InCluster x v × (x.called ≡ n)
 
 min_is : (m n k : ℕ) → k ≡ min m n → (k ≡ m) ⊎ (k ≡ n)
@@ -315,7 +315,7 @@ returned_there told (c ∷ cs) v = elim (returned_there (value_next told c v) cs
   | inr q ↦ inr (suc q.0, q.1, q.2, q.3, q.4)
 ]
 
-called_there : (told : ValueCalls) (calls : List (ProblemCall Op Reply)) (v : ℤ) → ((value_from told calls v).called ≡ told.called) ⊎ Called calls v (value_from told calls v).called
+pub called_there : (told : ValueCalls) (calls : List (ProblemCall Op Reply)) (v : ℤ) → ((value_from told calls v).called ≡ told.called) ⊎ Called calls v (value_from told calls v).called
 called_there told [] v = inl refl
 called_there told (c ∷ cs) v = elim (called_there (value_next told c v) cs v) [
   | inl e ↦ elim (next_numbers told c v).called [
@@ -364,7 +364,7 @@ module _ (p : Problem ObjState Op Reply) (start : ℤ) where
       go true e = at (single_is p start v e) (cluster_from (value_told p.calls) start (Some v)) (rw e refl)
       go false e = inl (rw e refl)
 
-  by_of_call : (a : ℕ) (x : ProblemCall Op Reply) → slice_get p.calls a ≡ Some x → (o : Option ℤ) → value_written x.op x.returned ≡ o → IsClusterBy p start a (cluster_by (value_told p.calls) start o)
+  pub by_of_call : (a : ℕ) (x : ProblemCall Op Reply) → slice_get p.calls a ≡ Some x → (o : Option ℤ) → value_written x.op x.returned ≡ o → IsClusterBy p start a (cluster_by (value_told p.calls) start o)
   by_of_call a x there None e = beyond a BEYOND refl
   by_of_call a x there (Some v) e = by_value a v (x, there, e)
 
@@ -381,7 +381,7 @@ module _ (p : Problem ObjState Op Reply) (start : ℤ) where
   of_value a v write i (inr (z, there, found)) = (z, there, inr found)
 
   -- no lesser number of an event is right
-  by_least : (a : ℕ) (x : ProblemCall Op Reply) → slice_get p.calls a ≡ Some x → (k : ℕ) → k < 2 ^ 32 → IsClusterBy p start a k → cluster_by (value_told p.calls) start (value_written x.op x.returned) ≤ k
+  pub by_least : (a : ℕ) (x : ProblemCall Op Reply) → slice_get p.calls a ≡ Some x → (k : ℕ) → k < 2 ^ 32 → IsClusterBy p start a k → cluster_by (value_told p.calls) start (value_written x.op x.returned) ≤ k
   by_least a x there k event (inl many) = absurd (omega (arith, event, many))
   by_least a x there k event (inr (u, write, single, (i, of_a, (y, here, (r, back))))) =
       let z = of_value a u write i of_a in
@@ -447,28 +447,5 @@ row_of row one other first start calls same e = ap (λ (told : ℤ → ValueCall
 -- ---- the object that histories are judged by
 
 module _ {Object : Type 0} (p : ProblemParts Object ObjState Op Reply) where
-  of_any_register : (start : ℤ) → p.start ≡ Register start → IsOfRegister (any_problem p) start
+  pub of_any_register : (start : ℤ) → p.start ≡ Register start → IsOfRegister (any_problem p) start
   of_any_register start e = record { after_is = λ s process op. refl; start_is = e; exact = reply_same; same_itself = λ v. (signed_Decides v v).1 refl }
-
-  -- what is known ahead of a register is right
-  pub register_right : (start : ℤ) → p.start ≡ Register start → (ahead : KnownAhead) → ahead.needs.by ≡ cluster_by_row (value_told p.calls) start p.calls → ahead.needs.from ≡ cluster_from_row (value_told p.calls) start p.calls → ahead.held.items ≡ found_single_row (value_told p.calls) start p.calls → ahead.taken.items ≡ [] → ahead.takers.items ≡ [] → ahead.owed.items ≡ [] → IsRightAhead (any_problem p) ahead
-  register_right start e ahead bys froms held taken takers owed = record {
-    needs = clusters_need (of_any_register start e) ahead.needs (are_cluster_numbers (any_problem p) start ahead.needs bys froms);
-    behind = rw taken (λ set a b m n there here. absurd (cc));
-    owed = rw owed (λ c r here. absurd (cc));
-    held = rw held (are_held (any_problem p) start (of_any_register start e));
-  }
-
-  -- and all is told
-  pub register_told : (start : ℤ) → p.start ≡ Register start → (ahead : KnownAhead) → ahead.needs.by ≡ cluster_by_row (value_told p.calls) start p.calls → ahead.needs.from ≡ cluster_from_row (value_told p.calls) start p.calls → ahead.held.items ≡ found_single_row (value_told p.calls) start p.calls → ahead.taken.items ≡ [] → ahead.takers.items ≡ [] → ahead.owed.items ≡ [] → (v : ℤ) → p.start ≡ Register v → IsToldOfRegister (any_problem p) v ahead
-  register_told start here ahead bys froms held taken takers owed v there =
-      let same : start ≡ v = (let e : Register start ≡ Register v = sym here ∙ there in cc) in
-      subst (λ (w : ℤ). IsToldOfRegister (any_problem p) w ahead) same (record {
-        numbers = are_cluster_numbers (any_problem p) start ahead.needs bys froms;
-        each_held = ap length held ∙ length-map p.calls _;
-        held = λ c e. held_found (any_problem p) start c (rw (← held) e);
-        every_held = λ c w found single. rw held (found_held (any_problem p) start c w found single);
-        taken = taken;
-        takers = takers;
-        owed = owed;
-      })

@@ -1,5 +1,5 @@
 -- Calls that need others at the configuration that a search is at, and what is known ahead of a problem (this project's own).
-use Rattle.std.specs.Prelude.{◌≡◌, ◌≢◌, ℕ, ◌<◌, Bool, false, Some, List, ◌∷◌, ◌++◌, length, slice_get, IsSomeAnd}
+use Rattle.std.specs.Prelude.{◌≡◌, ◌≢◌, ℕ, ◌<◌, Bool, false, Some, List, ◌∷◌, ◌++◌, length, slice_get, IsSomeAnd, IsTrue}
 use Rattle.lin_history.specs.Problems.Lists.{In}
 use Rattle.lin_history.specs.Problems.Problem.{Problem}
 use Rattle.lin_history.specs.Problems.Continuations.{has}
@@ -38,3 +38,4 @@ pub record IsRightAhead {State Op Reply : Type 0} (p : Problem State Op Reply) (
   pub behind : AreNeedsBehind p ahead.needs.by ahead.taken.items ahead.takers.items
   pub owed : AreOwed p ahead.owed.items
   pub held : AreHeldUntil p ahead.held.items
+  pub in_vain : IsTrue ahead.in_vain → (l : List ℕ) → IsLinearization p l → ⊥

@@ -1,5 +1,5 @@
 -- Problems of a register, and what their calls tell of values (this project's own).
-use Rattle.std.specs.Prelude.{◌≡◌, ℕ, ◌<◌, ◌≤◌, ◌^◌, ℤ, true, false, Option, Some, None, ◌⊎◌, length, slice_get}
+use Rattle.std.specs.Prelude.{◌≡◌, ◌≢◌, ℕ, ◌+◌, ◌<◌, ◌≤◌, ◌^◌, ℤ, true, false, Option, Some, None, ◌⊎◌, length, slice_get}
 use Rattle.lin_object.specs.declared.op.Op.{Op}
 use Rattle.lin_object.specs.declared.op.Op.TheVariants.{Write, Read, Cas}
 use Rattle.lin_object.specs.declared.reply.Reply.{Reply}
@@ -62,6 +62,14 @@ module _ (p : Problem ObjState Op Reply) where
   IsClusterFrom start b n =
       (n ≡ 0)
       ⊎ ((n ≤ 2 ^ 32) × ((v : ℤ) × MayWrite b v × IsSingle start v × ((j : ℕ) × OfCluster b v j × CalledFrom p n j)))
+
+  -- A call found what no call may write, and what was not there at the start.
+  abbrev pub FoundNowhere : ℤ → Type 0
+  FoundNowhere start = (g : ℕ) × (u : ℤ) × Finds g u × (u ≢ start) × ((a : ℕ) → MayWrite a u → ⊥)
+
+  -- A call found a single start value, and was called after a call of a cluster returned.
+  abbrev pub FoundTooLate : ℤ → Type 0
+  FoundTooLate start = IsSingle start start × ((g a m : ℕ) × Finds g start × (m < 2 ^ 32) × IsClusterBy start a m × CalledFrom p (m + 1) g)
 
 -- Rows with the numbers of the calls of a register: of those that are right the least event by which a call is needed, and the
 -- greatest number up to which it needs others.

@@ -1,7 +1,8 @@
 -- What the calls on a register tell of one value, and the numbers and flags of its calls (this project's own).
-use Rattle.std.specs.Prelude.{ℕ, ℤ, Bool, true, false, not, min, max, map, Option, Some, None, List, [], ◌∷◌, if◌then◌else◌}
+use Rattle.std.specs.Prelude.{◌||◌, ℕ, ℤ, Bool, true, false, not, min, max, map, nat_lt, Option, Some, None, List, [], ◌∷◌, if◌then◌else◌}
 use Rattle.std.specs.Ordering.{int_eq}
 use Rattle.std.specs.Option.{unwrap_or}
+use Rattle.std.specs.List.{list_any}
 use Rattle.lin_object.specs.declared.op.Op.{Op}
 use Rattle.lin_object.specs.declared.reply.Reply.{Reply}
 use Rattle.lin_history.specs.declared.problems.problem.ProblemCall.{ProblemCall}
@@ -78,6 +79,25 @@ cluster_from told start (Some v) = if single_by told start v then min BEYOND (to
 abbrev pub found_single : (ℤ → ValueCalls) → ℤ → Option ℤ → Bool
 found_single told start None = false
 found_single told start (Some v) = single_by told start v
+
+-- No call may write the value, and the register does not start with it.
+abbrev pub is_nowhere : Callers → Bool → Bool
+is_nowhere Nobody at_start = not at_start
+is_nowhere One at_start = false
+is_nowhere Several at_start = false
+
+-- A call found a value, and it is nowhere.
+abbrev pub found_nowhere : (ℤ → ValueCalls) → ℤ → Option ℤ → Bool
+found_nowhere told start None = false
+found_nowhere told start (Some v) = is_nowhere (told v).writers (int_eq v start)
+
+-- The call found a value that is nowhere, or the first call of its cluster returned before this event.
+abbrev pub shows_in_vain : (ℤ → ValueCalls) → ℤ → ℕ → ProblemCall Op Reply → Bool
+shows_in_vain told start last c = found_nowhere told start (value_found c.op c.returned) || nat_lt (cluster_by told start (value_written c.op c.returned)) last
+
+-- Some call shows it, where the event is the last call that found a single start value.
+abbrev pub any_in_vain : (ℤ → ValueCalls) → ℤ → List (ProblemCall Op Reply) → Bool
+any_in_vain told start calls = list_any (shows_in_vain told start (cluster_from told start (Some start))) calls
 
 -- These of each call.
 abbrev pub cluster_by_row : (ℤ → ValueCalls) → ℤ → List (ProblemCall Op Reply) → List ℕ

@@ -405,6 +405,9 @@ pub fn search_first<O: SeqObject>(
         lifts) }
 {
     lawful::<O>();
+    if ahead.in_vain {
+        return Ok(FirstAnswer::Refuted);
+    }
     let root = Config::root(alloc, problem)?;
     if root.is_complete(problem) {
         return Ok(FirstAnswer::Found(Order::new(Vec::new(alloc))));

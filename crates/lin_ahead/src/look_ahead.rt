@@ -1,7 +1,7 @@
 //! What the calls of a queue's or a register's problem tell before any search: which calls need which, which are owed their
 //! replies, and until which of them the state is held.
 
-ghost use Rattle.std.specs.Prelude.{◌≡◌, ◌↔◌, ◌⊎◌, ℤ, [], Some, IfOk, IfSome, IsSome, IsTrue};
+ghost use Rattle.std.specs.Prelude.{◌≡◌, ◌↔◌, ◌⊎◌, ℤ, [], false, Some, IfOk, IfSome, IsSome, IsTrue};
 ghost use Rattle.std.specs.Ordering.{int_eq};
 ghost use Rattle.indexmap.specs.IndexMap.{get};
 ghost use Rattle.lin_object.specs.declared.state.ObjState.TheVariants.{Queue, Register};
@@ -122,6 +122,8 @@ pub struct KnownAhead {
     pub owed: Vec<bool>,
     /// For each call, whether the state may not change where it could follow, until it stands.
     pub held: Vec<bool>,
+    /// Whether what is known shows that there is no linearization.
+    pub in_vain: bool,
     /// The values of each call, by which a search finds one that has this flag.
     pub values: ValueNumbers,
 }
@@ -137,6 +139,7 @@ fn told_of_queue(alloc: Global, calls: &[ProblemCall<Op, Reply>]) -> Result<Know
     ensures owed { IfOk result (λ ahead. ahead.owed.items
         ≡ once_row (told calls.now) calls.now) }
     ensures held { IfOk result (λ ahead. ahead.held.items ≡ []) }
+    ensures in_vain { IfOk result (λ ahead. ahead.in_vain ≡ false) }
 {
     let items = told_by_calls(alloc, calls)?;
     let by = by_row(alloc, &items, calls)?;
@@ -147,6 +150,7 @@ fn told_of_queue(alloc: Global, calls: &[ProblemCall<Op, Reply>]) -> Result<Know
         takers: takers_of(alloc, calls)?,
         owed: once_row(alloc, &items, calls)?,
         held: Vec::new(alloc),
+        in_vain: false,
         values: ValueNumbers::none(alloc),
     })
 }

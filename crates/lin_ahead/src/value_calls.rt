@@ -2,7 +2,7 @@
 
 ghost use Rattle.std.specs.Prelude.{◌≡◌};
 ghost use Rattle.lin_ahead.specs.Register.{value_written, value_found};
-ghost use Rattle.lin_ahead.specs.ValueCalls.{no_value_told, with_member, with_writer, is_single};
+ghost use Rattle.lin_ahead.specs.ValueCalls.{no_value_told, with_member, with_writer, is_single, is_nowhere};
 
 use crate::item_calls::{BEYOND, Callers, one_more};
 use lin_history::ProblemCall;
@@ -89,6 +89,16 @@ impl ValueCalls {
             Callers::Nobody => true,
             Callers::One => !at_start,
             Callers::Several => false,
+        }
+    }
+
+    /// Whether no call may write the value, and the register does not start with it.
+    pub(crate) fn is_nowhere(&self, at_start: bool) -> bool
+        ensures { result ≡ is_nowhere self.now.writers at_start }
+    {
+        match self.writers {
+            Callers::Nobody => !at_start,
+            _ => false,
         }
     }
 }

@@ -1,11 +1,11 @@
 //! What is told of each call on a register by what the calls tell of its values: its numbers, and whether it found a single
 //! value.
 
-ghost use Rattle.std.specs.Prelude.{◌≡◌, [], IfOk};
+ghost use Rattle.std.specs.Prelude.{◌≡◌, [], Some, IfOk};
 ghost use Rattle.std.specs.Ordering.{int_eq};
 ghost use Rattle.indexmap.specs.IndexMap.{get};
 ghost use Rattle.lin_ahead.specs.Register.{value_written, value_found};
-ghost use Rattle.lin_ahead.specs.ValueCalls.{value_in, value_told, single_by, cluster_by, cluster_from, found_single, cluster_by_row, cluster_from_row, found_single_row};
+ghost use Rattle.lin_ahead.specs.ValueCalls.{value_in, value_told, single_by, cluster_by, cluster_from, found_single, found_nowhere, shows_in_vain, any_in_vain, cluster_by_row, cluster_from_row, found_single_row};
 
 use crate::call_values::{CallValues, ValueNumbers};
 use crate::each_value::{told_of_value, values_told};
@@ -64,6 +64,46 @@ fn found_single(values: &Values, call: &ProblemCall<Op, Reply>) -> bool
         Some(value) => single_by(values, value),
         None => false,
     }
+}
+
+// Whether the call found a value that no call may write, and that the register does not start with.
+fn found_nowhere(values: &Values, call: &ProblemCall<Op, Reply>) -> bool
+    ensures { result ≡ found_nowhere (value_in (get int_eq values.now.told)) values.now.start
+        (value_found call.now.op call.now.returned) }
+{
+    match value_found(call) {
+        Some(value) => told_of_value(&values.told, value).is_nowhere(value == values.start),
+        None => false,
+    }
+}
+
+// When the last call was called that found the value which the register starts with, where that is single.
+fn last_of_start(values: &Values) -> u64
+    ensures { result ≡ cluster_from (value_in (get int_eq values.now.told)) values.now.start
+        (Some values.now.start) }
+{
+    if single_by(values, values.start) {
+        u64::min(BEYOND, told_of_value(&values.told, values.start).called)
+    } else {
+        0
+    }
+}
+
+// Whether the call found a value that is nowhere, or the first call of its cluster returned before this event.
+fn shows_in_vain(values: &Values, last: u64, call: &ProblemCall<Op, Reply>) -> bool
+    ensures { result ≡ shows_in_vain (value_in (get int_eq values.now.told)) values.now.start
+        last call.now }
+{
+    found_nowhere(values, call) || cluster_by(values, call) < last
+}
+
+// Whether some call shows that there is no linearization.
+fn any_in_vain(values: &Values, calls: &[ProblemCall<Op, Reply>]) -> bool
+    ensures { result ≡ any_in_vain (value_in (get int_eq values.now.told)) values.now.start
+        calls.now }
+{
+    let last = last_of_start(values);
+    calls.iter().any(|call| shows_in_vain(values, last, call))
 }
 
 // For each call when the first call of its cluster returned.
@@ -161,6 +201,8 @@ pub(crate) fn told_of_register(
         ≡ cluster_from_row (value_told calls.now) start.now calls.now) }
     ensures held { IfOk result (λ ahead. ahead.held.items
         ≡ found_single_row (value_told calls.now) start.now calls.now) }
+    ensures in_vain { IfOk result (λ ahead. ahead.in_vain
+        ≡ any_in_vain (value_told calls.now) start.now calls.now) }
     ensures taken { IfOk result (λ ahead. ahead.taken.items ≡ []) }
     ensures takers { IfOk result (λ ahead. ahead.takers.items ≡ []) }
     ensures owed { IfOk result (λ ahead. ahead.owed.items ≡ []) }
@@ -170,6 +212,7 @@ pub(crate) fn told_of_register(
         told,
         start: *start,
     };
+    let in_vain = any_in_vain(&values, calls);
     let by = cluster_by_row(alloc, &values, calls)?;
     let from = cluster_from_row(alloc, &values, calls)?;
     Ok(KnownAhead {
@@ -178,6 +221,7 @@ pub(crate) fn told_of_register(
         takers: Vec::new(alloc),
         owed: Vec::new(alloc),
         held: found_single_row(alloc, &values, calls)?,
+        in_vain,
         values: value_numbers(alloc, &values, calls)?,
     })
 }

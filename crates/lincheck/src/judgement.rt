@@ -153,8 +153,8 @@ fn judge<R: AllocGlobal + Threads + Sync, G: Gate>(
 
 /// Checks a history. Its objects are searched in the order of declaration, each as `check_object` does with these options;
 /// the first that has no linearization, or that is not decided within the limit, ends the check. Before an object of which
-/// something is known ahead, a queue that starts empty, a first search is made (`search_first`), unless the gate
-/// wants workers; where that finds the order, nothing is stored for the object.
+/// something is known ahead, a queue that starts empty or a register, a first search is made (`search_first`), unless the
+/// gate wants workers; where that finds the order, nothing is stored for the object.
 ///
 /// The number stored is the sum over the objects up to where the check ended; of each object it is below 2^54, and the object
 /// has as many reachable configurations or more. It is told of every history with no more objects than `MAX_OBJECTS`, and no

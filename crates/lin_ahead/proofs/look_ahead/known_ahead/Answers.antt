@@ -2,7 +2,7 @@ use Rattle.std.proofs.Common.{◌≡◌, [], rules}
 use Rattle.lin_object.specs.declared.state.ObjState.TheVariants.{Queue, Register}
 use Rattle.lin_ahead.specs.AnyProblem.{any_problem}
 use Rattle.lin_ahead.proofs.AheadLemmas.{is_right, is_told}
-use Rattle.lin_ahead.proofs.ValueLemmas.{register_right, register_told}
+use Rattle.lin_ahead.proofs.VainLemmas.{register_right, register_told}
 use Rattle.lin_ahead.proofs.look_ahead.known_ahead.Goals as goal
 
 pub returns-in_ok-told_of_queue-in-Queue-clause-right :
@@ -10,7 +10,7 @@ pub returns-in_ok-told_of_queue-in-Queue-clause-right :
 returns-in_ok-told_of_queue-in-Queue-clause-right c =
     let start : c.args.problem.now.start ≡ Queue [] = search rules in
     let tells = c.in_ok-told_of_queue-in-Queue.ensures in
-    is_right c.args.problem.now start c.calls-calls.ensures.timed _ (rw c.calls-calls.ensures.calls at tells.by) (rw c.calls-calls.ensures.calls at tells.from) (rw c.calls-calls.ensures.calls at tells.taken) (rw c.calls-calls.ensures.calls at tells.takers) (rw c.calls-calls.ensures.calls at tells.owed) tells.held
+    is_right c.args.problem.now start c.calls-calls.ensures.timed _ (rw c.calls-calls.ensures.calls at tells.by) (rw c.calls-calls.ensures.calls at tells.from) (rw c.calls-calls.ensures.calls at tells.taken) (rw c.calls-calls.ensures.calls at tells.takers) (rw c.calls-calls.ensures.calls at tells.owed) tells.held tells.in_vain
 
 pub returns-in_ok-told_of_queue-in-Queue-clause-told :
     goal.returns-in_ok-told_of_queue-in-Queue-clause-told
@@ -23,11 +23,11 @@ pub returns-in_ok-told_of_register-in-Register-clause-right :
 returns-in_ok-told_of_register-in-Register-clause-right c =
     let start : c.args.problem.now.start ≡ Register c.in-Register.start = search rules in
     let tells = c.in_ok-told_of_register-in-Register.ensures in
-    register_right c.args.problem.now c.in-Register.start start _ (rw c.calls-calls.ensures.calls at tells.by) (rw c.calls-calls.ensures.calls at tells.from) (rw c.calls-calls.ensures.calls at tells.held) tells.taken tells.takers tells.owed
+    register_right c.args.problem.now c.in-Register.start start _ (rw c.calls-calls.ensures.calls at tells.by) (rw c.calls-calls.ensures.calls at tells.from) (rw c.calls-calls.ensures.calls at tells.held) (rw c.calls-calls.ensures.calls at tells.in_vain) tells.taken tells.takers tells.owed
 
 pub returns-in_ok-told_of_register-in-Register-clause-told_of_register :
     goal.returns-in_ok-told_of_register-in-Register-clause-told_of_register
 returns-in_ok-told_of_register-in-Register-clause-told_of_register c =
     let start : c.args.problem.now.start ≡ Register c.in-Register.start = search rules in
     let tells = c.in_ok-told_of_register-in-Register.ensures in
-    register_told c.args.problem.now c.in-Register.start start _ (rw c.calls-calls.ensures.calls at tells.by) (rw c.calls-calls.ensures.calls at tells.from) (rw c.calls-calls.ensures.calls at tells.held) tells.taken tells.takers tells.owed
+    register_told c.args.problem.now c.in-Register.start start _ (rw c.calls-calls.ensures.calls at tells.by) (rw c.calls-calls.ensures.calls at tells.from) (rw c.calls-calls.ensures.calls at tells.held) (rw c.calls-calls.ensures.calls at tells.in_vain) tells.taken tells.takers tells.owed

@@ -1,6 +1,6 @@
 use Rattle.std.proofs.Common.{◌∙◌, ap, rules}
 use Rattle.lin_history.specs.Problems.Needs.{NeedNumbers}
-use Rattle.lin_ahead.specs.ValueCalls.{cluster_by_row, cluster_from_row, found_single_row}
+use Rattle.lin_ahead.specs.ValueCalls.{cluster_by_row, cluster_from_row, found_single_row, any_in_vain}
 use Rattle.lin_ahead.proofs.ValueLemmas.{row_of}
 use Rattle.lin_ahead.proofs.value_rows.told_of_register.Goals as goal
 
@@ -14,3 +14,6 @@ returns-clause-from c =
 
 pub returns-clause-held : goal.returns-clause-held
 returns-clause-held c = c.in_ok-found_single_row.ensures ∙ row_of found_single_row _ _ _ c.args.start.now _ c.in_ok-told.ensures (search rules)
+
+pub returns-clause-in_vain : goal.returns-clause-in_vain
+returns-clause-in_vain c = c.any_in_vain-in_vain.ensures ∙ row_of any_in_vain _ _ _ c.args.start.now _ c.in_ok-told.ensures (search rules)

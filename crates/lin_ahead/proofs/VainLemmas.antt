@@ -1,0 +1,164 @@
+-- What is known ahead of a register is right, and all is told: with the cases in which it shows that there is no linearization.
+use Rattle.std.proofs.Common.{◌≡◌, ◌≢◌, ◌↔◌, ◌⊎◌, inl, inr, ℕ, zero, suc, ◌+◌, ◌<◌, ◌≤◌, ◌^◌, Bool, true, false, min, Option, Some, None, List, [], ◌∷◌, length, refl, sym, ◌∙◌, ap, subst, arith, ◌||◌, IsTrue}
+use Rattle.std.specs.Prelude.{ℤ, nat_lt, slice_get, IsSomeAnd}
+use Rattle.std.specs.Ordering.{int_eq}
+use Rattle.std.specs.List.{list_any}
+use Rattle.std.specs.Cmp.{signed_Decides}
+use Rattle.std.proofs.lemmas.Bool.{ltb-true, lt-ltb}
+use Rattle.std.proofs.lemmas.List.{length-map}
+use Rattle.lin_object.specs.declared.op.Op.{Op}
+use Rattle.lin_object.specs.declared.reply.Reply.{Reply}
+use Rattle.lin_object.specs.declared.state.ObjState.{ObjState}
+use Rattle.lin_object.specs.declared.state.ObjState.TheVariants.{Register}
+use Rattle.lin_history.specs.declared.problems.problem.ProblemCall.{ProblemCall}
+use Rattle.lin_history.specs.Problems.ProblemParts.{ProblemParts}
+use Rattle.lin_history.specs.Problems.Problem.{Problem}
+use Rattle.lin_history.specs.Problems.Linearizations.{IsLinearization}
+use Rattle.lin_ahead.specs.declared.item_calls.Callers.{Callers}
+use Rattle.lin_ahead.specs.declared.item_calls.Callers.TheVariants.{Nobody, One, Several}
+use Rattle.lin_ahead.specs.declared.item_calls.TheConstants.{BEYOND}
+use Rattle.lin_ahead.specs.declared.look_ahead.KnownAhead.{KnownAhead}
+use Rattle.lin_ahead.specs.AnyProblem.{any_problem}
+use Rattle.lin_ahead.specs.Behind.{IsRightAhead}
+use Rattle.lin_ahead.specs.Numbers.{CalledFrom}
+use Rattle.lin_ahead.specs.Register.{IsOfRegister, value_written, value_found, MayWrite, Finds, IsSingle, IsClusterBy, FoundNowhere, FoundTooLate}
+use Rattle.lin_ahead.specs.ToldOfRegister.{IsToldOfRegister}
+use Rattle.lin_ahead.specs.ValueCalls.{no_value_told, value_told, single_by, cluster_by, cluster_from, is_nowhere, found_nowhere, shows_in_vain, any_in_vain, cluster_by_row, cluster_from_row, found_single_row}
+use Rattle.lin_ahead.proofs.RegisterLemmas.{clusters_need, found_in_vain, start_in_vain, before_of, completed_at}
+use Rattle.lin_ahead.proofs.ValueLemmas.{from_nobody, single_told, single_is, called_there, within, InCluster, by_of_call, by_least, are_cluster_numbers, held_found, found_held, are_held, of_any_register}
+
+-- an element of a list that passes a test
+any_at : {A : Type 0} (test : A → Bool) (xs : List A) → list_any test xs ≡ true → (i : ℕ) × (x : A) × (slice_get xs i ≡ Some x) × (test x ≡ true)
+any_at test [] e = absurd (cc)
+any_at {A} test (x ∷ xs) e = go (test x) refl e (λ f. any_at test xs f)
+  where
+    go : (b : Bool) → test x ≡ b → (test x || list_any test xs) ≡ true → (list_any test xs ≡ true → (i : ℕ) × (y : A) × (slice_get xs i ≡ Some y) × (test y ≡ true)) → (i : ℕ) × (y : A) × (slice_get (x ∷ xs) i ≡ Some y) × (test y ≡ true)
+    go true is f more = (0, x, refl, is)
+    go false is f more = (let k = more (rw is at f) in (suc k.0, k.1, k.2, k.3))
+
+or_true : (a b : Bool) → b ≡ true → (a || b) ≡ true
+or_true true b e = refl
+or_true false b e = e
+
+passes_at : {A : Type 0} (test : A → Bool) (xs : List A) (i : ℕ) (x : A) → slice_get xs i ≡ Some x → test x ≡ true → list_any test xs ≡ true
+passes_at test [] i x there e = absurd (cc)
+passes_at {A} test (y ∷ xs) zero x there e = (let same : x ≡ y = cc in let f : test y ≡ true = subst (λ (z : A). test z ≡ true) same e in rw f refl)
+passes_at test (y ∷ xs) (suc i) x there e = or_true (test y) (list_any test xs) (passes_at test xs i x there e)
+
+either : (a b : Bool) → (a || b) ≡ true → (a ≡ true) ⊎ (b ≡ true)
+either true b e = inl refl
+either false b e = inr e
+
+module _ (p : Problem ObjState Op Reply) (start : ℤ) where
+  -- no call may write the value, and the register does not start with it
+  nowhere : (v : ℤ) → is_nowhere (value_told p.calls v).writers (int_eq v start) ≡ true → (v ≢ start) × ((a : ℕ) → MayWrite p a v → ⊥)
+  nowhere v e = elim (from_nobody no_value_told p.calls v refl) [
+    | inl q ↦ absurd (let f : is_nowhere Several (int_eq v start) ≡ true = rw q.0 at e in cc)
+    | inr (inl q) ↦ absurd (let f : is_nowhere One (int_eq v start) ≡ true = rw q.0 at e in cc)
+    | inr (inr q) ↦ ((λ same. (let is : int_eq v start ≡ true = (signed_Decides v start).1 same in let f : is_nowhere Nobody true ≡ true = rw (q.0, is) at e in cc)), q.1)
+  ]
+
+  nowhere_told : (v : ℤ) → v ≢ start → ((a : ℕ) → MayWrite p a v → ⊥) → is_nowhere (value_told p.calls v).writers (int_eq v start) ≡ true
+  nowhere_told v other none = elim (from_nobody no_value_told p.calls v refl) [
+    | inl q ↦ absurd (none q.1.0 q.1.3)
+    | inr (inl q) ↦ absurd (none q.1.0 q.1.1)
+    | inr (inr q) ↦ ap (λ (w : Callers). is_nowhere w (int_eq v start)) q.0 ∙ at_start (int_eq v start) refl
+  ]
+    where
+      at_start : (b : Bool) → int_eq v start ≡ b → is_nowhere Nobody b ≡ true
+      at_start true e = absurd (other ((signed_Decides v start).0 e))
+      at_start false e = refl
+
+  found_one_nowhere : (o : Option ℤ) → found_nowhere (value_told p.calls) start o ≡ true → (v : ℤ) × (o ≡ Some v) × (is_nowhere (value_told p.calls v).writers (int_eq v start) ≡ true)
+  found_one_nowhere None e = absurd (cc)
+  found_one_nowhere (Some v) e = (v, refl, e)
+
+  -- the last call that found a single start value
+  abbrev Last : ℕ
+  Last = cluster_from (value_told p.calls) start (Some start)
+
+  last_of_start : (m : ℕ) → m < Last → IsSingle p start start × (m < 2 ^ 32) × ((g : ℕ) × Finds p g start × CalledFrom p (m + 1) g)
+  last_of_start m below = go (single_by (value_told p.calls) start start) refl
+    where
+      at : IsSingle p start start → m < min BEYOND (value_told p.calls start).called → IsSingle p start start × (m < 2 ^ 32) × ((g : ℕ) × Finds p g start × CalledFrom p (m + 1) g)
+      at single less = elim (called_there no_value_told p.calls start) [
+        | inl q ↦ absurd (omega (arith, less, q))
+        | inr (j, x, there, inl writes, number) ↦ absurd (single.fresh refl j (x, there, writes))
+        | inr (j, x, there, inr found, number) ↦ (single, omega (arith, less), (j, (x, there, found), (let h : m + 1 ≤ x.called = omega (arith, less, number) in rw there h)))
+      ]
+
+      go : (b : Bool) → single_by (value_told p.calls) start start ≡ b → IsSingle p start start × (m < 2 ^ 32) × ((g : ℕ) × Finds p g start × CalledFrom p (m + 1) g)
+      go true e = at (single_is p start start e) (rw e at below)
+      go false e = absurd (let f : m < 0 = rw e at below in omega (arith, f))
+
+  is_last : (m g : ℕ) → IsSingle p start start → Finds p g start → m < 2 ^ 32 → CalledFrom p (m + 1) g → m < Last
+  is_last m g single (x, there, found) few called =
+      let is = single_told p start start single in
+      let from : m + 1 ≤ x.called = rw there at called in
+      let most : x.called ≤ (value_told p.calls start).called = (within no_value_told p.calls start g x there (inr found)).called in
+      let less : m < min BEYOND (value_told p.calls start).called = omega (arith, few, from, most) in
+      rw is less
+
+  in_vain_is : any_in_vain (value_told p.calls) start p.calls ≡ true → FoundNowhere p start ⊎ FoundTooLate p start
+  in_vain_is e =
+      let k = any_at (shows_in_vain (value_told p.calls) start Last) p.calls e in
+      elim (either (found_nowhere (value_told p.calls) start (value_found k.1.op k.1.returned)) (nat_lt (cluster_by (value_told p.calls) start (value_written k.1.op k.1.returned)) Last) k.3) [
+        | inl q ↦ (
+            let found = found_one_nowhere (value_found k.1.op k.1.returned) q in
+            let none = nowhere found.0 found.2 in
+            inl (k.0, found.0, (k.1, k.2, found.1), none.0, none.1))
+        | inr q ↦ (
+            let m : ℕ = cluster_by (value_told p.calls) start (value_written k.1.op k.1.returned) in
+            let last = last_of_start m (ltb-true m Last q) in
+            inr (last.0, (last.2.0, k.0, m, last.2.1, last.1, by_of_call p start k.0 k.1 k.2 (value_written k.1.op k.1.returned) refl, last.2.2)))
+      ]
+
+  in_vain_told : FoundNowhere p start ⊎ FoundTooLate p start → any_in_vain (value_told p.calls) start p.calls ≡ true
+  in_vain_told (inl (g, u, (x, there, found), other, none)) =
+      passes_at (shows_in_vain (value_told p.calls) start Last) p.calls g x there
+      (ap (λ (b : Bool). b || nat_lt (cluster_by (value_told p.calls) start (value_written x.op x.returned)) Last) (ap (λ (o : Option ℤ). found_nowhere (value_told p.calls) start o) found ∙ nowhere_told u other none))
+  in_vain_told (inr (single, (g, a, m, found, few, by, called))) = elim (writer by) [
+    | inl many ↦ absurd (omega (arith, many, few))
+    | inr (x, there) ↦ (
+        let least = by_least p start a x there m few by in
+        let last = is_last m g single found few called in
+        passes_at (shows_in_vain (value_told p.calls) start Last) p.calls a x there
+        (or_true (found_nowhere (value_told p.calls) start (value_found x.op x.returned)) (nat_lt (cluster_by (value_told p.calls) start (value_written x.op x.returned)) Last)
+        (lt-ltb (cluster_by (value_told p.calls) start (value_written x.op x.returned)) Last (omega (arith, least, last)))))
+  ]
+    where
+      writer : IsClusterBy p start a m → (2 ^ 32 ≤ m) ⊎ ((x : ProblemCall Op Reply) × (slice_get p.calls a ≡ Some x))
+      writer (inl many) = inl many
+      writer (inr (u, write, single, rest)) = inr (write.0, write.1)
+
+  in_vain : IsOfRegister p start → FoundNowhere p start ⊎ FoundTooLate p start → (l : List ℕ) → IsLinearization p l → ⊥
+  in_vain of (inl (g, u, found, other, none)) l whole = found_in_vain of g u found other none l whole
+  in_vain of (inr (single, (g, a, m, found, few, inl many, called))) l whole = omega (arith, few, many)
+  in_vain of (inr (single, (g, a, m, found, few, inr (u, write, single_u, (i, of_a, at)), called))) l whole =
+      start_in_vain of u a i g write single_u of_a (completed_at of i m at) found single (before_of of i g m (m + 1) at (omega arith) called) l whole
+
+module _ {Object : Type 0} (p : ProblemParts Object ObjState Op Reply) where
+  -- what is known ahead of a register is right
+  pub register_right : (start : ℤ) → p.start ≡ Register start → (ahead : KnownAhead) → ahead.needs.by ≡ cluster_by_row (value_told p.calls) start p.calls → ahead.needs.from ≡ cluster_from_row (value_told p.calls) start p.calls → ahead.held.items ≡ found_single_row (value_told p.calls) start p.calls → ahead.in_vain ≡ any_in_vain (value_told p.calls) start p.calls → ahead.taken.items ≡ [] → ahead.takers.items ≡ [] → ahead.owed.items ≡ [] → IsRightAhead (any_problem p) ahead
+  register_right start e ahead bys froms held vain taken takers owed = record {
+    needs = clusters_need (of_any_register p start e) ahead.needs (are_cluster_numbers (any_problem p) start ahead.needs bys froms);
+    behind = rw taken (λ set a b m n there here. absurd (cc));
+    owed = rw owed (λ c r here. absurd (cc));
+    held = rw held (are_held (any_problem p) start (of_any_register p start e));
+    in_vain = λ is. in_vain (any_problem p) start (of_any_register p start e) (in_vain_is (any_problem p) start (sym vain ∙ is));
+  }
+
+  -- and all is told
+  pub register_told : (start : ℤ) → p.start ≡ Register start → (ahead : KnownAhead) → ahead.needs.by ≡ cluster_by_row (value_told p.calls) start p.calls → ahead.needs.from ≡ cluster_from_row (value_told p.calls) start p.calls → ahead.held.items ≡ found_single_row (value_told p.calls) start p.calls → ahead.in_vain ≡ any_in_vain (value_told p.calls) start p.calls → ahead.taken.items ≡ [] → ahead.takers.items ≡ [] → ahead.owed.items ≡ [] → (v : ℤ) → p.start ≡ Register v → IsToldOfRegister (any_problem p) v ahead
+  register_told start here ahead bys froms held vain taken takers owed v there =
+      let same : start ≡ v = (let e : Register start ≡ Register v = sym here ∙ there in cc) in
+      subst (λ (w : ℤ). IsToldOfRegister (any_problem p) w ahead) same (record {
+        numbers = are_cluster_numbers (any_problem p) start ahead.needs bys froms;
+        each_held = ap length held ∙ length-map p.calls _;
+        held = λ c e. held_found (any_problem p) start c (rw (← held) e);
+        every_held = λ c w found single. rw held (found_held (any_problem p) start c w found single);
+        in_vain = ((λ is. in_vain_is (any_problem p) start (sym vain ∙ is)), (λ shown. vain ∙ in_vain_told (any_problem p) start shown));
+        taken = taken;
+        takers = takers;
+        owed = owed;
+      })
