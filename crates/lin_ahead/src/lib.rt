@@ -1,14 +1,16 @@
-//! What the calls of a queue tell of which calls need which, before any search, and a first search that goes by it (this
-//! project's own).
+//! What the calls of a queue or a register tell before any search, and a first search that goes by it (this project's own).
 //!
-//! - `item_calls`: what the calls tell of one item: how many put it in, and when it was taken out.
-//! - `each_item`: the same of each item, by one pass over the calls.
-//! - `numbers`: the two numbers of a call.
-//! - `look_ahead`: the rows of these numbers for a whole problem.
-//! - `first_search`: a search that passes over calls that need one left out, or that would take a reply which is owed to
-//!   another; `needed_calls`: the calls by how early they are needed; `owed_replies`: the replies that are owed;
-//!   `calls_in_turn`: calls in an order, and the first that is not lifted; `refuted_set`: what it has refuted;
-//!   `first_answer`: what it answers.
+//! - `item_calls`: what the calls on a queue tell of one item: how many put it in, and when it was taken out; `each_item`: the
+//!   same of each item, by one pass over the calls; `numbers`: the two numbers of a call.
+//! - `value_calls`: what the calls on a register tell of one value: how many may write it, and when those that wrote or found
+//!   it returned and were called; `each_value`: the same of each value, by one pass; `value_rows`: the rows of a register;
+//!   `call_values`: the values of each call by numbers.
+//! - `look_ahead`: what is known ahead of a whole problem.
+//! - `first_search`: a search that passes over calls that need one left out, that would take a reply which is owed to
+//!   another, or that would change a state which is held; `needed_calls`: the calls by how early they are needed;
+//!   `owed_replies`: the replies that are owed; `calls_in_turn`: calls in an order, and the first that is not lifted;
+//!   `held_state`: calls until which the state is held; `finders`: the calls that found each value, in turn; `refuted_set`:
+//!   what it has refuted; `first_answer`: what it answers.
 #![tactic(auto)]
 
 mod call_values;
