@@ -1,0 +1,4 @@
+pub mod PartLemmas
+pub mod RunLemmas
+pub mod FullLemmas
+pub mod ListLemmas

@@ -1,0 +1,12 @@
+use Rattle.std.proofs.Common.{◌≡◌, ◌<◌, ℕ, length}
+use Rattle.lin_ahead.specs.AnyProblem.{any_problem}
+use Rattle.lin_parts.specs.Keys.Merging.{order_at}
+use Rattle.lin_parts.specs.Keys.PartOrder.{IsFullOrder}
+use Rattle.lin_parts.proofs.keys.part_orders.orders_of_parts.Given as goal
+
+-- each part so far has a full order
+abbrev pub invariant-loop-key : goal.invariant-loop-key
+invariant-loop-key l = record {
+  count : length l.orders.items ≡ l.key;
+  each : (k : ℕ) → k < l.key → IsFullOrder (any_problem l.problem) (order_at l.lists k) (order_at l.orders.items k);
+}

@@ -1,0 +1,55 @@
+//! Lists of calls, by their numbers in a part and in the whole.
+
+ghost use Rattle.std.specs.Prelude.{◌≡◌, ◌<◌, ◌≤◌, IfOk, IfSome, length, ℕ, true, false, slice_index_or};
+ghost use Rattle.lin_history.specs.Problems.Lists.{In};
+ghost use Rattle.lin_parts.specs.Parts.{IsFilled, named};
+
+use std::alloc::{AllocError, Global};
+
+// A flag for each number below n, set where it is in the list.
+fn flags_of(alloc: Global, calls: &[usize], n: usize) -> Result<Vec<bool>, AllocError>
+    ensures length { IfOk result (λ flags. length flags.items ≡ n) }
+    ensures set { IfOk result (λ flags. (c : ℕ) → slice_index_or flags.items c false ≡ true
+        → In c calls.now) }
+    ensures each { IfOk result (λ flags. (c : ℕ) → In c calls.now → c < n
+        → slice_index_or flags.items c false ≡ true) }
+{
+    let mut flags = vec![in alloc; false; n]?;
+    for c in calls {
+        if *c < n {
+            flags[*c] = true;
+        }
+    }
+    Ok(flags)
+}
+
+/// Puts behind the calls those below n that they lack, in increasing order.
+pub(crate) fn fill(alloc: Global, calls: &mut Vec<usize>, n: usize) -> Result<(), AllocError>
+    ensures { IfOk result (λ done. IsFilled n calls.old.items calls.new.items) }
+{
+    let flags = flags_of(alloc, calls.as_slice(), n)?;
+    for c in 0..n {
+        if !flags[c] {
+            calls.push(c)?;
+        }
+    }
+    Ok(())
+}
+
+/// The calls by their numbers in the whole, where `kept` has the number of each call of the part; `None` where it lacks one.
+pub(crate) fn with_names(
+    alloc: Global,
+    kept: &[usize],
+    calls: &[usize],
+) -> Result<Option<Vec<usize>>, AllocError>
+    ensures { IfOk result (λ names. IfSome names (λ list. list.items ≡ named kept.now calls.now)) }
+{
+    let mut names = Vec::with_capacity(alloc, calls.len())?;
+    for c in calls {
+        let Some(name) = kept.get(*c) else {
+            return Ok(None);
+        };
+        names.push(*name)?;
+    }
+    Ok(Some(names))
+}

@@ -1,0 +1,20 @@
+//! Maps and sets by key. An operation of a map or a set touches one key, so the calls of each key are a problem of their own,
+//! whose state has at most one pair or item. The least linearization of the whole is a merge of those of the parts.
+//!
+//! - `key_numbers`: which key each call has.
+//! - `calls_of_key`, `key_calls`: the calls of one key, and of each.
+//! - `key_parts`: their problems.
+//! - `part_order`, `part_orders`: what searches of one of them tell, and of all; `part_answer`: what such a search answers.
+//! - `merge`: the orders of the keys, merged.
+//! - `key_search`: the search by key; `key_answer`: what it answers.
+
+mod calls_of_key;
+pub(crate) mod key_answer;
+mod key_calls;
+mod key_numbers;
+mod key_parts;
+pub(crate) mod key_search;
+mod merge;
+mod part_answer;
+mod part_order;
+mod part_orders;

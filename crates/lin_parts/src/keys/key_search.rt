@@ -1,0 +1,76 @@
+//! The search by key.
+
+ghost use Rattle.std.specs.Prelude.{◌≡◌, IfOk, IfSome};
+ghost use Rattle.lin_history.specs.Problems.Lists.{IsLeast};
+ghost use Rattle.lin_history.specs.Problems.Linearizations.{IsLinearization};
+ghost use Rattle.lin_ahead.specs.AnyProblem.{any_problem};
+ghost use Rattle.lin_parts.specs.Keys.KeyAnswer.{IsKeyAnswer};
+ghost use Rattle.lin_parts.specs.Keys.KeyedCalls.{AreKeyNumbers};
+ghost use Rattle.lin_parts.specs.Keys.Products.{AreListsOfKeys};
+ghost use Rattle.lin_parts.specs.Keys.PartOrder.{AreFullOrders};
+
+use crate::keys::calls_of_key::CallsOfKey;
+use crate::keys::key_answer::KeyAnswer;
+use crate::keys::key_calls::calls_of_keys;
+use crate::keys::key_numbers::{KeyNumbers, key_numbers};
+use crate::keys::key_parts::parts_of_keys;
+use crate::keys::merge::{end_of_completed, merged};
+use crate::keys::part_answer::PartOrders;
+use crate::keys::part_orders::orders_of_parts;
+use lin_history::{Order, Problem};
+use lin_object::{AnyObject, map_law, set_law};
+use std::alloc::{AllocError, Global};
+
+// The least linearization of the whole: the orders of the keys, merged, up to the last call that has returned.
+fn whole_order(
+    alloc: Global,
+    problem: &Problem<AnyObject>,
+    known: &KeyNumbers,
+    lists: &[CallsOfKey],
+    orders: &[Order],
+) -> Result<Order, AllocError>
+    requires keys { AreKeyNumbers problem.now known.now.keys.keys known.now.numbers.items }
+    requires calls { AreListsOfKeys known.now.keys.keys known.now.numbers.items lists.now }
+    requires orders { AreFullOrders (any_problem problem.now) lists.now orders.now }
+    ensures { IfOk result (IsLeast (IsLinearization (any_problem problem.now))) }
+{
+    map_law();
+    set_law();
+    let _calls = problem.calls();
+    let mut calls = merged(alloc, known.numbers.as_slice(), orders)?;
+    let end = end_of_completed(problem, calls.as_slice());
+    calls.truncate(end);
+    Ok(Order::new(calls))
+}
+
+/// The least linearization of a problem that starts with an empty map or an empty set, from searches of the calls of each key
+/// as a problem of its own; or that it has none, where one of them has none. `None` where that is not known: of a problem of
+/// another kind, or that does not start empty; where a call is no operation of the kind; and where the search of a key's calls
+/// would have taken more lifts than it may make. None of these searches makes more lifts than the limit allows, where there is
+/// one. `AllocError` where memory was refused.
+///
+/// The time is that of the searches, and O(n log n) for n calls, however many keys there are.
+pub fn search_by_key(
+    alloc: Global,
+    problem: &Problem<AnyObject>,
+    limit: Option<u64>,
+) -> Result<Option<KeyAnswer>, AllocError>
+    ensures { IfOk result (λ answer. IfSome answer (IsKeyAnswer (any_problem problem.now))) }
+{
+    map_law();
+    set_law();
+    let Some(known) = key_numbers(alloc, problem)? else {
+        return Ok(None);
+    };
+    let numbers = known.numbers.as_slice();
+    let lists = calls_of_keys(alloc, numbers, known.keys.len())?;
+    let parts = parts_of_keys(alloc, problem, numbers, lists.as_slice())?;
+    match orders_of_parts(alloc, problem, lists.as_slice(), parts.as_slice(), limit)? {
+        PartOrders::Found(orders) => {
+            let order = whole_order(alloc, problem, &known, lists.as_slice(), orders.as_slice())?;
+            Ok(Some(KeyAnswer::Found(order)))
+        }
+        PartOrders::Refuted => Ok(Some(KeyAnswer::Refuted)),
+        PartOrders::Unknown => Ok(None),
+    }
+}
