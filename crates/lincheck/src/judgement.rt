@@ -15,6 +15,7 @@ use crate::verdict::{Checked, Verdict};
 use lin_ahead::{FirstAnswer, known_ahead, search_first};
 use lin_history::{History, Order, Problem, join, place};
 use lin_object::AnyObject;
+use lin_parts::{KeyAnswer, search_by_key};
 use lin_workers::{CheckFault, Gate, ObjectVerdict, Options, check_object};
 use std::alloc::{AllocError, Global};
 use std::ops::ControlFlow;
@@ -55,8 +56,25 @@ fn first_order(
     }
 }
 
+// The least linearization of the problem, where a search by key or a first search finds it. That a part has none is of no use
+// here: the search that follows finds the longest run too.
+fn order_ahead(
+    alloc: Global,
+    problem: &Problem<AnyObject>,
+    limit: Option<u64>,
+) -> Result<Option<Order>, AllocError>
+    ensures { IfOk result (λ found. IfSome found
+        (IsLeast (IsLinearization (any_problem problem.now)))) }
+{
+    match search_by_key(alloc, problem, limit)? {
+        Some(KeyAnswer::Found(order)) => Ok(Some(order)),
+        Some(KeyAnswer::Refuted) => Ok(None),
+        None => first_order(alloc, problem, limit),
+    }
+}
+
 // The verdict on the object of this index, where the part of the history on it is known; and how many configurations were
-// stored: none by a first search, which goes before unless workers are wanted at once.
+// stored: none by a search by key or a first search, which go before unless workers are wanted at once.
 fn judge_object<R: AllocGlobal + Threads + Sync, G: Gate>(
     rt: &R,
     history: &History,
@@ -74,7 +92,7 @@ fn judge_object<R: AllocGlobal + Threads + Sync, G: Gate>(
         (IsNumberStored (part_of history.now object))) }
 {
     if !gate.wants_workers() {
-        if let Some(order) = first_order(rt.alloc(), problem, options.limit())? {
+        if let Some(order) = order_ahead(rt.alloc(), problem, options.limit())? {
             return Ok((ObjectVerdict::Yes(order), Some(0)));
         }
     }
@@ -152,9 +170,10 @@ fn judge<R: AllocGlobal + Threads + Sync, G: Gate>(
 }
 
 /// Checks a history. Its objects are searched in the order of declaration, each as `check_object` does with these options;
-/// the first that has no linearization, or that is not decided within the limit, ends the check. Before an object of which
-/// something is known ahead, a queue that starts empty or a register, a first search is made (`search_first`), unless the
-/// gate wants workers; where that finds the order, nothing is stored for the object.
+/// the first that has no linearization, or that is not decided within the limit, ends the check. Unless the gate
+/// wants workers, a map or a set is searched by key before that (`search_by_key`), and of an object of which something is known
+/// ahead, a queue that starts empty or a register, a first search is made (`search_first`); where that finds the order,
+/// nothing is stored for the object.
 ///
 /// The number stored is the sum over the objects up to where the check ended; of each object it is below 2^54, and the object
 /// has as many reachable configurations or more. It is told of every history with no more objects than `MAX_OBJECTS`, and no
