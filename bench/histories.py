@@ -103,15 +103,15 @@ class Stack(Buffer):
 
 
 class Map:
-    """A map of 16 keys."""
+    """A map of some keys."""
 
-    kind, KEYS = "map", 16
+    kind = "map"
 
-    def __init__(self):
-        self.values = {}
+    def __init__(self, keys=16):
+        self.keys, self.values = keys, {}
 
     def choose(self, chance, number):
-        key = chance.randrange(self.KEYS)
+        key = chance.randrange(self.keys)
         op = chance.choices(["put", "get", "delete"], [4, 5, 1])[0]
         return (op, (key, number)) if op == "put" else (op, key)
 
@@ -233,6 +233,10 @@ def crashed(writes):
 
 def maps(calls):
     return lines("m", "map", simulated(Map(), 6, calls))
+
+
+def many_keys(processes, keys):
+    return lambda calls: lines("m", "map", simulated(Map(keys), processes, calls))
 
 
 def maps_refuted(calls):
@@ -366,6 +370,9 @@ FAMILIES = {
     "stack": Family("a stack, 6 processes", "calls", CALLS, 0, buffer(Stack)),
     "stack_no": Family("the same, two results swapped", "calls", CALLS, 1, buffer_swapped(Stack)),
     "map": Family("a map of 16 keys, 6 processes", "calls", CALLS, 0, maps),
+    "map_8_100": Family("a map of 100 keys, 8 processes", "calls", CALLS, 0, many_keys(8, 100)),
+    "map_16_100": Family("a map of 100 keys, 16 processes", "calls", CALLS, 0, many_keys(16, 100)),
+    "map_16_1000": Family("a map of 1,000 keys, 16 processes", "calls", CALLS, 0, many_keys(16, 1000)),
     "map_no": Family("the same, and an impossible get", "calls", CALLS, 1, maps_refuted),
     "crashed": Family("pending writes before 1,000 calls, and an impossible read", "pending", [1, 2, 4, 6], 1, crashed),
     "concurrent": Family("concurrent writes, and an impossible read", "writes", [8, 10, 12, 14, 16, 18], 1, concurrent),
