@@ -138,32 +138,3 @@ fn two_threads_claim(rt: &impl Threads, alloc: Global) -> Result<bool, AllocErro
 fn two_threads_claim_a_thousand_tasks(rt: HostRuntime) {
     assert!(rt; matches!(two_threads_claim(&rt, rt.alloc()), Ok(true)));
 }
-
-// Whether each of these seats in turn is told to take the number of its place, or that no task is left.
-fn claim_in_turn(board: &Board, seats: &mut [Seat], are_left: bool) -> bool
-    requires { All (IsSeatOf board.now) seats.old }
-    ensures { All (IsSeatOf board.now) seats.new }
-{
-    let mut right = true;
-    let mut place = 0u64;
-    for seat in seats {
-        let wanted = if are_left { Some(place) } else { None };
-        let told = board.claim(seat);
-        right = right && told == wanted;
-        place = place.wrapping_add(1);
-    }
-    right
-}
-
-// Whether as many seats as may be share as many tasks, one each in turn, and are then told that none is left.
-fn all_seats_claim_one(alloc: Global) -> Result<bool, AllocError> {
-    let (board, mut seats) = Board::new(alloc, 64, 64)?;
-    let first = claim_in_turn(&board, seats.as_mut_slice(), true);
-    let second = claim_in_turn(&board, seats.as_mut_slice(), false);
-    Ok(first && second && tallies(board, seats, 64, None))
-}
-
-#[test]
-fn as_many_seats_as_may_be_claim_a_task_each(rt: HostRuntime) {
-    assert!(rt; matches!(all_seats_claim_one(rt.alloc()), Ok(true)));
-}

@@ -4,8 +4,8 @@ use super::watched::{Watch, Watched, read_of_no_written_value};
 use lin_history::{History, Problem};
 use lin_text::read_history;
 use lin_workers::{Gate, ObjectVerdict, check_object};
-use lincheck::{Options, check, report};
-use std::alloc::{AllocError, Global};
+use lincheck::{Options, Verdict, check};
+use std::alloc::Global;
 use std::sync::atomic::AtomicU64;
 use std::sync::atomic::Ordering::SeqCst;
 use std::thread;
@@ -118,47 +118,38 @@ const REFUTED: &str = r#"{"event":"object","object":"x","kind":"register"}
 {"event":"return","process":4,"object":"x","result":9}
 "#;
 
-const REPORT: &str = "not linearizable: x
-longest run: 3 of 4 calls
-1 1 x write(1) = ok
-2 2 x write(2) = ok
-3 3 x write(3) = ok
-";
-
-// Whether the check of this history with two workers has this report.
-fn is_reported<R: AllocGlobal + Threads + Sync>(
-    rt: &R,
-    alloc: Global,
-    history: &History,
-    gate: &Waiting,
-) -> Result<bool, AllocError> {
-    let Ok(options) = Options::new(2, 16, None, false) else {
-        return Ok(false);
-    };
-    match check(rt, history, &options, gate) {
-        Ok(checked) => {
-            Ok(report(alloc, history, &checked.verdict)?.as_slice() == REPORT.as_bytes())
-        }
-        Err(_) => Ok(false),
+// Whether it is the verdict, with a longest run of three calls.
+fn is_refuted(verdict: &Verdict) -> bool {
+    match verdict {
+        Verdict::No { object, run } => *object == 0 && run.len() == 3,
+        Verdict::Yes(_) | Verdict::Undecided { .. } => false,
     }
 }
 
-// Whether two workers meet at the gate, and the report is as it should be.
-fn meet_at_the_gate<R: AllocGlobal + Threads + Sync>(
-    rt: &R,
-    alloc: Global,
-) -> Result<bool, AllocError> {
+// Whether the check of this history with two workers finds that it is not linearizable.
+fn is_checked<R: AllocGlobal + Threads + Sync>(rt: &R, history: &History, gate: &Waiting) -> bool {
+    let Ok(options) = Options::new(2, 16, None, false) else {
+        return false;
+    };
+    match check(rt, history, &options, gate) {
+        Ok(checked) => is_refuted(&checked.verdict),
+        Err(_) => false,
+    }
+}
+
+// Whether two workers meet at the gate, and the verdict is as it should be.
+fn meet_at_the_gate<R: AllocGlobal + Threads + Sync>(rt: &R, alloc: Global) -> bool {
     let Ok(history) = read_history(alloc, REFUTED.as_bytes()) else {
-        return Ok(false);
+        return false;
     };
     let gate = Waiting {
         came: AtomicU64::new(0),
         met: AtomicU64::new(0),
     };
-    Ok(is_reported(rt, alloc, &history, &gate)? && gate.met.load(SeqCst) == 2)
+    is_checked(rt, &history, &gate) && gate.met.load(SeqCst) == 2
 }
 
 #[test]
 fn two_workers_meet_at_the_gate(rt: HostRuntime) {
-    assert!(rt; matches!(meet_at_the_gate(&rt, rt.alloc()), Ok(true)));
+    assert!(rt; meet_at_the_gate(&rt, rt.alloc()));
 }

@@ -11,8 +11,8 @@
 
 mod checking;
 mod histories;
-mod printing;
 mod runs;
 mod searching;
 mod starved;
+mod stepping;
 mod stores;

@@ -8,7 +8,7 @@ use super::super::boards::tallies;
 use super::super::watched::{Watched, read_of_no_written_value};
 use super::histories::QUEUE;
 use super::searching::{MUCH, Refused, Refusing};
-use super::starved::{Attempt, Starved, TIMES, is_refused};
+use super::starved::{Starved, TIMES};
 use lin_board::{Board, Seat};
 use lin_history::{History, Placed};
 use lin_search::{Longest, Outcome};
@@ -32,8 +32,8 @@ const REFUTED: &str = r#"{"event":"object","object":"x","kind":"register"}
 {"event":"return","process":4,"object":"x","result":9}
 "#;
 
-/// Two registers, each read while the other is written.
-pub const CROSSED: &str = r#"{"event":"object","object":"x","kind":"register"}
+// Two registers, each read while the other is written.
+const CROSSED: &str = r#"{"event":"object","object":"x","kind":"register"}
 {"event":"object","object":"y","kind":"register"}
 {"event":"call","process":1,"object":"x","op":"write","args":[1]}
 {"event":"call","process":2,"object":"y","op":"write","args":[7]}
@@ -53,14 +53,13 @@ impl Gate for Eager {
     fn enter(&self, _task: u64) {}
 }
 
-// A text, whether it is linearizable, the calls of the order or of the longest run, and how often its check is refused at the
-// least.
-type Row = (&'static str, bool, &'static [usize], u64);
+// A text, whether it is linearizable, and the calls of the order or of the longest run.
+type Row = (&'static str, bool, &'static [usize]);
 
 const ROWS: [Row; 3] = [
-    (QUEUE, true, &[1, 0, 2, 3], 200),
-    (CROSSED, true, &[1, 2, 0, 3], 200),
-    (REFUTED, false, &[0, 1, 2], 200),
+    (QUEUE, true, &[1, 0, 2, 3]),
+    (CROSSED, true, &[1, 2, 0, 3]),
+    (REFUTED, false, &[0, 1, 2]),
 ];
 
 // Whether these are the calls.
@@ -77,45 +76,49 @@ fn is_verdict(verdict: &Verdict, row: Row) -> bool {
     }
 }
 
-// A check of a row with two workers.
-#[derive(Drop)]
-struct Checking<'a, R> {
-    rt: &'a R,
-    history: History,
-    options: Options,
+// How many times the check was refused memory, with more and more room, until it told the verdict.
+fn refusals<R: AllocGlobal + Threads + Sync>(
+    rt: &R,
+    starved: &mut Starved,
+    history: &History,
+    options: &Options,
     row: Row,
-}
-
-impl<'a, R: AllocGlobal + Threads + Sync> Attempt for Checking<'a, R> {
-    fn attempt(&mut self) -> Result<bool, AllocError> {
-        match check(self.rt, &self.history, &self.options, &Eager) {
-            Ok(checked) => Ok(is_verdict(&checked.verdict, self.row)),
-            Err(CheckFault::Memory) => Err(AllocError),
+) -> Option<u64> {
+    let mut refused = 0u64;
+    for step in 0..TIMES {
+        if !starved.leave(step * 16) {
+            return None;
+        }
+        match check(rt, history, options, &Eager) {
+            Ok(checked) if is_verdict(&checked.verdict, row) => return Some(refused),
+            Ok(_) => return None,
+            Err(CheckFault::Memory) => refused = refused.saturating_add(1),
         }
     }
+    None
 }
 
-// Whether the check of a row is refused so often, and then tells its verdict.
-fn is_checked<R: AllocGlobal + Threads + Sync>(rt: &R, alloc: Global, row: Row) -> bool {
+// The same with two workers, from a process that has all it wants.
+fn refusals_in_turn<R: AllocGlobal + Threads + Sync>(
+    rt: &R,
+    alloc: Global,
+    row: Row,
+) -> Result<Option<u64>, AllocError> {
     let Ok(history) = read_history(alloc, row.0.as_bytes()) else {
-        return false;
+        return Ok(None);
     };
     let Ok(options) = Options::new(2, 16, None, false) else {
-        return false;
+        return Ok(None);
     };
-    let mut checking = Checking {
-        rt,
-        history,
-        options,
-        row,
-    };
-    is_refused(alloc, &mut checking, row.3)
+    let mut starved = Starved::new(alloc, TIMES)?;
+    Ok(refusals(rt, &mut starved, &history, &options, row))
 }
 
 #[test]
 fn a_check_is_refused_or_tells_its_verdict(rt: HostRuntime) {
     for row in ROWS {
-        assert!(rt; is_checked(&rt, rt.alloc(), row));
+        let refused = refusals_in_turn(&rt, rt.alloc(), row);
+        assert!(rt; matches!(refused, Ok(Some(200..))), "{refused:?}");
     }
 }
 
@@ -307,45 +310,64 @@ fn a_task_that_was_refused_memory_has_no_value_and_the_worker_goes_on(rt: HostRu
     assert!(rt; matches!(refused, Some(12..)), "{refused:?}");
 }
 
-// Words that ask for something.
-#[derive(Drop)]
-struct Asking {
-    alloc: Global,
-    words: Vec<String>,
-    wanted: Request,
-}
-
-impl Attempt for Asking {
-    fn attempt(&mut self) -> Result<bool, AllocError> {
-        match (options_of(self.alloc, self.words.as_slice())?, &self.wanted) {
-            (Request::Run(told), Request::Run(wanted)) => Ok(told == *wanted),
-            (Request::Help(told), Request::Help(wanted)) => Ok(told.as_str() == wanted.as_str()),
-            (Request::Refused(told), Request::Refused(wanted)) => {
-                Ok(told.as_str() == wanted.as_str())
-            }
-            _ => Ok(false),
-        }
+// Whether both ask for the same, with the same text.
+fn are_same(one: &Request, other: &Request) -> bool {
+    match (one, other) {
+        (Request::Run(a), Request::Run(b)) => a == b,
+        (Request::Help(a), Request::Help(b)) => a.as_str() == b.as_str(),
+        (Request::Refused(a), Request::Refused(b)) => a.as_str() == b.as_str(),
+        _ => false,
     }
 }
 
-// Whether what the words ask for is refused so often, and then told as with ample memory.
-fn is_asked(alloc: Global, words: &[&str], times: u64) -> Result<bool, AllocError> {
+// The words.
+fn texts(alloc: Global, words: &[&str]) -> Result<Vec<String>, AllocError> {
     let mut texts = Vec::with_capacity(alloc, words.len())?;
     for word in words {
         texts.push(String::from_str(alloc, word)?)?;
     }
-    let mut asking = Asking {
-        alloc,
-        wanted: options_of(alloc, texts.as_slice())?,
-        words: texts,
-    };
-    Ok(is_refused(alloc, &mut asking, times))
+    Ok(texts)
+}
+
+// How many times the words were refused memory, with more and more room, until they were read; and how many times they were
+// answered with another text.
+fn refusals_of_words(
+    alloc: Global,
+    starved: &mut Starved,
+    words: &[String],
+    wanted: &Request,
+) -> Option<(u64, u64)> {
+    let mut refused = 0u64;
+    let mut others = 0u64;
+    for step in 0..TIMES {
+        if !starved.leave(step * 16) {
+            return None;
+        }
+        match options_of(alloc, words) {
+            Ok(request) if are_same(&request, wanted) => return Some((refused, others)),
+            Ok(_) => others = others.saturating_add(1),
+            Err(AllocError) => refused = refused.saturating_add(1),
+        }
+    }
+    None
+}
+
+// The same, from a process that has all it wants.
+fn words_in_turn(alloc: Global, words: &[&str]) -> Result<Option<(u64, u64)>, AllocError> {
+    let words = texts(alloc, words)?;
+    let wanted = options_of(alloc, words.as_slice())?;
+    let mut starved = Starved::new(alloc, TIMES)?;
+    Ok(refusals_of_words(alloc, &mut starved, words.as_slice(), &wanted))
 }
 
 #[test]
-fn words_are_refused_memory_or_told_in_the_same_words(rt: HostRuntime) {
-    let none = is_asked(rt.alloc(), &[], 200);
-    assert!(rt; none == Ok(true), "{none:?}");
-    let wrong = is_asked(rt.alloc(), &["--workers", "65"], 200);
-    assert!(rt; wrong == Ok(true), "{wrong:?}");
+fn no_words_are_refused_or_run(rt: HostRuntime) {
+    let refused = words_in_turn(rt.alloc(), &[]);
+    assert!(rt; matches!(refused, Ok(Some((200.., 0)))), "{refused:?}");
+}
+
+#[test]
+fn wrong_words_are_refused_in_the_same_words(rt: HostRuntime) {
+    let refused = words_in_turn(rt.alloc(), &["--workers", "65"]);
+    assert!(rt; matches!(refused, Ok(Some((200.., 0)))), "{refused:?}");
 }

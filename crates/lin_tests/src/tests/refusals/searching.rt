@@ -102,30 +102,6 @@ fn a_search_ends_at_each_step_and_copy_that_is_refused(rt: HostRuntime) {
     assert!(rt; matches!(over_a_memo, Some(15..)), "{over_a_memo:?}");
 }
 
-// Whether the root, its copy and its first child are each refused where their copy or step is.
-fn are_refused(alloc: Global, problem: &Refused) -> Result<bool, AllocError> {
-    if problem.len() == 0 {
-        return Ok(false);
-    }
-    problem.object().watch.set(0);
-    let no_root = Config::root(alloc, problem).is_err();
-    let root = Config::root(alloc, problem)?;
-    problem.object().watch.set(0);
-    let no_copy = root.copy(alloc, problem).is_err();
-    let copy = root.copy(alloc, problem)?;
-    problem.object().watch.set(0);
-    let no_child = root.child(alloc, problem, 0).is_err();
-    let child = root.child(alloc, problem, 0)?;
-    let is_child = matches!(child, Some(child) if *child.state() == ObjState::Register(1));
-    Ok(no_root && no_copy && no_child && copy == root && is_child)
-}
-
-#[test]
-fn a_configuration_is_refused_or_made(rt: HostRuntime) {
-    let problem = read_of_no_written_value(rt.alloc(), Refusing::after(MUCH));
-    assert!(rt; matches!(are_refused(rt.alloc(), &problem), Ok(true)));
-}
-
 // The entries of a problem, or a cut of it.
 #[derive(Drop)]
 struct Making {
