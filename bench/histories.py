@@ -102,16 +102,26 @@ class Stack(Buffer):
     kind, put, take, end = "stack", "push", "pop", -1
 
 
+def even(chance, keys):
+    """One of so many keys, each as often as another."""
+    return chance.randrange(keys)
+
+
+def skewed(chance, keys):
+    """One of so many keys: the k-th about as often as the first divided by k."""
+    return int(keys ** chance.random()) % keys
+
+
 class Map:
     """A map of some keys."""
 
     kind = "map"
 
-    def __init__(self, keys=16):
-        self.keys, self.values = keys, {}
+    def __init__(self, keys=16, draw=even):
+        self.keys, self.draw, self.values = keys, draw, {}
 
     def choose(self, chance, number):
-        key = chance.randrange(self.keys)
+        key = self.draw(chance, self.keys)
         op = chance.choices(["put", "get", "delete"], [4, 5, 1])[0]
         return (op, (key, number)) if op == "put" else (op, key)
 
@@ -122,6 +132,26 @@ class Map:
         if op == "get":
             return self.values.get(value, "null")
         return "true" if self.values.pop(value, None) is not None else "false"
+
+
+class Set:
+    """A set of some items."""
+
+    kind = "set"
+
+    def __init__(self, keys, draw=even):
+        self.keys, self.draw, self.items = keys, draw, set()
+
+    def choose(self, chance, number):
+        return chance.choices(["add", "contains", "remove"], [4, 4, 2])[0], self.draw(chance, self.keys)
+
+    def reply(self, op, value):
+        was = value in self.items
+        if op == "add":
+            self.items.add(value)
+        if op == "remove":
+            self.items.discard(value)
+        return "true" if was != (op == "add") else "false"
 
 
 class Exchanged(Register):
@@ -235,8 +265,16 @@ def maps(calls):
     return lines("m", "map", simulated(Map(), 6, calls))
 
 
-def many_keys(processes, keys):
-    return lambda calls: lines("m", "map", simulated(Map(keys), processes, calls))
+def many_keys(model, processes, keys, draw=even):
+    return lambda calls: lines("m", model.kind, simulated(model(keys, draw), processes, calls))
+
+
+def own_keys(calls):
+    """A put of a key of its own each, in turn."""
+    yield declared("m", "map")
+    for key in range(calls):
+        yield call(1, "m", "put", (key, key))
+        yield returned(1, "m", OKAY)
 
 
 def maps_refuted(calls):
@@ -370,9 +408,21 @@ FAMILIES = {
     "stack": Family("a stack, 6 processes", "calls", CALLS, 0, buffer(Stack)),
     "stack_no": Family("the same, two results swapped", "calls", CALLS, 1, buffer_swapped(Stack)),
     "map": Family("a map of 16 keys, 6 processes", "calls", CALLS, 0, maps),
-    "map_8_100": Family("a map of 100 keys, 8 processes", "calls", CALLS, 0, many_keys(8, 100)),
-    "map_16_100": Family("a map of 100 keys, 16 processes", "calls", CALLS, 0, many_keys(16, 100)),
-    "map_16_1000": Family("a map of 1,000 keys, 16 processes", "calls", CALLS, 0, many_keys(16, 1000)),
+    **{
+        f"{model.kind}_{processes}_{keys}{'_skewed' if draw is skewed else ''}": Family(
+            f"a {model.kind} of {keys:,} keys{', some more used than others' if draw is skewed else ''}, {processes} processes",
+            "calls",
+            MORE_CALLS[-1:],
+            0,
+            many_keys(model, processes, keys, draw),
+        )
+        for model in (Map, Set)
+        for draw in (even, skewed)
+        for processes in (4, 8, 16, 32)
+        for keys in (10, 100, 1000)
+    },
+    "map_64_10": Family("a map of 10 keys, 64 processes", "calls", MORE_CALLS[-1:], 0, many_keys(Map, 64, 10)),
+    "own_keys": Family("a map, a put of a key of its own each, in turn", "calls", MORE_CALLS[-1:], 0, own_keys),
     "map_no": Family("the same, and an impossible get", "calls", CALLS, 1, maps_refuted),
     "crashed": Family("pending writes before 1,000 calls, and an impossible read", "pending", [1, 2, 4, 6], 1, crashed),
     "concurrent": Family("concurrent writes, and an impossible read", "writes", [8, 10, 12, 14, 16, 18], 1, concurrent),
