@@ -1,5 +1,5 @@
 -- Options, and why there are none (this project's own).
-use Rattle.std.specs.Prelude.{ℕ, ◌≤◌, ◌||◌, Bool, false, Option, IfSome, Some, None, nat_lt, Result, Ok, Err, List, [], ◌∷◌}
+use Rattle.std.specs.Prelude.{ℕ, ◌≤◌, ◌||◌, if◌then◌else◌, Bool, false, Option, IfSome, Some, None, nat_lt, Result, Ok, Err, List, [], ◌∷◌}
 use Rattle.lin_history.specs.Refusals.{first_that_holds}
 use Rattle.lin_workers.specs.declared.options.OptionFault.{OptionFault}
 use Rattle.lin_workers.specs.declared.options.OptionFault.TheVariants.{Workers, Shards, Limit}
@@ -44,3 +44,12 @@ unless (Some fault) value = Err fault
 -- These options, or their first refusal.
 abbrev pub options_made : Options → Result Options OptionFault
 options_made o = unless (first_that_holds (option_refusals o)) o
+
+-- Options with at most so many workers, but one at least.
+abbrev pub with_at_most : ℕ → Options → Options
+with_at_most most o = record {
+  workers = if nat_lt o.workers most then o.workers else if nat_lt most 1 then 1 else most;
+  shards = o.shards;
+  limit = o.limit;
+  stats = o.stats;
+}

@@ -7,11 +7,12 @@ ghost use Rattle.lin_workers.specs.Cut.{DecideBy, IsCut};
 ghost use Rattle.lin_workers.specs.Outcomes.{AreOutcomes};
 ghost use Rattle.lin_workers.specs.Verdict.{IsNextTask, IsObjectVerdict};
 
+use crate::starving::search_unless_starved;
 use crate::task::Task;
 use crate::verdict::ObjectVerdict;
 use lin_history::{Order, Problem};
 use lin_object::{SeqObject, lawful};
-use lin_search::{Memo, NoStop, Outcome, longest_run, search};
+use lin_search::{Memo, NoStop, Outcome, longest_run};
 use std::alloc::{AllocError, Global};
 
 // The outcome of the task: the one that was brought, or else that of a search over the memo.
@@ -35,7 +36,7 @@ fn outcome_of<O: SeqObject, M: Memo<O>>(
 {
     match brought {
         Some(outcome) => Ok(outcome),
-        None => search(alloc, problem, &task.config, memo, limit, &mut NoStop),
+        None => search_unless_starved(alloc, problem, &task.config, memo, limit, &mut NoStop),
     }
 }
 

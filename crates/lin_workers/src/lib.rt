@@ -1,7 +1,7 @@
 //! Workers that share the search of one object.
 //!
 //! - `check`: the check of one object, by the calling thread alone or with workers; `stalling`: when its own search ends;
-//!   `verdict`: what it finds.
+//!   `starving`: a search ends that is refused memory all the time; `verdict`: what it finds.
 //! - `cutting`: the search is cut into tasks; `level`: the levels of configurations that a cut is made of.
 //! - `worker`: a worker claims tasks and searches them; `scouting`: how each worker scouts; `scouts`: what a scout does;
 //!   `stop`: its search stops where a smaller task was found.
@@ -22,6 +22,7 @@ mod scouting;
 mod scouts;
 mod sharing;
 mod stalling;
+mod starving;
 mod stop;
 mod task;
 mod verdict;

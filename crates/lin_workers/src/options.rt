@@ -1,6 +1,6 @@
 //! How a check is run.
 ghost use Rattle.std.specs.Prelude.{◌≡◌, IfSome};
-ghost use Rattle.lin_workers.specs.Options.{IsUpTo, is_outside, is_limit_outside, options_made};
+ghost use Rattle.lin_workers.specs.Options.{IsUpTo, is_outside, is_limit_outside, options_made, with_at_most};
 
 use std::marker::Model;
 
@@ -102,6 +102,14 @@ impl Options {
             limit,
             stats,
         })
+    }
+
+    /// The same options with at most so many workers, but one at least. It takes no memory.
+    pub fn with_at_most(self, most: u64) -> Options
+        ensures { result ≡ with_at_most most self }
+    {
+        let workers = if self.workers < most { self.workers } else { most.max(1) };
+        Options { workers, ..self }
     }
 
     /// How many workers search: 1 to `MAX_WORKERS`.

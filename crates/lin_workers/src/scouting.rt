@@ -12,14 +12,15 @@ ghost use Rattle.lin_workers.specs.Cut.{IsCut};
 ghost use Rattle.lin_workers.specs.Heard.{HasHeard};
 ghost use Rattle.lin_workers.specs.Values.{AreValues};
 
-use crate::scouts::{Scouting, scout};
+use crate::scouts::Scouting;
+use crate::starving::{scout_unless_starved, search_unless_starved};
 use crate::stop::FoundBefore;
 use crate::task::Task;
 use crate::whereabouts::{Role, UntilLeading};
 use lin_board::{Board, Seat};
 use lin_history::Problem;
 use lin_object::SeqObject;
-use lin_search::{Config, Memo, Outcome, Stop, search};
+use lin_search::{Config, Memo, Outcome, Stop};
 use lin_table::{Hand, SharedMemo, Table};
 use std::alloc::{AllocError, Global};
 
@@ -74,7 +75,8 @@ pub(crate) fn scouting_of(worker: usize, workers: usize, limit: Option<u64>) -> 
     }
 }
 
-// Searches the configuration, unless the stop answers before.
+// Searches the configuration, unless the stop answers before. `AllocError` where memory was refused, to the search or to very
+// many notes in a row.
 pub(crate) fn search_unless_told<O: SeqObject, M: Memo<O>, S: Stop>(
     alloc: Global,
     problem: &Problem<O>,
@@ -92,7 +94,7 @@ pub(crate) fn search_unless_told<O: SeqObject, M: Memo<O>, S: Stop>(
 {
     match stop.ask() {
         Some(told) => Ok(Outcome::Stopped(told)),
-        None => search(alloc, problem, config, memo, limit, stop),
+        None => search_unless_starved(alloc, problem, config, memo, limit, stop),
     }
 }
 
@@ -112,7 +114,7 @@ fn scout_unless_told<O: SeqObject, M: Memo<O>, S: Stop>(
     ensures stop { S.follows stop.old stop.new }
 {
     if stop.ask().is_none() {
-        let _ended = scout(alloc, problem, config, scouting, memo, stop);
+        scout_unless_starved(alloc, problem, config, scouting, memo, stop);
     }
 }
 
@@ -177,13 +179,13 @@ fn help_with<O: SeqObject>(
     scout_unless_told(alloc, problem, &task.config, scouting, &mut memo, &mut stop);
 }
 
-// Scouts from each task when all are claimed: so a worker without a task helps the others at theirs. From a task
-// that is refuted by then it goes on to the next at once. What its seat has brought stays as it is.
+// Scouts from each task when all are claimed, up to the first that was not decided: so a worker without a task helps the
+// others at theirs. From a task that is refuted by then it goes on to the next at once. What its seat has brought stays as it is.
 pub(crate) fn help<O: SeqObject>(
     alloc: Global,
     problem: &Problem<O>,
     tasks: &[Task<O>],
-    scouting: Scouting,
+    role: Role<'_>,
     table: &Table<'_, O>,
     hand: &mut Hand<O>,
     board: &Board,
@@ -201,12 +203,15 @@ pub(crate) fn help<O: SeqObject>(
         values }
 {
     for number in 0..tasks.len() {
+        if role.whereabouts.is_left(number as u64) {
+            return;
+        }
         help_with(
             alloc,
             problem,
             &tasks[number],
             number,
-            scouting,
+            role.scouting,
             table,
             hand,
             board,

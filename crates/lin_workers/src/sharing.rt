@@ -95,7 +95,11 @@ fn work_all<O: SharedObject, R: Threads + Sync, G: Gate>(
                 (problem_of O.after O.State.eq O.Reply.eq problem.entry.now) tasks.entry.now limit
                 worker.exit.now.seat worker.exit.now.values.items }
         {
-            let scouting = scouting_of(number, count, limit);
+            let role = Role {
+                scouting: scouting_of(number, count, limit),
+                whereabouts,
+                worker: number,
+            };
             claim_all(
                 alloc,
                 problem,
@@ -106,18 +110,14 @@ fn work_all<O: SharedObject, R: Threads + Sync, G: Gate>(
                 &mut worker.seat,
                 &mut worker.values,
                 gate,
-                Some(Role {
-                    scouting,
-                    whereabouts,
-                    worker: number,
-                }),
+                Some(role),
                 limit,
             );
             help(
                 alloc,
                 problem,
                 tasks,
-                scouting,
+                role,
                 table,
                 &mut worker.hand,
                 board,

@@ -7,10 +7,11 @@ ghost use Rattle.lin_workers.specs.Cut.{IsCut};
 ghost use Rattle.lin_workers.specs.Outcomes.{AreOutcomes};
 
 use crate::gathering::{no_outcomes, place_value, was_stopped};
+use crate::starving::search_unless_starved;
 use crate::task::Task;
 use lin_history::Problem;
 use lin_object::SeqObject;
-use lin_search::{CallSet, Config, Longest, Memo, Noted, Outcome, Stop, search};
+use lin_search::{CallSet, Config, Longest, Memo, Noted, Outcome, Stop};
 use std::alloc::{AllocError, Global};
 use std::sync::atomic::AtomicBool;
 use std::sync::atomic::Ordering::SeqCst;
@@ -187,7 +188,7 @@ fn search_until_told<O: SeqObject, M: Memo<O>>(
 {
     let mut watching = WatchingMemo::new(memo, has_stalled);
     let mut stop = UntilStalled { has_stalled };
-    search(
+    search_unless_starved(
         alloc,
         problem,
         &task.config,

@@ -16,10 +16,11 @@ const NOWHERE: u64 = u64::MAX;
 // How many lifts a scout makes from one look at where the others are to the next.
 const LIFTS_BETWEEN: u32 = 256;
 
-/// For each worker the number of the task that it is at.
+/// For each worker the number of the task that it is at, and the least task whose search did not decide it.
 #[derive(Drop)]
 pub(crate) struct Whereabouts {
     tasks: Vec<AtomicU64>,
+    undecided: AtomicU64,
 }
 
 impl Whereabouts {
@@ -29,7 +30,10 @@ impl Whereabouts {
         for _ in 0..workers {
             tasks.push(AtomicU64::new(NOWHERE))?;
         }
-        Ok(Whereabouts { tasks })
+        Ok(Whereabouts {
+            tasks,
+            undecided: AtomicU64::new(NOWHERE),
+        })
     }
 
     // Whether no worker is at a smaller task than this one.
@@ -40,6 +44,17 @@ impl Whereabouts {
             }
         }
         true
+    }
+
+    // Whether this task was not decided, or stands behind one that was not. Nothing more is to be found there: the tasks are
+    // taken in their order, and that one ends the check, or the calling thread goes on from it.
+    pub(crate) fn is_left(&self, task: u64) -> bool {
+        self.undecided.load(SeqCst) <= task
+    }
+
+    // The search of this task did not decide it.
+    fn tell_undecided(&self, task: u64) {
+        self.undecided.fetch_min(task, SeqCst);
     }
 
     // The worker of this number is at this task from now on.
@@ -68,6 +83,21 @@ pub(crate) fn tell_begun(role: Option<Role<'_>>, task: u64) {
 // Tells the others, where there are some, that the worker has no task any more.
 pub(crate) fn tell_ended(role: Option<Role<'_>>) {
     tell_begun(role, NOWHERE);
+}
+
+// Whether the worker may leave this task: it, or one before it, was not decided.
+pub(crate) fn is_left(role: Option<Role<'_>>, task: u64) -> bool {
+    match role {
+        Some(role) => role.whereabouts.is_left(task),
+        None => false,
+    }
+}
+
+// Tells the others, where there are some, that the search of this task did not decide it.
+pub(crate) fn tell_undecided(role: Option<Role<'_>>, task: u64) {
+    if let Some(role) = role {
+        role.whereabouts.tell_undecided(task);
+    }
 }
 
 /// The stop of a scout from a task: it answers where the board has told of a smaller task that was found, or where no other
@@ -104,7 +134,7 @@ impl<'a> UntilLeading<'a> {
         }
     }
 
-    // Whether this worker leads, at the lifts at which it looks where the others are.
+    // Whether this worker leads or may leave its task, at the lifts at which it looks where the others are.
     fn is_seen_leading(&mut self) -> bool
         ensures board { self.new.board.now ≡ self.old.board.now }
         ensures seat { self.new.seat.now ≡ self.old.seat.now }
@@ -112,7 +142,7 @@ impl<'a> UntilLeading<'a> {
     {
         let looks = self.lifts % LIFTS_BETWEEN == 0;
         self.lifts = self.lifts.wrapping_add(1);
-        looks && self.whereabouts.is_lowest(self.task)
+        looks && (self.whereabouts.is_lowest(self.task) || self.whereabouts.is_left(self.task))
     }
 }
 

@@ -15,7 +15,7 @@ use crate::gate::Gate;
 use crate::scouting::{scout_until_leading, search_unless_told};
 use crate::stop::FoundBefore;
 use crate::task::Task;
-use crate::whereabouts::{Role, tell_begun, tell_ended};
+use crate::whereabouts::{Role, is_left, tell_begun, tell_ended, tell_undecided};
 use lin_board::{Board, Seat};
 use lin_history::Problem;
 use lin_object::SeqObject;
@@ -62,8 +62,16 @@ fn search_over_table<O: SeqObject>(
     search_unless_told(alloc, problem, &task.config, &mut memo, limit, &mut stop).ok()
 }
 
+// Whether the search decided its task, or was stopped since a smaller one was found.
+fn is_decided(searched: &Option<Outcome>) -> bool {
+    match searched {
+        Some(Outcome::Found(_) | Outcome::Refuted(_) | Outcome::Stopped(_)) => true,
+        Some(Outcome::Undecided) | None => false,
+    }
+}
+
 // Searches the configuration of the task of this number over the table, after scouting until it leads where it has a role.
-// `None` where memory was refused.
+// `None` where memory was refused, or where the task stands behind one that another worker did not decide.
 fn search_task<O: SeqObject>(
     alloc: Global,
     problem: &Problem<O>,
@@ -87,10 +95,17 @@ fn search_task<O: SeqObject>(
     ensures grown { HasGrown hand.old hand.new }
     ensures seat { HasHeard seat.old seat.new }
 {
+    if is_left(role, number) {
+        return None;
+    }
     scout_until_leading(alloc, problem, task, number, role, table, hand, board, seat);
-    search_over_table(
+    let searched = search_over_table(
         alloc, problem, task, number, table, hand, board, seat, limit,
-    )
+    );
+    if !is_decided(&searched) {
+        tell_undecided(role, number);
+    }
+    searched
 }
 
 // Keeps the value of the task where there is memory for it, and tells the board where it is a completion.

@@ -19,6 +19,7 @@ use lin_parts::{KeyAnswer, search_by_key};
 use lin_workers::{CheckFault, Gate, ObjectVerdict, Options, check_object};
 use std::alloc::{AllocError, Global};
 use std::ops::ControlFlow;
+use std::thread;
 use std::thread::Threads;
 
 // The most lifts of a first search for each call of the object. Where what the calls need is enough to decide it, a queue
@@ -169,11 +170,25 @@ fn judge<R: AllocGlobal + Threads + Sync, G: Gate>(
     Ok(Checked { verdict, stored })
 }
 
+// The options of a check on this machine: no more workers than it has cores for the program, unless the gate wants workers.
+fn options_here<R: Threads, G: Gate>(rt: &R, options: &Options, gate: &G) -> Options
+    ensures { result.limit ≡ options.now.limit }
+{
+    if gate.wants_workers() {
+        return *options;
+    }
+    match thread::available_parallelism(rt) {
+        Ok(cores) => options.with_at_most(cores.get() as u64),
+        Err(_) => *options,
+    }
+}
+
 /// Checks a history. Its objects are searched in the order of declaration, each as `check_object` does with these options;
 /// the first that has no linearization, or that is not decided within the limit, ends the check. Unless the gate
 /// wants workers, a map or a set is searched by key before that (`search_by_key`), and of an object of which something is known
 /// ahead, a queue that starts empty or a register, a first search is made (`search_first`); where that finds the order,
-/// nothing is stored for the object.
+/// nothing is stored for the object. No more workers are started than the machine has cores for the program, however many the
+/// options say, unless the gate wants workers.
 ///
 /// The number stored is the sum over the objects up to where the check ended; of each object it is below 2^54, and the object
 /// has as many reachable configurations or more. It is told of every history with no more objects than `MAX_OBJECTS`, and no
@@ -192,7 +207,8 @@ pub fn check<R: AllocGlobal + Threads + Sync, G: Gate>(
     ensures stored { IfOk result (λ checked. IsStoredTold history.now
         (judged_of history.now checked.verdict) checked.stored) }
 {
-    match judge(rt, history, options, gate) {
+    let options = options_here(rt, options, gate);
+    match judge(rt, history, &options, gate) {
         Ok(checked) => Ok(checked),
         Err(AllocError) => Err(CheckFault::Memory),
     }

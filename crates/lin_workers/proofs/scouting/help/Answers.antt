@@ -12,3 +12,7 @@ help_with-requires-clause-reachable g c =
 pub returns-clause-values : goal.returns-clause-values
 returns-clause-values g c =
     λ limit values. values_heard (problem_of g.O.SeqObject.after g.O.State.PartialEq.eq g.O.Reply.PartialEq.eq c.args.problem.now) c.args.tasks.now limit c.args.seat.now c.loop-number.seat values c.loop-number.invariant.heard
+
+pub returns-then-is_left-clause-values : goal.returns-then-is_left-clause-values
+returns-then-is_left-clause-values g c =
+    λ limit values. values_heard (problem_of g.O.SeqObject.after g.O.State.PartialEq.eq g.O.Reply.PartialEq.eq c.args.problem.now) c.args.tasks.now limit c.args.seat.now c.loop-number.seat values c.loop-number.invariant.heard
