@@ -13,11 +13,12 @@ use std::alloc::{AllocError, Global};
 use std::sync::atomic::AtomicBool;
 use std::sync::atomic::Ordering::SeqCst;
 
-// So many notes in a row are refused memory before a search ends. Each of them asks the system for memory, which takes some
-// microseconds.
+// So many more notes than were stored since are refused memory before a search ends. (Not so many in a row: a shard may have
+// room where the others have none.) Each of them asks the system for memory, which takes some microseconds.
 const PATIENCE: u32 = 100_000;
 
-/// A memo of a search that counts how many notes in a row were refused memory, and tells its stop where they were very many.
+/// A memo of a search that counts how many notes were refused memory, less those that were stored since, and tells its stop
+/// where they are very many.
 /// That is a hint: nothing is proved of it. Contracts see the memo below.
 #[derive(Drop)]
 struct CountingMemo<'a, M> {
@@ -45,7 +46,7 @@ impl<'a, M> CountingMemo<'a, M> {
         ensures same_reference { self.new.memo.ghost_name ≡ self.old.memo.ghost_name }
     {
         match noted {
-            Noted::New => self.refused = 0,
+            Noted::New => self.refused = self.refused.saturating_sub(1),
             Noted::NoRoom => self.refused = self.refused.saturating_add(1),
             Noted::Known | Noted::Busy | Noted::Stranger => {}
         }
@@ -196,8 +197,8 @@ fn search_until_starved<O: SeqObject, M: Memo<O>, S: Stop>(
     search(alloc, problem, config, &mut memo, ends.limit, &mut stop)
 }
 
-/// Searches the configuration as `search` does. `AllocError` also where 100,000 notes in a row were refused memory: a search
-/// that can keep nothing any more would take far too long.
+/// Searches the configuration as `search` does. `AllocError` also where 100,000 notes were refused memory, one after
+/// another: a search that can keep nothing any more would take far too long.
 pub(crate) fn search_unless_starved<O: SeqObject, M: Memo<O>, S: Stop>(
     alloc: Global,
     problem: &Problem<O>,
@@ -247,8 +248,8 @@ fn scout_until_starved<O: SeqObject, M: Memo<O>, S: Stop>(
     let _ended = scout(alloc, problem, config, ends.scouting, &mut memo, &mut stop);
 }
 
-/// Scouts from the configuration as `scout` does, and ends also where 100,000 notes in a row were refused memory. Want of
-/// memory only ends it.
+/// Scouts from the configuration as `scout` does, and ends also where 100,000 notes were refused memory. Want of memory only
+/// ends it.
 pub(crate) fn scout_unless_starved<O: SeqObject, M: Memo<O>, S: Stop>(
     alloc: Global,
     problem: &Problem<O>,
