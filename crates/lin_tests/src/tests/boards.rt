@@ -1,6 +1,6 @@
 //! Boards: tasks that are shared in turn, and by two threads.
 
-ghost use Rattle.std.specs.Prelude.{All};
+ghost use Rattle.std.specs.Prelude.{All, IfOk, IfSome};
 ghost use Rattle.lin_board.specs.Board.{IsSeatOf};
 
 use lin_board::{Board, Seat, SeatsMissing, Tally};
@@ -137,4 +137,47 @@ fn two_threads_claim(rt: &impl Threads, alloc: Global) -> Result<bool, AllocErro
 #[test]
 fn two_threads_claim_a_thousand_tasks(rt: HostRuntime) {
     assert!(rt; matches!(two_threads_claim(&rt, rt.alloc()), Ok(true)));
+}
+
+// Lets as many seats as may be claim once each in turn: the seats in the order in which they did, where each was given the
+// number of its turn, or nothing where nothing is left. `None` where one was told otherwise.
+fn claim_in_turn(
+    alloc: Global,
+    board: &Board,
+    mut waiting: Vec<Seat>,
+    are_left: bool,
+) -> Result<Option<Vec<Seat>>, AllocError>
+    requires { All (IsSeatOf board.now) waiting.items }
+    ensures { IfOk result (λ answer. IfSome answer (λ seats.
+        All (IsSeatOf board.now) seats.items)) }
+{
+    let mut done = Vec::new(alloc);
+    for turn in 0..64u64 {
+        let Some(mut seat) = waiting.pop() else {
+            return Ok(None);
+        };
+        let wanted = if are_left { Some(turn) } else { None };
+        if board.claim(&mut seat) != wanted {
+            return Ok(None);
+        }
+        done.push(seat)?;
+    }
+    Ok(Some(done))
+}
+
+// Whether as many seats as may be share as many tasks, one each in turn, and are then told that none is left.
+fn all_seats_claim_one(alloc: Global) -> Result<bool, AllocError> {
+    let (board, seats) = Board::new(alloc, 64, 64)?;
+    let Some(seats) = claim_in_turn(alloc, &board, seats, true)? else {
+        return Ok(false);
+    };
+    let Some(seats) = claim_in_turn(alloc, &board, seats, false)? else {
+        return Ok(false);
+    };
+    Ok(tallies(board, seats, 64, None))
+}
+
+#[test]
+fn as_many_seats_as_may_be_claim_a_task_each(rt: HostRuntime) {
+    assert!(rt; matches!(all_seats_claim_one(rt.alloc()), Ok(true)));
 }
