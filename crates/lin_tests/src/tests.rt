@@ -13,6 +13,7 @@ mod meetings;
 mod objects;
 mod random;
 mod refusals;
+mod reports;
 mod searches;
 mod stalls;
 mod tables;

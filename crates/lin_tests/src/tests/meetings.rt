@@ -1,10 +1,11 @@
 //! Workers that meet: two of them really work at once. Each wait has a bound, so a worker that worked alone would end too.
 
+use super::reports::{REFUTED, REFUTED_REPORT, is_reported, judged};
 use super::watched::{Watch, Watched, read_of_no_written_value};
 use lin_history::{History, Problem};
 use lin_text::read_history;
 use lin_workers::{Gate, ObjectVerdict, check_object};
-use lincheck::{Options, Verdict, check};
+use lincheck::Options;
 use std::alloc::Global;
 use std::sync::atomic::AtomicU64;
 use std::sync::atomic::Ordering::SeqCst;
@@ -107,37 +108,20 @@ impl Gate for Waiting {
     }
 }
 
-const REFUTED: &str = r#"{"event":"object","object":"x","kind":"register"}
-{"event":"call","process":1,"object":"x","op":"write","args":[1]}
-{"event":"call","process":2,"object":"x","op":"write","args":[2]}
-{"event":"call","process":3,"object":"x","op":"write","args":[3]}
-{"event":"return","process":1,"object":"x","result":"ok"}
-{"event":"return","process":2,"object":"x","result":"ok"}
-{"event":"return","process":3,"object":"x","result":"ok"}
-{"event":"call","process":4,"object":"x","op":"read"}
-{"event":"return","process":4,"object":"x","result":9}
-"#;
-
-// Whether it is the verdict, with a longest run of three calls.
-fn is_refuted(verdict: &Verdict) -> bool {
-    match verdict {
-        Verdict::No { object, run } => *object == 0 && run.len() == 3,
-        Verdict::Yes(_) | Verdict::Undecided { .. } => false,
+// Whether the check of this history finds that it is not linearizable, with this report.
+fn is_refuted<R: AllocGlobal + Threads + Sync>(
+    rt: &R,
+    alloc: Global,
+    history: &History,
+    gate: &Waiting,
+) -> bool {
+    match judged(rt, history, gate) {
+        Some(verdict) => is_reported(alloc, history, &verdict, REFUTED_REPORT),
+        None => false,
     }
 }
 
-// Whether the check of this history with two workers finds that it is not linearizable.
-fn is_checked<R: AllocGlobal + Threads + Sync>(rt: &R, history: &History, gate: &Waiting) -> bool {
-    let Ok(options) = Options::new(2, 16, None, false) else {
-        return false;
-    };
-    match check(rt, history, &options, gate) {
-        Ok(checked) => is_refuted(&checked.verdict),
-        Err(_) => false,
-    }
-}
-
-// Whether two workers meet at the gate, and the verdict is as it should be.
+// Whether two workers meet at the gate, and the report is as it should be.
 fn meet_at_the_gate<R: AllocGlobal + Threads + Sync>(rt: &R, alloc: Global) -> bool {
     let Ok(history) = read_history(alloc, REFUTED.as_bytes()) else {
         return false;
@@ -146,7 +130,7 @@ fn meet_at_the_gate<R: AllocGlobal + Threads + Sync>(rt: &R, alloc: Global) -> b
         came: AtomicU64::new(0),
         met: AtomicU64::new(0),
     };
-    is_checked(rt, &history, &gate) && gate.met.load(SeqCst) == 2
+    is_refuted(rt, alloc, &history, &gate) && gate.met.load(SeqCst) == 2
 }
 
 #[test]

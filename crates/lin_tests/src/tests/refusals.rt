@@ -11,6 +11,7 @@
 
 mod checking;
 mod histories;
+mod printing;
 mod runs;
 mod searching;
 mod starved;

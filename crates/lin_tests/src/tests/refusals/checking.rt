@@ -5,6 +5,7 @@ ghost use Rattle.lin_board.specs.Board.{IsSeatOf};
 ghost use Rattle.lin_table.specs.Hand.{IsHandOf};
 
 use super::super::boards::tallies;
+use super::super::reports::REFUTED;
 use super::super::watched::{Watched, read_of_no_written_value};
 use super::histories::QUEUE;
 use super::searching::{MUCH, Refused, Refusing};
@@ -20,20 +21,8 @@ use std::alloc::{AllocError, Global};
 use std::thread;
 use std::thread::Threads;
 
-// Three writes at once, and after them a read of what nobody wrote.
-const REFUTED: &str = r#"{"event":"object","object":"x","kind":"register"}
-{"event":"call","process":1,"object":"x","op":"write","args":[1]}
-{"event":"call","process":2,"object":"x","op":"write","args":[2]}
-{"event":"call","process":3,"object":"x","op":"write","args":[3]}
-{"event":"return","process":1,"object":"x","result":"ok"}
-{"event":"return","process":2,"object":"x","result":"ok"}
-{"event":"return","process":3,"object":"x","result":"ok"}
-{"event":"call","process":4,"object":"x","op":"read"}
-{"event":"return","process":4,"object":"x","result":9}
-"#;
-
-// Two registers, each read while the other is written.
-const CROSSED: &str = r#"{"event":"object","object":"x","kind":"register"}
+/// Two registers, each read while the other is written.
+pub const CROSSED: &str = r#"{"event":"object","object":"x","kind":"register"}
 {"event":"object","object":"y","kind":"register"}
 {"event":"call","process":1,"object":"x","op":"write","args":[1]}
 {"event":"call","process":2,"object":"y","op":"write","args":[7]}
@@ -45,9 +34,9 @@ const CROSSED: &str = r#"{"event":"object","object":"x","kind":"register"}
 {"event":"return","process":1,"object":"x","result":"ok"}
 "#;
 
-// A gate at which nothing happens, and that wants workers at once.
+/// A gate at which nothing happens, and that wants workers at once.
 #[derive(Drop)]
-struct Eager;
+pub struct Eager;
 
 impl Gate for Eager {
     fn enter(&self, _task: u64) {}
@@ -62,8 +51,8 @@ const ROWS: [Row; 3] = [
     (REFUTED, false, &[0, 1, 2]),
 ];
 
-// Whether these are the calls.
-fn are_calls(placed: &[Placed], calls: &[usize]) -> bool {
+/// Whether these are the calls.
+pub fn are_calls(placed: &[Placed], calls: &[usize]) -> bool {
     placed.len() == calls.len() && (0..calls.len()).all(|place| placed[place].call == calls[place])
 }
 
