@@ -1,8 +1,14 @@
 //! Events that are recorded or read, and what is made of a history.
 
-use super::starved::{Attempt, is_refused};
+ghost use Rattle.std.specs.Prelude.{◌≡◌, ◌<◌, ℕ, List, Some, length, slice_get, IfOk, IfSome};
+ghost use Rattle.lin_history.specs.Locality.RecordedWhole.{part_of};
+ghost use Rattle.lin_history.specs.Problems.Linearizations.{IsLinearization};
+
+use super::checking::are_calls;
+use super::starved::{Attempt, Starved, TIMES, is_refused};
+use lin_ahead::{FirstAnswer, known_ahead, search_first};
 use lin_history::{
-    BuildFault, Builder, History, Placed, Problem, ProblemFault, WholeOrder, verify,
+    BuildFault, Builder, History, Order, Placed, Problem, ProblemFault, WholeOrder, join, verify,
 };
 use lin_object::{AnyObject, Kind, ObjState, Op, Reply};
 use lin_text::{Cause, read_history};
@@ -205,4 +211,65 @@ fn is_made(alloc: Global, verifies: bool, times: u64) -> Result<bool, AllocError
 fn a_problem_and_a_check_of_an_order_are_refused_or_made(rt: HostRuntime) {
     assert!(rt; matches!(is_made(rt.alloc(), false, 10), Ok(true)));
     assert!(rt; matches!(is_made(rt.alloc(), true, 2), Ok(true)));
+}
+
+// How many times the orders were refused memory to be joined, with more and more room, until they were.
+fn refusals_of_a_join(
+    alloc: Global,
+    starved: &mut Starved,
+    history: &History,
+    orders: &[Order],
+) -> Option<u64>
+    requires count { length orders.now ≡ length history.now.objects }
+    requires each { (object : ℕ) (order : List ℕ) → slice_get orders.now object ≡ Some order
+        → IsLinearization (part_of history.now object) order }
+{
+    let mut refused = 0u64;
+    for step in 0..TIMES {
+        if !starved.leave(step * 16) {
+            return None;
+        }
+        match join(alloc, history, orders) {
+            Ok(whole) if are_calls(whole.placed(), &[1, 0, 2, 3]) => return Some(refused),
+            Ok(_) => return None,
+            Err(AllocError) => refused = refused.saturating_add(1),
+        }
+    }
+    None
+}
+
+// The linearization of the first object that a first search finds.
+fn first_order(alloc: Global, history: &History) -> Result<Option<Order>, AllocError>
+    requires { 0 < length history.now.objects }
+    ensures { IfOk result (λ found. IfSome found (IsLinearization (part_of history.now 0))) }
+{
+    let problem = history.problem(alloc, 0)?;
+    let Some(ahead) = known_ahead(alloc, &problem)? else {
+        return Ok(None);
+    };
+    match search_first(alloc, &problem, &ahead, 100)? {
+        FirstAnswer::Found(order) => Ok(Some(order)),
+        FirstAnswer::Refuted | FirstAnswer::Exhausted => Ok(None),
+    }
+}
+
+// The same of the order of the queue, from a process that has all it wants.
+fn joins_in_turn(alloc: Global) -> Result<Option<u64>, AllocError> {
+    let Ok(history) = read_history(alloc, QUEUE.as_bytes()) else {
+        return Ok(None);
+    };
+    if history.object_count() != 1 {
+        return Ok(None);
+    }
+    let Some(order) = first_order(alloc, &history)? else {
+        return Ok(None);
+    };
+    let mut starved = Starved::new(alloc, TIMES)?;
+    Ok(refusals_of_a_join(alloc, &mut starved, &history, &[order]))
+}
+
+#[test]
+fn orders_are_refused_or_joined(rt: HostRuntime) {
+    let refused = joins_in_turn(rt.alloc());
+    assert!(rt; matches!(refused, Ok(Some(4..))), "{refused:?}");
 }
