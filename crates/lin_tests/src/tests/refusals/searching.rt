@@ -4,7 +4,7 @@ use super::super::searches::{Part, READ_OF_NO_WRITTEN_VALUE, THREE_MORE, posed_b
 use super::super::watched::{Watch, Watched, read_of_no_written_value};
 use super::starved::{Attempt, is_refused};
 use lin_history::Problem;
-use lin_object::{AnyObject, Kind, ObjState};
+use lin_object::{AnyObject, Kind, ObjState, Op};
 use lin_search::{
     CallSet, Config, Entries, Longest, Memo, NoStop, Noted, Outcome, OwnMemo, search, search_alone,
 };
@@ -102,38 +102,113 @@ fn a_search_ends_at_each_step_and_copy_that_is_refused(rt: HostRuntime) {
     assert!(rt; matches!(over_a_memo, Some(15..)), "{over_a_memo:?}");
 }
 
-// The entries of a problem, or a cut of it.
+// What is made of a problem with calls before a step or copy is refused: nothing, the root, a copy of it too, or its first
+// child too, unless there is none.
+fn configs_made(alloc: Global, problem: &Refused) -> Option<usize> {
+    let Ok(root) = Config::root(alloc, problem) else {
+        return Some(0);
+    };
+    let Ok(_copy) = root.copy(alloc, problem) else {
+        return Some(1);
+    };
+    if problem.len() == 0 {
+        return None;
+    }
+    match root.child(alloc, problem, 0) {
+        Ok(Some(_child)) => Some(3),
+        Ok(None) => None,
+        Err(AllocError) => Some(2),
+    }
+}
+
+#[test]
+fn a_root_its_copy_and_its_child_are_refused_or_made(rt: HostRuntime) {
+    let problem = read_of_no_written_value(rt.alloc(), Refusing::after(MUCH));
+    for before in 0..4usize {
+        problem.object().watch.set(before as u64);
+        assert!(rt; configs_made(rt.alloc(), &problem) == Some(before));
+    }
+}
+
+// So many reads at once that never return. A call that is refused is left out.
+fn reads_at_once(alloc: Global, count: u32) -> Part {
+    let mut problem = Problem::new(alloc, AnyObject, ObjState::Register(0));
+    for process in 1..=count {
+        let _ = problem.add_call(process, Op::Read, process);
+    }
+    problem
+}
+
+// Whether the last call leads from the root to a child, and this has a copy. Of many calls their sets take memory.
+fn leads_to_a_child(alloc: Global, problem: &Part) -> Result<bool, AllocError> {
+    let Some(last) = problem.len().checked_sub(1) else {
+        return Ok(false);
+    };
+    let root = Config::root(alloc, problem)?;
+    let Some(child) = root.child(alloc, problem, last)? else {
+        return Ok(false);
+    };
+    let copy = child.copy(alloc, problem)?;
+    Ok(copy == child)
+}
+
+// What is made of a problem.
+#[derive(Clone, Copy)]
+enum Made {
+    Child,
+    Cut,
+    Entries,
+    Search,
+}
+
+// A problem of which something is made.
 #[derive(Drop)]
 struct Making {
     alloc: Global,
     problem: Part,
-    cuts: bool,
+    made: Made,
 }
 
 impl Attempt for Making {
     fn attempt(&mut self) -> Result<bool, AllocError> {
-        if self.cuts {
-            Ok(cut(self.alloc, &self.problem, 2)?.len() == 3)
-        } else {
-            Ok(Entries::new(self.alloc, &self.problem)?.first_minimal() == Some(0))
+        match self.made {
+            Made::Child => leads_to_a_child(self.alloc, &self.problem),
+            Made::Cut => Ok(cut(self.alloc, &self.problem, 2)?.len() == 3),
+            Made::Entries => Ok(
+                Entries::new(self.alloc, &self.problem)?.first_minimal() == Some(0),
+            ),
+            Made::Search => {
+                let refuted = (Outcome::Refuted(THREE_MORE), 13);
+                Ok(search_alone(self.alloc, &self.problem)? == refuted)
+            }
         }
     }
 }
 
-// Whether they are made, after they were refused at least so often.
-fn are_made(alloc: Global, cuts: bool, times: u64) -> bool {
+// Whether it is made, after it was refused at least so often.
+fn is_made(alloc: Global, problem: Part, made: Made, times: u64) -> bool {
     let mut making = Making {
         alloc,
-        problem: posed_by(alloc, Kind::Register, &READ_OF_NO_WRITTEN_VALUE),
-        cuts,
+        problem,
+        made,
     };
     is_refused(alloc, &mut making, times)
 }
 
+const MADE: [(Made, u64); 3] = [(Made::Cut, 20), (Made::Entries, 10), (Made::Search, 20)];
+
 #[test]
-fn entries_and_a_cut_are_refused_or_made(rt: HostRuntime) {
-    assert!(rt; are_made(rt.alloc(), false, 10));
-    assert!(rt; are_made(rt.alloc(), true, 20));
+fn a_cut_entries_and_a_search_are_refused_or_made(rt: HostRuntime) {
+    for (made, times) in MADE {
+        let problem = posed_by(rt.alloc(), Kind::Register, &READ_OF_NO_WRITTEN_VALUE);
+        assert!(rt; is_made(rt.alloc(), problem, made, times));
+    }
+}
+
+#[test]
+fn a_child_and_a_copy_are_refused_or_made(rt: HostRuntime) {
+    let problem = reads_at_once(rt.alloc(), 200);
+    assert!(rt; is_made(rt.alloc(), problem, Made::Child, 4));
 }
 
 // A memo that is refused memory for one note.
