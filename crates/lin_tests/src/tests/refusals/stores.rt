@@ -1,11 +1,14 @@
 //! What keeps refuted configurations, and the board.
 
+ghost use Rattle.lin_table.specs.Hand.{IsHandOf};
+
 use super::super::searches::{Part, READ_OF_NO_WRITTEN_VALUE, posed_by, refuted_root};
+use super::super::tables::stored;
 use super::starved::{Attempt, Starved, TIMES, is_refused};
 use lin_board::Board;
 use lin_object::{AnyObject, Kind};
 use lin_search::{Noted, Refutation};
-use lin_table::{Shard, Table};
+use lin_table::{Hand, Shard, Table};
 use std::alloc::{AllocError, Global};
 
 // How many times a pair is noted at the most.
@@ -92,8 +95,63 @@ fn a_shard_is_refused(alloc: Global, problem: &Part) -> Result<bool, AllocError>
     ))
 }
 
+// The same of a table with one shard, and the hand.
+fn refusals_of_a_table(
+    starved: &mut Starved,
+    table: &Table<'_, AnyObject>,
+    hand: &mut Hand<AnyObject>,
+    mut roots: Vec<Refutation<'_, AnyObject>>,
+) -> Option<u64>
+    requires { IsHandOf table.now hand.old }
+    ensures { IsHandOf table.now hand.new }
+{
+    let mut refused = 0u64;
+    for step in 0..NOTES {
+        let root = roots.pop()?;
+        if !starved.leave(step * 16) {
+            return None;
+        }
+        match (table.note(hand, root), hand.count()) {
+            (Noted::New, 1) => return Some(refused),
+            (Noted::NoRoom, 0) => refused = refused.saturating_add(1),
+            _ => return None,
+        }
+    }
+    None
+}
+
+// Whether the table is refused memory for pairs, and then has one.
+fn is_refused_a_pair(
+    alloc: Global,
+    table: &Table<'_, AnyObject>,
+    hand: &mut Hand<AnyObject>,
+    problem: &Part,
+) -> Result<bool, AllocError>
+    requires { IsHandOf table.now hand.old }
+    ensures { IsHandOf table.now hand.new }
+{
+    let roots = refuted_roots(alloc, problem)?;
+    let mut starved = Starved::new(alloc, TIMES)?;
+    Ok(matches!(
+        refusals_of_a_table(&mut starved, table, hand, roots),
+        Some(2..)
+    ))
+}
+
+// The same of a new table, which then tells so.
+fn a_table_is_refused(alloc: Global, problem: &Part) -> Result<bool, AllocError> {
+    let (table, mut hands) = Table::new(alloc, problem, 1, 1)?;
+    let Some(mut hand) = hands.pop() else {
+        return Ok(false);
+    };
+    let refused = is_refused_a_pair(alloc, &table, &mut hand, problem)?;
+    hands.push(hand)?;
+    Ok(refused && stored(table, hands, 1))
+}
+
 #[test]
 fn a_pair_is_refused_or_stored(rt: HostRuntime) {
     let problem = posed_by(rt.alloc(), Kind::Register, &READ_OF_NO_WRITTEN_VALUE);
     assert!(rt; matches!(a_shard_is_refused(rt.alloc(), &problem), Ok(true)));
+    assert!(rt; matches!(a_table_is_refused(rt.alloc(), &problem), Ok(true)));
 }
