@@ -1,7 +1,11 @@
-//! Runs whose reader or writer fails after each number of bytes.
+//! Runs that are refused memory, or whose reader or writer fails after each number of bytes.
 
+use super::checking::CROSSED;
+use super::starved::{Starved, TIMES};
 use crate::choice::options_of;
+use lin_text::MAX_INPUT_BYTES;
 use lincheck::{RunFault, Status, StdSink, StdSource, run};
+use std::alloc::AllocError;
 use std::io;
 use std::io::{Read, Write};
 use std::thread::Threads;
@@ -165,4 +169,106 @@ fn a_writer_fails_or_stalls_after_each_number_of_bytes(rt: HostRuntime) {
 #[test]
 fn a_flush_fails_when_all_is_written(rt: HostRuntime) {
     assert!(rt; ends(&rt, MUCH, MUCH, End::FailsToFlush, Err(RunFault::Write)));
+}
+
+const CROSSED_REPORT: &str = "linearizable
+1 2 y write(7) = ok
+2 2 x read() = 0
+3 1 x write(1) = ok
+4 2 y read() = 7
+";
+
+// How many times a run on two registers was refused memory, with nothing written, with more and more room, until its report
+// was written.
+fn refusals_of_a_run<R: AllocGlobal + Threads + Sync>(
+    rt: &R,
+    starved: &mut Starved,
+    writer: &mut Narrow,
+) -> Option<u64> {
+    let mut refused = 0u64;
+    for step in 0..TIMES {
+        if !starved.leave(step * 16) {
+            return None;
+        }
+        let reader = Failing {
+            left: CROSSED.as_bytes(),
+            before: MUCH,
+        };
+        let ended = ran(rt, reader, writer);
+        let written = writer.taken.as_slice();
+        match ended {
+            Err(RunFault::Memory) if written.is_empty() => refused = refused.saturating_add(1),
+            Ok(Status::Yes) if written == CROSSED_REPORT.as_bytes() => return Some(refused),
+            _ => return None,
+        }
+    }
+    None
+}
+
+// The same, from a process that has all it wants, with a writer that needs no memory.
+fn runs_in_turn<R: AllocGlobal + Threads + Sync>(rt: &R) -> Result<Option<u64>, AllocError> {
+    let mut writer = Narrow {
+        taken: Vec::with_capacity(rt.alloc(), 200)?,
+        before: MUCH,
+        end: End::Fails,
+    };
+    let mut starved = Starved::new(rt.alloc(), TIMES)?;
+    Ok(refusals_of_a_run(rt, &mut starved, &mut writer))
+}
+
+#[test]
+fn a_run_is_refused_memory_and_writes_nothing_or_reports(rt: HostRuntime) {
+    let refused = runs_in_turn(&rt);
+    assert!(rt; matches!(refused, Ok(Some(100..))), "{refused:?}");
+}
+
+// A reader that has so many line feeds. It counts the bytes that it gave, and the reads that come late: after its end, or
+// after more bytes than a text may have.
+#[derive(Drop)]
+struct Counting {
+    left: usize,
+    given: usize,
+    late: usize,
+    ended: bool,
+}
+
+impl Read for Counting {
+    fn read(&mut self, buf: &mut [u8]) -> io::Result<usize> {
+        if self.ended || self.given > MAX_INPUT_BYTES {
+            self.late = self.late.saturating_add(1);
+        }
+        let count = self.left.min(buf.len());
+        buf[..count].fill(b'\n');
+        self.left -= count;
+        self.given = self.given.saturating_add(count);
+        self.ended = count == 0;
+        Ok(count)
+    }
+}
+
+// How many of so many bytes are read, and whether a run ends so and no read comes late.
+fn bytes_read<R: AllocGlobal + Threads + Sync>(
+    rt: &R,
+    bytes: usize,
+    wanted: Status,
+) -> (usize, bool) {
+    let mut writer = Narrow {
+        taken: Vec::new(rt.alloc()),
+        before: MUCH,
+        end: End::Fails,
+    };
+    let mut reader = Counting {
+        left: bytes,
+        given: 0,
+        late: 0,
+        ended: false,
+    };
+    let ended = ran(rt, &mut reader, &mut writer);
+    (reader.given, ended == Ok(wanted) && reader.late == 0)
+}
+
+#[test]
+fn nothing_is_read_after_the_end_or_behind_what_is_too_long(rt: HostRuntime) {
+    assert!(rt; bytes_read(&rt, 70_000, Status::Yes) == (70_000, true));
+    assert!(rt; bytes_read(&rt, 70_000_000, Status::Refused) == (67_108_865, true));
 }
