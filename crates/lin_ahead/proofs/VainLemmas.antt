@@ -1,6 +1,6 @@
 -- What is known ahead of a register is right, and all is told: with the cases in which it shows that there is no linearization.
-use Rattle.std.proofs.Common.{◌≡◌, ◌≢◌, ◌↔◌, ◌⊎◌, inl, inr, ℕ, zero, suc, ◌+◌, ◌<◌, ◌≤◌, ◌^◌, Bool, true, false, min, Option, Some, None, List, [], ◌∷◌, length, refl, sym, ◌∙◌, ap, subst, arith, ◌||◌, IsTrue}
-use Rattle.std.specs.Prelude.{ℤ, nat_lt, slice_get, IsSomeAnd}
+use Rattle.std.proofs.Common.{◌≡◌, ◌≢◌, ◌⊎◌, inl, inr, ℕ, zero, suc, ◌+◌, ◌<◌, ◌≤◌, ◌^◌, Bool, true, false, min, Option, Some, None, List, [], ◌∷◌, length, refl, sym, ◌∙◌, ap, subst, arith, ◌||◌}
+use Rattle.std.specs.Prelude.{ℤ, nat_lt, slice_get}
 use Rattle.std.specs.Ordering.{int_eq}
 use Rattle.std.specs.List.{list_any}
 use Rattle.std.specs.Cmp.{signed_Decides}
@@ -21,11 +21,15 @@ use Rattle.lin_ahead.specs.declared.look_ahead.KnownAhead.{KnownAhead}
 use Rattle.lin_ahead.specs.AnyProblem.{any_problem}
 use Rattle.lin_ahead.specs.Behind.{IsRightAhead}
 use Rattle.lin_ahead.specs.Numbers.{CalledFrom}
-use Rattle.lin_ahead.specs.Register.{IsOfRegister, value_written, value_found, MayWrite, Finds, IsSingle, IsClusterBy, FoundNowhere, FoundTooLate}
+use Rattle.lin_ahead.specs.Register.{IsOfRegister, value_written, value_found, MayWrite, Finds, IsSingle, IsClusterBy, IsClusterFrom, FoundNowhere, FoundTooLate, NeedsByNumbers, NeedEachOther}
+use Rattle.lin_ahead.specs.NeededPairs.{need_each_other, some_pair}
+use Rattle.lin_ahead.specs.declared.needed_pairs.CallNumbers.{CallNumbers}
 use Rattle.lin_ahead.specs.ToldOfRegister.{IsToldOfRegister}
-use Rattle.lin_ahead.specs.ValueCalls.{no_value_told, value_told, single_by, cluster_by, cluster_from, is_nowhere, found_nowhere, shows_in_vain, any_in_vain, cluster_by_row, cluster_from_row, found_single_row}
-use Rattle.lin_ahead.proofs.RegisterLemmas.{clusters_need, found_in_vain, start_in_vain, before_of, completed_at}
-use Rattle.lin_ahead.proofs.ValueLemmas.{from_nobody, single_told, single_is, called_there, within, InCluster, by_of_call, by_least, are_cluster_numbers, held_found, found_held, are_held, of_any_register}
+use Rattle.lin_ahead.specs.ValueCalls.{no_value_told, value_told, single_by, cluster_by, cluster_from, is_nowhere, found_nowhere, cluster_numbers, shows_in_vain, any_shows_in_vain, any_in_vain, cluster_numbers_row, cluster_by_row, cluster_from_row, found_single_row}
+use Rattle.lin_ahead.proofs.RegisterLemmas.{clusters_need, cluster_numbers_need, found_in_vain, start_in_vain, clusters_in_vain, before_of, completed_at}
+use Rattle.lin_ahead.proofs.RowLemmas.{through, seen_through}
+use Rattle.lin_ahead.proofs.PairLemmas.{Both, both_are, both_told, both_at, or_left, or_right}
+use Rattle.lin_ahead.proofs.ValueLemmas.{from_nobody, single_told, single_is, called_there, within, by_of_call, from_of_call, by_least, from_greatest, are_cluster_numbers, held_found, found_held, are_held, of_any_register}
 
 -- an element of a list that passes a test
 any_at : {A : Type 0} (test : A → Bool) (xs : List A) → list_any test xs ≡ true → (i : ℕ) × (x : A) × (slice_get xs i ≡ Some x) × (test x ≡ true)
@@ -48,6 +52,26 @@ passes_at test (y ∷ xs) (suc i) x there e = or_true (test y) (list_any test xs
 either : (a b : Bool) → (a || b) ≡ true → (a ≡ true) ⊎ (b ≡ true)
 either true b e = inl refl
 either false b e = inr e
+
+-- two places of a list in which stand two that need each other
+pair_there : (l : List CallNumbers) → some_pair l ≡ true → (i : ℕ) × (j : ℕ) × (x : CallNumbers) × (y : CallNumbers) × (i ≢ j) × (slice_get l i ≡ Some x) × (slice_get l j ≡ Some y) × Both x y
+pair_there [] e = absurd (cc)
+pair_there (c ∷ cs) e = elim (either (list_any (need_each_other c) cs) (some_pair cs) e) [
+  | inl q ↦ (let k = any_at (need_each_other c) cs q in (0, suc k.0, c, k.1, (λ s. omega (arith, s)), refl, k.2, both_are c k.1 k.3))
+  | inr q ↦ (let k = pair_there cs q in (suc k.0, suc k.1, k.2, k.3, (λ s. k.4 (omega (arith, s))), k.5, k.6, k.7))
+]
+
+pair_told : (l : List CallNumbers) (i j : ℕ) (x y : CallNumbers) → i ≢ j → slice_get l i ≡ Some x → slice_get l j ≡ Some y → Both x y → some_pair l ≡ true
+pair_told [] i j x y other there here both = absurd (cc)
+pair_told (c ∷ cs) zero zero x y other there here both = absurd (other refl)
+pair_told (c ∷ cs) zero (suc j) x y other there here both =
+    let same : x ≡ c = cc in
+    or_left (list_any (need_each_other c) cs) (some_pair cs) (passes_at (need_each_other c) cs j y here (both_told c y (both_at x y c y same refl both)))
+pair_told (c ∷ cs) (suc i) zero x y other there here both =
+    let same : y ≡ c = cc in
+    or_left (list_any (need_each_other c) cs) (some_pair cs) (passes_at (need_each_other c) cs i x there (both_told c x (both_at y x c x same refl (both.1, both.0))))
+pair_told (c ∷ cs) (suc i) (suc j) x y other there here both =
+    or_right (list_any (need_each_other c) cs) (some_pair cs) (pair_told cs i j x y (λ s. other (ap suc s)) there here both)
 
 module _ (p : Problem ObjState Op Reply) (start : ℤ) where
   -- no call may write the value, and the register does not start with it
@@ -99,8 +123,15 @@ module _ (p : Problem ObjState Op Reply) (start : ℤ) where
       let less : m < min BEYOND (value_told p.calls start).called = omega (arith, few, from, most) in
       rw is less
 
-  in_vain_is : any_in_vain (value_told p.calls) start p.calls ≡ true → FoundNowhere p start ⊎ FoundTooLate p start
-  in_vain_is e =
+  -- the numbers of a call
+  abbrev numbers : ProblemCall Op Reply → CallNumbers
+  numbers x = cluster_numbers (value_told p.calls) start (value_written x.op x.returned)
+
+  abbrev Shown : Type 0
+  Shown = FoundNowhere p start ⊎ (FoundTooLate p start ⊎ NeedEachOther p start)
+
+  shown_is : any_shows_in_vain (value_told p.calls) start p.calls ≡ true → Shown
+  shown_is e =
       let k = any_at (shows_in_vain (value_told p.calls) start Last) p.calls e in
       elim (either (found_nowhere (value_told p.calls) start (value_found k.1.op k.1.returned)) (nat_lt (cluster_by (value_told p.calls) start (value_written k.1.op k.1.returned)) Last) k.3) [
         | inl q ↦ (
@@ -110,14 +141,63 @@ module _ (p : Problem ObjState Op Reply) (start : ℤ) where
         | inr q ↦ (
             let m : ℕ = cluster_by (value_told p.calls) start (value_written k.1.op k.1.returned) in
             let last = last_of_start m (ltb-true m Last q) in
-            inr (last.0, (last.2.0, k.0, m, last.2.1, last.1, by_of_call p start k.0 k.1 k.2 (value_written k.1.op k.1.returned) refl, last.2.2)))
+            inr (inl (last.0, (last.2.0, k.0, m, last.2.1, last.1, by_of_call p start k.0 k.1 k.2 (value_written k.1.op k.1.returned) refl, last.2.2))))
       ]
 
-  in_vain_told : FoundNowhere p start ⊎ FoundTooLate p start → any_in_vain (value_told p.calls) start p.calls ≡ true
-  in_vain_told (inl (g, u, (x, there, found), other, none)) =
+  pair_is : some_pair (cluster_numbers_row (value_told p.calls) start p.calls) ≡ true → NeedEachOther p start
+  pair_is e =
+      let k = pair_there (cluster_numbers_row (value_told p.calls) start p.calls) e in
+      let a = through numbers p.calls k.0 k.2 k.5 in
+      let b = through numbers p.calls k.1 k.3 k.6 in
+      let both : Both (numbers a.0) (numbers b.0) = both_at k.2 k.3 (numbers a.0) (numbers b.0) (sym a.2) (sym b.2) k.7 in (
+        k.0,
+        k.1,
+        k.4,
+        ((numbers a.0).by, (numbers b.0).from, by_of_call p start k.0 a.0 a.1 (value_written a.0.op a.0.returned) refl, from_of_call p start k.1 b.0 b.1 (value_written b.0.op b.0.returned) refl, both.0),
+        ((numbers b.0).by, (numbers a.0).from, by_of_call p start k.1 b.0 b.1 (value_written b.0.op b.0.returned) refl, from_of_call p start k.0 a.0 a.1 (value_written a.0.op a.0.returned) refl, both.1),
+      )
+
+  in_vain_is : any_in_vain (value_told p.calls) start p.calls ≡ true → Shown
+  in_vain_is e = elim (either (any_shows_in_vain (value_told p.calls) start p.calls) (some_pair (cluster_numbers_row (value_told p.calls) start p.calls)) e) [
+    | inl q ↦ shown_is q
+    | inr q ↦ inr (inr (pair_is q))
+  ]
+
+  writer : (a m : ℕ) → IsClusterBy p start a m → (2 ^ 32 ≤ m) ⊎ ((x : ProblemCall Op Reply) × (slice_get p.calls a ≡ Some x))
+  writer a m (inl many) = inl many
+  writer a m (inr (u, write, single, rest)) = inr (write.0, write.1)
+
+  few_from : (b n : ℕ) → IsClusterFrom p start b n → n ≤ 2 ^ 32
+  few_from b n (inl none) = omega (arith, none)
+  few_from b n (inr (few, rest)) = few
+
+  -- a number that tells a need is that of an event
+  event_by : (a b m n : ℕ) → IsClusterFrom p start b n → m < n → m < 2 ^ 32
+  event_by a b m n from less = (let few = few_from b n from in omega (arith, few, less))
+
+  needing : (a b : ℕ) → NeedsByNumbers p start a b → (x : ProblemCall Op Reply) × (slice_get p.calls a ≡ Some x)
+  needing a b (m, n, by, from, less) = elim (writer a m by) [
+    | inl many ↦ absurd (let few = event_by a b m n from less in omega (arith, few, many))
+    | inr q ↦ q
+  ]
+
+  needs_less : (a b : ℕ) (x y : ProblemCall Op Reply) → slice_get p.calls a ≡ Some x → slice_get p.calls b ≡ Some y → NeedsByNumbers p start a b → (numbers x).by < (numbers y).from
+  needs_less a b x y there here (m, n, by, from, less) =
+      let least = by_least p start a x there m (event_by a b m n from less) by in
+      let greatest = from_greatest p start b y here n from in
+      omega (arith, least, greatest, less)
+
+  pair_shown : NeedEachOther p start → some_pair (cluster_numbers_row (value_told p.calls) start p.calls) ≡ true
+  pair_shown (a, b, other, one, two) =
+      let x = needing a b one in
+      let y = needing b a two in
+      pair_told (cluster_numbers_row (value_told p.calls) start p.calls) a b (numbers x.0) (numbers y.0) other (seen_through numbers p.calls a x.0 x.1) (seen_through numbers p.calls b y.0 y.1) (needs_less a b x.0 y.0 x.1 y.1 one, needs_less b a y.0 x.0 y.1 x.1 two)
+
+  shown_told : FoundNowhere p start ⊎ FoundTooLate p start → any_shows_in_vain (value_told p.calls) start p.calls ≡ true
+  shown_told (inl (g, u, (x, there, found), other, none)) =
       passes_at (shows_in_vain (value_told p.calls) start Last) p.calls g x there
       (ap (λ (b : Bool). b || nat_lt (cluster_by (value_told p.calls) start (value_written x.op x.returned)) Last) (ap (λ (o : Option ℤ). found_nowhere (value_told p.calls) start o) found ∙ nowhere_told u other none))
-  in_vain_told (inr (single, (g, a, m, found, few, by, called))) = elim (writer by) [
+  shown_told (inr (single, (g, a, m, found, few, by, called))) = elim (writer a m by) [
     | inl many ↦ absurd (omega (arith, many, few))
     | inr (x, there) ↦ (
         let least = by_least p start a x there m few by in
@@ -126,16 +206,26 @@ module _ (p : Problem ObjState Op Reply) (start : ℤ) where
         (or_true (found_nowhere (value_told p.calls) start (value_found x.op x.returned)) (nat_lt (cluster_by (value_told p.calls) start (value_written x.op x.returned)) Last)
         (lt-ltb (cluster_by (value_told p.calls) start (value_written x.op x.returned)) Last (omega (arith, least, last)))))
   ]
-    where
-      writer : IsClusterBy p start a m → (2 ^ 32 ≤ m) ⊎ ((x : ProblemCall Op Reply) × (slice_get p.calls a ≡ Some x))
-      writer (inl many) = inl many
-      writer (inr (u, write, single, rest)) = inr (write.0, write.1)
 
-  in_vain : IsOfRegister p start → FoundNowhere p start ⊎ FoundTooLate p start → (l : List ℕ) → IsLinearization p l → ⊥
+  in_vain_told : Shown → any_in_vain (value_told p.calls) start p.calls ≡ true
+  in_vain_told (inl nowhere) = or_left (any_shows_in_vain (value_told p.calls) start p.calls) (some_pair (cluster_numbers_row (value_told p.calls) start p.calls)) (shown_told (inl nowhere))
+  in_vain_told (inr (inl late)) = or_left (any_shows_in_vain (value_told p.calls) start p.calls) (some_pair (cluster_numbers_row (value_told p.calls) start p.calls)) (shown_told (inr late))
+  in_vain_told (inr (inr pair)) = or_right (any_shows_in_vain (value_told p.calls) start p.calls) (some_pair (cluster_numbers_row (value_told p.calls) start p.calls)) (pair_shown pair)
+
+  pair_in_vain : IsOfRegister p start → (a b : ℕ) → a ≢ b → NeedsByNumbers p start a b → NeedsByNumbers p start b a → (l : List ℕ) → IsLinearization p l → ⊥
+  pair_in_vain of a b other (m, n, by, from, less) (k, i, inl many, from_a, under) l whole = (let few = event_by b a k i from_a under in omega (arith, few, many))
+  pair_in_vain of a b other (m, n, by, from, less) (k, i, inr (v, write, single, (j, of_b, at)), from_a, under) l whole =
+      clusters_in_vain of v a b j
+      (cluster_numbers_need of a b m n other by from less)
+      (cluster_numbers_need of b a k i (λ s. other (sym s)) (inr (v, write, single, (j, of_b, at))) from_a under)
+      write single of_b (completed_at of j k at) l whole
+
+  in_vain : IsOfRegister p start → Shown → (l : List ℕ) → IsLinearization p l → ⊥
   in_vain of (inl (g, u, found, other, none)) l whole = found_in_vain of g u found other none l whole
-  in_vain of (inr (single, (g, a, m, found, few, inl many, called))) l whole = omega (arith, few, many)
-  in_vain of (inr (single, (g, a, m, found, few, inr (u, write, single_u, (i, of_a, at)), called))) l whole =
+  in_vain of (inr (inl (single, (g, a, m, found, few, inl many, called)))) l whole = omega (arith, few, many)
+  in_vain of (inr (inl (single, (g, a, m, found, few, inr (u, write, single_u, (i, of_a, at)), called)))) l whole =
       start_in_vain of u a i g write single_u of_a (completed_at of i m at) found single (before_of of i g m (m + 1) at (omega arith) called) l whole
+  in_vain of (inr (inr (a, b, other, one, two))) l whole = pair_in_vain of a b other one two l whole
 
 module _ {Object : Type 0} (p : ProblemParts Object ObjState Op Reply) where
   -- what is known ahead of a register is right

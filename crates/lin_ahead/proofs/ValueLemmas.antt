@@ -1,6 +1,6 @@
 -- The rows of a register's problem are right: those of the clusters, and the flags of the calls that found a single value.
 use Rattle.std.proofs.Common.{◌≡◌, ◌≢◌, ℕ, zero, suc, ◌<◌, ◌≤◌, ◌^◌, Bool, true, false, min, max, Option, Some, None, List, [], ◌∷◌, length, ◌⊎◌, inl, inr, refl, sym, ◌∙◌, ap, subst, arith}
-use Rattle.std.specs.Prelude.{ℤ, slice_get}
+use Rattle.std.specs.Prelude.{ℤ, slice_get, map}
 use Rattle.std.specs.Ordering.{int_eq}
 use Rattle.std.specs.Cmp.{signed_Decides}
 use Rattle.std.proofs.lemmas.List.{length-map}
@@ -16,18 +16,16 @@ use Rattle.lin_ahead.specs.declared.item_calls.Callers.{Callers}
 use Rattle.lin_ahead.specs.declared.item_calls.Callers.TheVariants.{Nobody, One, Several}
 use Rattle.lin_ahead.specs.declared.item_calls.TheConstants.{BEYOND}
 use Rattle.lin_ahead.specs.AnyProblem.{any_problem}
+use Rattle.lin_ahead.specs.declared.needed_pairs.CallNumbers.{CallNumbers}
 use Rattle.lin_ahead.specs.declared.value_calls.ValueCalls.{ValueCalls}
 use Rattle.lin_ahead.specs.ItemCalls.{is_of, one_more}
 use Rattle.lin_ahead.specs.Held.{AreHeldUntil}
 use Rattle.lin_ahead.specs.Numbers.{CalledFrom}
 use Rattle.lin_ahead.specs.Register.{IsOfRegister, value_written, value_found, MayWrite, Finds, IsSingle, OfCluster, IsClusterBy, IsClusterFrom, AreClusterNumbers}
-use Rattle.lin_ahead.specs.Behind.{IsRightAhead}
-use Rattle.lin_ahead.specs.ToldOfRegister.{IsToldOfRegister}
-use Rattle.lin_ahead.specs.declared.look_ahead.KnownAhead.{KnownAhead}
-use Rattle.lin_ahead.specs.ValueCalls.{no_value_told, least_return, written_next, found_next, value_next, value_from, value_told, is_single, single_by, cluster_by, cluster_from, found_single, cluster_by_row, cluster_from_row, found_single_row}
+use Rattle.lin_ahead.specs.ValueCalls.{no_value_told, least_return, written_next, found_next, value_next, value_from, value_told, is_single, single_by, cluster_by, cluster_from, found_single, cluster_numbers_row, cluster_by_row, cluster_from_row, found_single_row}
 use Rattle.lin_ahead.proofs.AnyLemmas.{reply_same}
 use Rattle.lin_ahead.proofs.RowLemmas.{through, seen_through}
-use Rattle.lin_ahead.proofs.RegisterLemmas.{finds_held_until, clusters_need}
+use Rattle.lin_ahead.proofs.RegisterLemmas.{finds_held_until}
 
 -- ---- values
 
@@ -368,7 +366,7 @@ module _ (p : Problem ObjState Op Reply) (start : ℤ) where
   by_of_call a x there None e = beyond a BEYOND refl
   by_of_call a x there (Some v) e = by_value a v (x, there, e)
 
-  from_of_call : (b : ℕ) (x : ProblemCall Op Reply) → slice_get p.calls b ≡ Some x → (o : Option ℤ) → value_written x.op x.returned ≡ o → IsClusterFrom p start b (cluster_from (value_told p.calls) start o)
+  pub from_of_call : (b : ℕ) (x : ProblemCall Op Reply) → slice_get p.calls b ≡ Some x → (o : Option ℤ) → value_written x.op x.returned ≡ o → IsClusterFrom p start b (cluster_from (value_told p.calls) start o)
   from_of_call b x there None e = inl refl
   from_of_call b x there (Some v) e = from_value b v (x, there, e)
 
@@ -393,7 +391,7 @@ module _ (p : Problem ObjState Op Reply) (start : ℤ) where
       subst (λ (o : Option ℤ). cluster_by (value_told p.calls) start o ≤ k) (sym value) (rw is least)
 
   -- and no greater one
-  from_greatest : (b : ℕ) (x : ProblemCall Op Reply) → slice_get p.calls b ≡ Some x → (k : ℕ) → IsClusterFrom p start b k → k ≤ cluster_from (value_told p.calls) start (value_written x.op x.returned)
+  pub from_greatest : (b : ℕ) (x : ProblemCall Op Reply) → slice_get p.calls b ≡ Some x → (k : ℕ) → IsClusterFrom p start b k → k ≤ cluster_from (value_told p.calls) start (value_written x.op x.returned)
   from_greatest b x there k (inl zero_is) = omega (arith, zero_is)
   from_greatest b x there k (inr (few, (v, write, single, (j, of_b, called)))) =
       let z = of_value b v write j of_b in
@@ -440,9 +438,25 @@ module _ (p : Problem ObjState Op Reply) (start : ℤ) where
   pub are_held : IsOfRegister p start → AreHeldUntil p (found_single_row (value_told p.calls) start p.calls)
   are_held of g e = let k = held_found g e in finds_held_until of g k.0 k.1 k.2
 
+-- the rows of both numbers
+by_of_numbers : (told : ℤ → ValueCalls) (start : ℤ) (calls : List (ProblemCall Op Reply)) → map (λ (x : CallNumbers). x.by) (cluster_numbers_row told start calls) ≡ cluster_by_row told start calls
+by_of_numbers told start [] = refl
+by_of_numbers told start (c ∷ cs) = ap (λ (l : List ℕ). cluster_by told start (value_written c.op c.returned) ∷ l) (by_of_numbers told start cs)
+
+from_of_numbers : (told : ℤ → ValueCalls) (start : ℤ) (calls : List (ProblemCall Op Reply)) → map (λ (x : CallNumbers). x.from) (cluster_numbers_row told start calls) ≡ cluster_from_row told start calls
+from_of_numbers told start [] = refl
+from_of_numbers told start (c ∷ cs) = ap (λ (l : List ℕ). cluster_from told start (value_written c.op c.returned) ∷ l) (from_of_numbers told start cs)
+
 -- a row is made of what is told of each value
 pub row_of : {A : Type 0} (row : (ℤ → ValueCalls) → ℤ → List (ProblemCall Op Reply) → A) (one other : ℤ → ValueCalls) (first start : ℤ) (calls : List (ProblemCall Op Reply)) → ((v : ℤ) → one v ≡ other v) → first ≡ start → row one first calls ≡ row other start calls
 row_of row one other first start calls same e = ap (λ (told : ℤ → ValueCalls). row told first calls) (λ i v. same v i) ∙ ap (λ (w : ℤ). row other w calls) e
+
+-- they are those of each value
+pub by_row_of : (numbers : List CallNumbers) (one other : ℤ → ValueCalls) (first start : ℤ) (calls : List (ProblemCall Op Reply)) → numbers ≡ cluster_numbers_row one first calls → ((v : ℤ) → one v ≡ other v) → first ≡ start → map (λ (x : CallNumbers). x.by) numbers ≡ cluster_by_row other start calls
+by_row_of numbers one other first start calls is same e = ap (map (λ (x : CallNumbers). x.by)) is ∙ by_of_numbers one first calls ∙ row_of cluster_by_row one other first start calls same e
+
+pub from_row_of : (numbers : List CallNumbers) (one other : ℤ → ValueCalls) (first start : ℤ) (calls : List (ProblemCall Op Reply)) → numbers ≡ cluster_numbers_row one first calls → ((v : ℤ) → one v ≡ other v) → first ≡ start → map (λ (x : CallNumbers). x.from) numbers ≡ cluster_from_row other start calls
+from_row_of numbers one other first start calls is same e = ap (map (λ (x : CallNumbers). x.from)) is ∙ from_of_numbers one first calls ∙ row_of cluster_from_row one other first start calls same e
 
 -- ---- the object that histories are judged by
 

@@ -10,5 +10,6 @@ pub mod Behind
 pub mod ToldAhead
 pub mod Register
 pub mod Held
+pub mod NeededPairs
 pub mod ValueCalls
 pub mod ToldOfRegister

@@ -71,6 +71,14 @@ module _ (p : Problem ObjState Op Reply) where
   abbrev pub FoundTooLate : ℤ → Type 0
   FoundTooLate start = IsSingle start start × ((g a m : ℕ) × Finds g start × (m < 2 ^ 32) × IsClusterBy start a m × CalledFrom p (m + 1) g)
 
+  -- By its numbers call b needs call a: a call of the cluster of a returned before one of the cluster of b was called.
+  abbrev pub NeedsByNumbers : ℤ → ℕ → ℕ → Type 0
+  NeedsByNumbers start a b = (m n : ℕ) × IsClusterBy start a m × IsClusterFrom start b n × (m < n)
+
+  -- Two calls that write single values need each other.
+  abbrev pub NeedEachOther : ℤ → Type 0
+  NeedEachOther start = (a b : ℕ) × (a ≢ b) × NeedsByNumbers start a b × NeedsByNumbers start b a
+
 -- Rows with the numbers of the calls of a register: of those that are right the least event by which a call is needed, and the
 -- greatest number up to which it needs others.
 pub record AreClusterNumbers (p : Problem ObjState Op Reply) (start : ℤ) (rows : NeedNumbers) : Type 0 where

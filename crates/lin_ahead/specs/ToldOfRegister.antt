@@ -5,7 +5,7 @@ use Rattle.lin_object.specs.declared.reply.Reply.{Reply}
 use Rattle.lin_object.specs.declared.state.ObjState.{ObjState}
 use Rattle.lin_history.specs.Problems.Problem.{Problem}
 use Rattle.lin_ahead.specs.declared.look_ahead.KnownAhead.{KnownAhead}
-use Rattle.lin_ahead.specs.Register.{Finds, IsSingle, FoundNowhere, FoundTooLate, AreClusterNumbers}
+use Rattle.lin_ahead.specs.Register.{Finds, IsSingle, FoundNowhere, FoundTooLate, NeedEachOther, AreClusterNumbers}
 
 -- All is told that the calls tell by real time, of each call, on a register that starts with this value.
 pub record IsToldOfRegister (p : Problem ObjState Op Reply) (start : ℤ) (ahead : KnownAhead) : Type 0 where
@@ -14,8 +14,9 @@ pub record IsToldOfRegister (p : Problem ObjState Op Reply) (start : ℤ) (ahead
   pub each_held : length ahead.held.items ≡ length p.calls
   pub held : (c : ℕ) → slice_get ahead.held.items c ≡ Some true → (v : ℤ) × Finds p c v × IsSingle p start v
   pub every_held : (c : ℕ) (v : ℤ) → Finds p c v → IsSingle p start v → slice_get ahead.held.items c ≡ Some true
-  -- There is no linearization by these facts alone where a call found what is nowhere, or found the start too late.
-  pub in_vain : IsTrue ahead.in_vain ↔ (FoundNowhere p start ⊎ FoundTooLate p start)
+  -- There is no linearization by these facts alone where a call found what is nowhere, or found the start too late, or where
+  -- two calls need each other.
+  pub in_vain : IsTrue ahead.in_vain ↔ (FoundNowhere p start ⊎ (FoundTooLate p start ⊎ NeedEachOther p start))
   -- What is told of queues is not.
   pub taken : ahead.taken.items ≡ []
   pub takers : ahead.takers.items ≡ []

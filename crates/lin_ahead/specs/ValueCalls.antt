@@ -9,8 +9,10 @@ use Rattle.lin_history.specs.declared.problems.problem.ProblemCall.{ProblemCall}
 use Rattle.lin_ahead.specs.declared.item_calls.Callers.{Callers}
 use Rattle.lin_ahead.specs.declared.item_calls.Callers.TheVariants.{Nobody, One, Several}
 use Rattle.lin_ahead.specs.declared.item_calls.TheConstants.{BEYOND}
+use Rattle.lin_ahead.specs.declared.needed_pairs.CallNumbers.{CallNumbers}
 use Rattle.lin_ahead.specs.declared.value_calls.ValueCalls.{ValueCalls}
 use Rattle.lin_ahead.specs.ItemCalls.{one_more, is_of}
+use Rattle.lin_ahead.specs.NeededPairs.{some_pair}
 use Rattle.lin_ahead.specs.Register.{value_written, value_found}
 
 -- What no call tells of a value.
@@ -75,6 +77,10 @@ abbrev pub cluster_from : (ℤ → ValueCalls) → ℤ → Option ℤ → ℕ
 cluster_from told start None = 0
 cluster_from told start (Some v) = if single_by told start v then min BEYOND (told v).called else 0
 
+-- Both numbers, by the value that a call may write.
+abbrev pub cluster_numbers : (ℤ → ValueCalls) → ℤ → Option ℤ → CallNumbers
+cluster_numbers told start o = record { by = cluster_by told start o; from = cluster_from told start o }
+
 -- A call found a value, and it is single.
 abbrev pub found_single : (ℤ → ValueCalls) → ℤ → Option ℤ → Bool
 found_single told start None = false
@@ -96,10 +102,13 @@ abbrev pub shows_in_vain : (ℤ → ValueCalls) → ℤ → ℕ → ProblemCall 
 shows_in_vain told start last c = found_nowhere told start (value_found c.op c.returned) || nat_lt (cluster_by told start (value_written c.op c.returned)) last
 
 -- Some call shows it, where the event is the last call that found a single start value.
-abbrev pub any_in_vain : (ℤ → ValueCalls) → ℤ → List (ProblemCall Op Reply) → Bool
-any_in_vain told start calls = list_any (shows_in_vain told start (cluster_from told start (Some start))) calls
+abbrev pub any_shows_in_vain : (ℤ → ValueCalls) → ℤ → List (ProblemCall Op Reply) → Bool
+any_shows_in_vain told start calls = list_any (shows_in_vain told start (cluster_from told start (Some start))) calls
 
 -- These of each call.
+abbrev pub cluster_numbers_row : (ℤ → ValueCalls) → ℤ → List (ProblemCall Op Reply) → List CallNumbers
+cluster_numbers_row told start calls = map (λ c. cluster_numbers told start (value_written c.op c.returned)) calls
+
 abbrev pub cluster_by_row : (ℤ → ValueCalls) → ℤ → List (ProblemCall Op Reply) → List ℕ
 cluster_by_row told start calls = map (λ c. cluster_by told start (value_written c.op c.returned)) calls
 
@@ -108,3 +117,7 @@ cluster_from_row told start calls = map (λ c. cluster_from told start (value_wr
 
 abbrev pub found_single_row : (ℤ → ValueCalls) → ℤ → List (ProblemCall Op Reply) → List Bool
 found_single_row told start calls = map (λ c. found_single told start (value_found c.op c.returned)) calls
+
+-- Some call shows that there is no linearization, or some two need each other.
+abbrev pub any_in_vain : (ℤ → ValueCalls) → ℤ → List (ProblemCall Op Reply) → Bool
+any_in_vain told start calls = any_shows_in_vain told start calls || some_pair (cluster_numbers_row told start calls)

@@ -4,7 +4,7 @@
 //!   same of each item, by one pass over the calls; `numbers`: the two numbers of a call.
 //! - `value_calls`: what the calls on a register tell of one value: how many may write it, and when those that wrote or found
 //!   it returned and were called; `each_value`: the same of each value, by one pass; `value_rows`: the rows of a register;
-//!   `call_values`: the values of each call by numbers.
+//!   `needed_pairs`: two calls that need each other; `call_values`: the values of each call by numbers.
 //! - `look_ahead`: what is known ahead of a whole problem.
 //! - `first_search`: a search that passes over calls that need one left out, that would take a reply which is owed to
 //!   another, or that would change a state which is held; `needed_calls`: the calls by how early they are needed;
@@ -24,6 +24,7 @@ mod held_state;
 mod item_calls;
 mod look_ahead;
 mod needed_calls;
+mod needed_pairs;
 mod numbers;
 mod owed_replies;
 mod refuted_set;

@@ -1,16 +1,18 @@
 //! What is told of each call on a register by what the calls tell of its values: its numbers, and whether it found a single
 //! value.
 
-ghost use Rattle.std.specs.Prelude.{◌≡◌, [], Some, IfOk};
+ghost use Rattle.std.specs.Prelude.{◌≡◌, [], Some, IfOk, map};
+ghost use Rattle.lin_ahead.specs.declared.needed_pairs.CallNumbers.{CallNumbers};
 ghost use Rattle.std.specs.Ordering.{int_eq};
 ghost use Rattle.indexmap.specs.IndexMap.{get};
 ghost use Rattle.lin_ahead.specs.Register.{value_written, value_found};
-ghost use Rattle.lin_ahead.specs.ValueCalls.{value_in, value_told, single_by, cluster_by, cluster_from, found_single, found_nowhere, shows_in_vain, any_in_vain, cluster_by_row, cluster_from_row, found_single_row};
+ghost use Rattle.lin_ahead.specs.ValueCalls.{value_in, value_told, single_by, cluster_from, cluster_numbers, found_single, found_nowhere, shows_in_vain, any_shows_in_vain, any_in_vain, cluster_numbers_row, cluster_by_row, cluster_from_row, found_single_row};
 
 use crate::call_values::{CallValues, ValueNumbers};
 use crate::each_value::{told_of_value, values_told};
 use crate::item_calls::BEYOND;
 use crate::look_ahead::KnownAhead;
+use crate::needed_pairs::{CallNumbers, some_pair};
 use crate::value_calls::{ValueCalls, value_found, value_written};
 use indexmap::IndexMap;
 use lin_history::{NeedRows, ProblemCall};
@@ -31,27 +33,36 @@ fn single_by(values: &Values, value: i64) -> bool
     told_of_value(&values.told, value).is_single(value == values.start)
 }
 
-// When the first call of the cluster returned of the value that the call may write.
-fn cluster_by(values: &Values, call: &ProblemCall<Op, Reply>) -> u64
-    ensures { result ≡ cluster_by (value_in (get int_eq values.now.told)) values.now.start
-        (value_written call.now.op call.now.returned) }
+// The numbers of a call that may write this value.
+fn numbers_by_value(values: &Values, value: i64) -> CallNumbers
+    ensures { result ≡ cluster_numbers (value_in (get int_eq values.now.told)) values.now.start
+        (Some value) }
 {
-    match value_written(call) {
-        Some(value) if single_by(values, value) => told_of_value(&values.told, value).returned,
-        _ => BEYOND,
+    let told = told_of_value(&values.told, value);
+    if told.is_single(value == values.start) {
+        CallNumbers {
+            by: told.returned,
+            from: u64::min(BEYOND, told.called),
+        }
+    } else {
+        CallNumbers {
+            by: BEYOND,
+            from: 0,
+        }
     }
 }
 
-// When the last call of the cluster was called of the value that the call may write.
-fn cluster_from(values: &Values, call: &ProblemCall<Op, Reply>) -> u64
-    ensures { result ≡ cluster_from (value_in (get int_eq values.now.told)) values.now.start
+// By the single value that the call may write: when the first call of the cluster returned, and when the last was called.
+fn cluster_numbers(values: &Values, call: &ProblemCall<Op, Reply>) -> CallNumbers
+    ensures { result ≡ cluster_numbers (value_in (get int_eq values.now.told)) values.now.start
         (value_written call.now.op call.now.returned) }
 {
     match value_written(call) {
-        Some(value) if single_by(values, value) => {
-            u64::min(BEYOND, told_of_value(&values.told, value).called)
-        }
-        _ => 0,
+        Some(value) => numbers_by_value(values, value),
+        None => CallNumbers {
+            by: BEYOND,
+            from: 0,
+        },
     }
 }
 
@@ -94,48 +105,63 @@ fn shows_in_vain(values: &Values, last: u64, call: &ProblemCall<Op, Reply>) -> b
     ensures { result ≡ shows_in_vain (value_in (get int_eq values.now.told)) values.now.start
         last call.now }
 {
-    found_nowhere(values, call) || cluster_by(values, call) < last
+    found_nowhere(values, call) || cluster_numbers(values, call).by < last
 }
 
 // Whether some call shows that there is no linearization.
-fn any_in_vain(values: &Values, calls: &[ProblemCall<Op, Reply>]) -> bool
-    ensures { result ≡ any_in_vain (value_in (get int_eq values.now.told)) values.now.start
+fn any_shows_in_vain(values: &Values, calls: &[ProblemCall<Op, Reply>]) -> bool
+    ensures { result ≡ any_shows_in_vain (value_in (get int_eq values.now.told)) values.now.start
         calls.now }
 {
     let last = last_of_start(values);
     calls.iter().any(|call| shows_in_vain(values, last, call))
 }
 
-// For each call when the first call of its cluster returned.
-fn cluster_by_row(
+// The numbers of each call.
+fn cluster_numbers_row(
     alloc: Global,
     values: &Values,
     calls: &[ProblemCall<Op, Reply>],
-) -> Result<Vec<u64>, AllocError>
-    ensures { IfOk result (λ row. row.items
-        ≡ cluster_by_row (value_in (get int_eq values.now.told)) values.now.start calls.now) }
+) -> Result<Vec<CallNumbers>, AllocError>
+    ensures { IfOk result (λ row. row.items ≡ cluster_numbers_row
+        (value_in (get int_eq values.now.told)) values.now.start calls.now) }
 {
     let mut row = Vec::with_capacity(alloc, calls.len())?;
     for call in calls {
-        row.push(cluster_by(values, call))?;
+        row.push(cluster_numbers(values, call))?;
     }
     Ok(row)
 }
 
+// For each call when the first call of its cluster returned.
+fn by_of_each(alloc: Global, numbers: &[CallNumbers]) -> Result<Vec<u64>, AllocError>
+    ensures { IfOk result (λ row. row.items ≡ map (λ (c : CallNumbers). c.by) numbers.now) }
+{
+    numbers.iter().map(|one| one.by).collect(alloc)
+}
+
 // For each call when the last call of its cluster was called.
-fn cluster_from_row(
+fn from_of_each(alloc: Global, numbers: &[CallNumbers]) -> Result<Vec<u64>, AllocError>
+    ensures { IfOk result (λ row. row.items ≡ map (λ (c : CallNumbers). c.from) numbers.now) }
+{
+    numbers.iter().map(|one| one.from).collect(alloc)
+}
+
+// Whether some call shows that there is no linearization, or some two need each other.
+fn any_in_vain(
     alloc: Global,
     values: &Values,
     calls: &[ProblemCall<Op, Reply>],
-) -> Result<Vec<u64>, AllocError>
-    ensures { IfOk result (λ row. row.items
-        ≡ cluster_from_row (value_in (get int_eq values.now.told)) values.now.start calls.now) }
+    numbers: &[CallNumbers],
+) -> Result<bool, AllocError>
+    requires { numbers.now ≡ cluster_numbers_row (value_in (get int_eq values.now.told))
+        values.now.start calls.now }
+    ensures { IfOk result (λ found. found ≡ any_in_vain (value_in (get int_eq values.now.told))
+        values.now.start calls.now) }
 {
-    let mut row = Vec::with_capacity(alloc, calls.len())?;
-    for call in calls {
-        row.push(cluster_from(values, call))?;
-    }
-    Ok(row)
+    let shown = any_shows_in_vain(values, calls);
+    let pair = some_pair(alloc, numbers)?;
+    Ok(shown || pair)
 }
 
 // For each call whether it found a single value.
@@ -212,9 +238,11 @@ pub(crate) fn told_of_register(
         told,
         start: *start,
     };
-    let in_vain = any_in_vain(&values, calls);
-    let by = cluster_by_row(alloc, &values, calls)?;
-    let from = cluster_from_row(alloc, &values, calls)?;
+    let row = cluster_numbers_row(alloc, &values, calls)?;
+    let numbers = row.as_slice();
+    let in_vain = any_in_vain(alloc, &values, calls, numbers)?;
+    let by = by_of_each(alloc, numbers)?;
+    let from = from_of_each(alloc, numbers)?;
     Ok(KnownAhead {
         needs: NeedRows::new(by, from),
         taken: Vec::new(alloc),
