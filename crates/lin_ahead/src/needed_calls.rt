@@ -5,6 +5,7 @@ ghost use Rattle.lin_history.specs.Problems.Continuations.{has};
 ghost use Rattle.lin_ahead.specs.Behind.{NeedsBehind, CalledAfter, OthersCalledAfter, IsRightAhead};
 
 use crate::calls_in_turn::CallsInTurn;
+use crate::item_calls::BEYOND;
 use crate::look_ahead::KnownAhead;
 use lin_history::{NeedRows, Problem};
 use lin_object::SeqObject;
@@ -18,11 +19,14 @@ struct Needed {
     call: usize,
 }
 
-// The calls with these numbers, in the order of the numbers.
+// The calls that may be needed, by these numbers, in the order of the numbers. Those that are not are left out, so that little
+// is sorted where values are written one after another.
 fn in_order(alloc: Global, by: &[u64]) -> Result<Vec<Needed>, AllocError> {
     let mut order = Vec::with_capacity(alloc, by.len())?;
     for call in 0..by.len() {
-        order.push(Needed { by: by[call], call })?;
+        if by[call] < BEYOND {
+            order.push(Needed { by: by[call], call })?;
+        }
     }
     order.sort_by_key(|one| one.by)?;
     Ok(order)
@@ -35,7 +39,7 @@ pub(crate) fn needed_in_turn(alloc: Global, rows: &NeedRows) -> Result<CallsInTu
     for one in &needed {
         order.push(one.call)?;
     }
-    CallsInTurn::new(alloc, order, needed.len())
+    CallsInTurn::new(alloc, order, rows.by().len())
 }
 
 // Whether the call was called after the event.
