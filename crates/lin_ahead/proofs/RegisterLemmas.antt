@@ -90,7 +90,7 @@ step_tells w op back m r step k = absurd (no_step step)
 
 -- ---- lists of calls
 
-has_none : (n c : ℕ) → has (replicate n false) c ≡ false
+pub has_none : (n c : ℕ) → has (replicate n false) c ≡ false
 has_none zero c = refl
 has_none (suc n) zero = refl
 has_none (suc n) (suc c) = has_none n c

@@ -13,3 +13,4 @@ pub mod Held
 pub mod NeededPairs
 pub mod ValueCalls
 pub mod ToldOfRegister
+pub mod KeyValue

@@ -1,10 +1,11 @@
-//! What the calls of a queue or a register tell before any search, and a first search that goes by it (this project's own).
+//! What the calls of a queue, a register or one key of a map tell before any search, and a first search that goes by it (this project's own).
 //!
 //! - `item_calls`: what the calls on a queue tell of one item: how many put it in, and when it was taken out; `each_item`: the
 //!   same of each item, by one pass over the calls; `numbers`: the two numbers of a call.
 //! - `value_calls`: what the calls on a register tell of one value: how many may write it, and when those that wrote or found
 //!   it returned and were called; `each_value`: the same of each value, by one pass; `value_rows`: the rows of a register;
 //!   `needed_pairs`: two calls that need each other; `call_values`: the values of each call by numbers.
+//! - `key_value`: the calls of a map on one key, as calls of a register that holds the key's value.
 //! - `look_ahead`: what is known ahead of a whole problem.
 //! - `first_search`: a search that passes over calls that need one left out, that would take a reply which is owed to
 //!   another, or that would change a state which is held; `needed_calls`: the calls by how early they are needed;
@@ -22,6 +23,7 @@ mod first_answer;
 mod first_search;
 mod held_state;
 mod item_calls;
+mod key_value;
 mod look_ahead;
 mod needed_calls;
 mod needed_pairs;

@@ -1,25 +1,28 @@
-//! What the calls of a queue's or a register's problem tell before any search: which calls need which, which are owed their
+//! What the calls of a queue's, a register's or a map's problem tell before any search: which calls need which, which are owed their
 //! replies, and until which of them the state is held.
 
-ghost use Rattle.std.specs.Prelude.{◌≡◌, ◌↔◌, ◌⊎◌, ℤ, [], false, Some, IfOk, IfSome, IsSome, IsTrue};
+ghost use Rattle.std.specs.Prelude.{◌≡◌, ◌↔◌, ◌⊎◌, ℤ, [], false, Some, IfOk, IfSome, IsSome, IsTrue, map};
 ghost use Rattle.std.specs.Ordering.{int_eq};
 ghost use Rattle.indexmap.specs.IndexMap.{get};
-ghost use Rattle.lin_object.specs.declared.state.ObjState.TheVariants.{Queue, Register};
+ghost use Rattle.lin_object.specs.declared.state.ObjState.TheVariants.{Queue, Register, Map};
 ghost use Rattle.lin_ahead.specs.ItemCalls.{told, told_in, least_pending};
 ghost use Rattle.lin_ahead.specs.CallNumbers.{by_row, from_row};
 ghost use Rattle.lin_ahead.specs.Behind.{IsRightAhead};
 ghost use Rattle.lin_ahead.specs.ToldAhead.{once_row, taken_row, takers_from, IsToldAhead};
 ghost use Rattle.lin_ahead.specs.ToldOfRegister.{IsToldOfRegister};
+ghost use Rattle.lin_ahead.specs.declared.key_value.TheConstants.{NOTHING};
+ghost use Rattle.lin_ahead.specs.KeyValue.{call_on_value, of_one_key, on_value, AreRowsOf};
 ghost use Rattle.lin_ahead.specs.AnyProblem.{any_problem};
 
 use crate::call_values::ValueNumbers;
 use crate::each_item::told_by_calls;
 use crate::item_calls::{ItemCalls, least_pending};
+use crate::key_value::{NOTHING, calls_on_value, of_one_key};
 use crate::numbers::{by_of, from_of, is_taker, taken_of, took_once};
 use crate::value_rows::told_of_register;
 use indexmap::IndexMap;
 use lin_history::{NeedRows, Problem, ProblemCall};
-use lin_object::{AnyObject, Items, ObjState, Op, Reply};
+use lin_object::{AnyObject, Items, Kind, ObjState, Op, Reply, map_law, start_state};
 use std::alloc::{AllocError, Global};
 
 // Whether there is no item.
@@ -155,9 +158,34 @@ fn told_of_queue(alloc: Global, calls: &[ProblemCall<Op, Reply>]) -> Result<Know
     })
 }
 
+// Whether the state is that of an empty map.
+fn is_empty_map(alloc: Global, state: &ObjState) -> bool
+    ensures { IsTrue result ↔ (state.now ≡ Map []) }
+{
+    *state == start_state(alloc, Kind::Map, 0)
+}
+
+// What these calls tell, on an empty map, where all are on one key.
+fn told_of_key(
+    alloc: Global,
+    calls: &[ProblemCall<Op, Reply>],
+) -> Result<Option<KnownAhead>, AllocError>
+    ensures rows { IfOk result (λ known. IfSome known
+        (AreRowsOf NOTHING (map call_on_value calls.now))) }
+    ensures when { IfOk result (λ known. IsSome known ↔ IsTrue (of_one_key calls.now)) }
+{
+    if !of_one_key(calls) {
+        return Ok(None);
+    }
+    let start = NOTHING;
+    let on_value = calls_on_value(alloc, calls)?;
+    Ok(Some(told_of_register(alloc, &start, on_value.as_slice())?))
+}
+
 /// What is known of a problem before any search: of one that starts with an empty queue, or with a register, what its calls
-/// tell by real time, and all of that (as `IsToldAhead` and `IsToldOfRegister` say); `None` of every other problem.
-/// `AllocError` where memory was refused. (This project's own.)
+/// tell by real time, and all of that (as `IsToldAhead` and `IsToldOfRegister` say); of one that starts with an empty map and
+/// has calls on one key alone, what they tell as calls of a register that holds the key's value. `None` of every other
+/// problem. `AllocError` where memory was refused. (This project's own.)
 pub fn known_ahead(
     alloc: Global,
     problem: &Problem<AnyObject>,
@@ -169,13 +197,18 @@ pub fn known_ahead(
     ensures told_of_register { IfOk result (λ known. IfSome known (λ ahead. (v : ℤ)
         → problem.now.start ≡ Register v
         → IsToldOfRegister (any_problem problem.now) v ahead)) }
+    ensures told_of_key { IfOk result (λ known. IfSome known (λ ahead. problem.now.start ≡ Map []
+        → IsToldOfRegister (any_problem (on_value problem.now)) NOTHING ahead)) }
     ensures when { IfOk result (λ known. IsSome known
-        ↔ ((problem.now.start ≡ Queue []) ⊎ ((v : ℤ) × (problem.now.start ≡ Register v)))) }
+        ↔ ((problem.now.start ≡ Queue []) ⊎ (((v : ℤ) × (problem.now.start ≡ Register v))
+        ⊎ ((problem.now.start ≡ Map []) × IsTrue (of_one_key problem.now.calls))))) }
 {
+    map_law();
     let calls = problem.calls();
     match problem.start() {
         ObjState::Queue(items) if is_empty(items) => Ok(Some(told_of_queue(alloc, calls)?)),
         ObjState::Register(start) => Ok(Some(told_of_register(alloc, start, calls)?)),
+        ObjState::Map(_) if is_empty_map(alloc, problem.start()) => told_of_key(alloc, calls),
         _ => Ok(None),
     }
 }

@@ -81,7 +81,8 @@ fn full_answer(
     Ok(told_by(outcome))
 }
 
-// What searches of the part tell: a first search where something is known ahead, else one that keeps what it refuted.
+// What searches of the part tell: a first search where something is known ahead, and where that tells nothing, one that keeps
+// what it refuted.
 fn answer_to(
     alloc: Global,
     part: &Problem<AnyObject>,
@@ -89,9 +90,13 @@ fn answer_to(
 ) -> Result<PartAnswer, AllocError>
     ensures { IfOk result (IsAnswerTo (any_problem part.now)) }
 {
-    match known_ahead(alloc, part)? {
-        Some(ahead) => first_answer(alloc, part, &ahead, limit),
-        None => full_answer(alloc, part, limit),
+    let answer = match known_ahead(alloc, part)? {
+        Some(ahead) => first_answer(alloc, part, &ahead, limit)?,
+        None => PartAnswer::Unknown,
+    };
+    match answer {
+        PartAnswer::Unknown => full_answer(alloc, part, limit),
+        known => Ok(known),
     }
 }
 

@@ -1,7 +1,8 @@
 use Rattle.std.proofs.Common.{◌≡◌, [], rules}
-use Rattle.lin_object.specs.declared.state.ObjState.TheVariants.{Queue, Register}
+use Rattle.lin_object.specs.declared.state.ObjState.TheVariants.{Queue, Register, Map}
 use Rattle.lin_ahead.specs.AnyProblem.{any_problem}
 use Rattle.lin_ahead.proofs.AheadLemmas.{is_right, is_told}
+use Rattle.lin_ahead.proofs.KeyLemmas.{key_rights, key_tells}
 use Rattle.lin_ahead.proofs.VainLemmas.{register_right, register_told}
 use Rattle.lin_ahead.proofs.look_ahead.known_ahead.Goals as goal
 
@@ -31,3 +32,12 @@ returns-in_ok-told_of_register-in-Register-clause-told_of_register c =
     let start : c.args.problem.now.start ≡ Register c.in-Register.start = search rules in
     let tells = c.in_ok-told_of_register-in-Register.ensures in
     register_told c.args.problem.now c.in-Register.start start _ (rw c.calls-calls.ensures.calls at tells.by) (rw c.calls-calls.ensures.calls at tells.from) (rw c.calls-calls.ensures.calls at tells.held) (rw c.calls-calls.ensures.calls at tells.in_vain) tells.taken tells.takers tells.owed
+
+pub returns-in-Map-clause-right : goal.returns-in-Map-clause-right
+returns-in-Map-clause-right c =
+    let start : c.args.problem.now.start ≡ Map [] = search rules in
+    key_rights c.map_law.ensures c.args.problem.now start _ (rw c.calls-calls.ensures.calls at c.told_of_key.ensures.when) (rw c.calls-calls.ensures.calls at c.told_of_key.ensures.rows)
+
+pub returns-in-Map-clause-told_of_key : goal.returns-in-Map-clause-told_of_key
+returns-in-Map-clause-told_of_key c =
+    key_tells c.map_law.ensures c.args.problem.now _ (rw c.calls-calls.ensures.calls at c.told_of_key.ensures.rows)
