@@ -20,7 +20,7 @@ const FIRST_LIFTS: u64 = 3;
 
 // The most lifts of a search for each call of a part, and how many more. A part of a real history takes few; where one takes
 // more, the search of the whole decides.
-const LIFTS_FOR_A_CALL: u64 = 100;
+const LIFTS_FOR_A_CALL: u64 = 300;
 
 const MORE_LIFTS: u64 = 4_000;
 
