@@ -83,8 +83,12 @@ class Queue(Buffer):
     kind, put, take, end = "queue", "enq", "deq", 0
 
 
-class Backlog(Queue):
-    """A queue that is filled up to so many items and then emptied, again and again."""
+class Stack(Buffer):
+    kind, put, take, end = "stack", "push", "pop", -1
+
+
+class Filled:
+    """A buffer that is filled up to so many items and then emptied, again and again."""
 
     def __init__(self, most):
         super().__init__()
@@ -98,8 +102,12 @@ class Backlog(Queue):
         return (self.put, number) if self.is_filling else (self.take, None)
 
 
-class Stack(Buffer):
-    kind, put, take, end = "stack", "push", "pop", -1
+class FilledQueue(Filled, Queue):
+    pass
+
+
+class FilledStack(Filled, Stack):
+    pass
 
 
 def even(chance, keys):
@@ -291,8 +299,8 @@ def buffer_swapped(model):
     return lambda calls: lines("b", model.kind, with_swapped_results(simulated(model(), 6, calls), model.take))
 
 
-def backlog(most, stops=0):
-    return lambda calls: lines("b", Queue.kind, simulated(Backlog(most), 6 + stops, calls, stops))
+def backlog(model, most, processes=6, stops=0):
+    return lambda calls: lines("b", model.kind, simulated(model(most), processes + stops, calls, stops))
 
 
 def sequential(calls):
@@ -396,17 +404,23 @@ FAMILIES = {
     "queue": Family("a queue, 6 processes", "calls", CALLS, 0, buffer(Queue)),
     "queue_no": Family("the same, two results swapped", "calls", CALLS, 1, buffer_swapped(Queue)),
     **{
-        f"backlog_{most}": Family(f"a queue filled to {most} items and emptied, 6 processes", "calls", BACKLOG_CALLS, 0, backlog(most))
+        f"backlog_{most}": Family(f"a queue filled to {most} items and emptied, 6 processes", "calls", BACKLOG_CALLS, 0, backlog(FilledQueue, most))
         for most in (16, 32, 64, 128)
     },
     **{
         f"stopped_{stops}": Family(
-            f"the same with 64 items, and {stops} more that stop within a dequeue", "calls", BACKLOG_CALLS, 0, backlog(64, stops)
+            f"the same with 64 items, and {stops} more that stop within a dequeue", "calls", BACKLOG_CALLS, 0, backlog(FilledQueue, 64, stops=stops)
         )
         for stops in (1, 2, 4)
     },
     "stack": Family("a stack, 6 processes", "calls", CALLS, 0, buffer(Stack)),
     "stack_no": Family("the same, two results swapped", "calls", CALLS, 1, buffer_swapped(Stack)),
+    **{
+        f"stack_backlog_{most}": Family(
+            f"a stack filled to {most} items and emptied, {processes} processes", "calls", BACKLOG_CALLS, 0, backlog(FilledStack, most, processes)
+        )
+        for most, processes in ((16, 6), (64, 16), (128, 32))
+    },
     "map": Family("a map of 16 keys, 6 processes", "calls", CALLS, 0, maps),
     **{
         f"{model.kind}_{processes}_{keys}{'_skewed' if draw is skewed else ''}": Family(

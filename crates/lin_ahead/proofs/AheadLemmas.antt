@@ -22,6 +22,7 @@ use Rattle.lin_ahead.specs.declared.look_ahead.KnownAhead.{KnownAhead}
 use Rattle.lin_ahead.specs.Queue.{Puts, Took, OnlyPuts}
 use Rattle.lin_ahead.proofs.AnyLemmas.{of_any, reply_same, known}
 use Rattle.lin_ahead.proofs.ExactLemmas.{alone, below_takers, are_numbers}
+use Rattle.lin_ahead.proofs.LateLemmas.{nothing_late}
 use Rattle.lin_ahead.proofs.NumberLemmas.{taken_need}
 use Rattle.lin_ahead.proofs.QueueLemmas.{owed_item}
 use Rattle.lin_ahead.proofs.RowLemmas.{through, seen_through, by_row_is, bounds}
@@ -56,13 +57,13 @@ takes_once told (Lookup k) back e = absurd (cc)
 takes_once told (Delete k) back e = absurd (cc)
 
 -- a flagged call took an item that no two calls put in
-flagged_took : (p : Problem ObjState Op Reply) (c : ℕ) → slice_get (once_row (told p.calls) p.calls) c ≡ Some true → (v : ℤ) × Took p c v × PutOnce p v
+pub flagged_took : (p : Problem ObjState Op Reply) (c : ℕ) → slice_get (once_row (told p.calls) p.calls) c ≡ Some true → (v : ℤ) × Took p c v × PutOnce p v
 flagged_took p c e =
     let k = through (λ (x : ProblemCall Op Reply). took_once (told p.calls) x.op x.returned) p.calls c true e in
     let took = takes_once (told p.calls) k.0.op k.0.returned k.2 in
     (took.0, (k.0, k.1, took.2, (took.1, took.3)), λ a b x y. one_alone nothing_told p.calls took.0 refl took.4 a b x y)
 
-took_flagged : (p : Problem ObjState Op Reply) (a c : ℕ) (v : ℤ) → Puts p a v → OnlyPuts p a v → Took p c v → slice_get (once_row (told p.calls) p.calls) c ≡ Some true
+pub took_flagged : (p : Problem ObjState Op Reply) (a c : ℕ) (v : ℤ) → Puts p a v → OnlyPuts p a v → Took p c v → slice_get (once_row (told p.calls) p.calls) c ≡ Some true
 took_flagged p a c v puts only took =
     let x = took.0 in
     let once : took_once (told p.calls) x.op x.returned ≡ true = rw (took.2, took.3.1) (alone p a v puts only) in
@@ -209,11 +210,12 @@ module _ {Object : Type 0} (p : ProblemParts Object ObjState Op Reply) where
       go x is (Lookup k) e f = absurd (omega (arith, below, f))
       go x is (Delete k) e f = absurd (omega (arith, below, f))
 
-  pub is_right : p.start ≡ Queue [] → AreTimed p.calls → (ahead : KnownAhead) → ahead.needs.by ≡ by_row (told p.calls) p.calls → ahead.needs.from ≡ from_row (told p.calls) (least_pending p.calls) p.calls → ahead.taken.items ≡ taken_row (told p.calls) p.calls → ahead.takers.items ≡ takers_from 0 p.calls → ahead.owed.items ≡ once_row (told p.calls) p.calls → ahead.held.items ≡ [] → ahead.in_vain ≡ false → IsRightAhead (any_problem p) ahead
-  is_right start timed ahead bys froms taken takers owed held in_vain = record {
+  pub is_right : p.start ≡ Queue [] → AreTimed p.calls → (ahead : KnownAhead) → ahead.needs.by ≡ by_row (told p.calls) p.calls → ahead.needs.from ≡ from_row (told p.calls) (least_pending p.calls) p.calls → ahead.taken.items ≡ taken_row (told p.calls) p.calls → ahead.takers.items ≡ takers_from 0 p.calls → ahead.owed.items ≡ once_row (told p.calls) p.calls → ahead.held.items ≡ [] → ahead.in_vain ≡ false → ahead.late.from.items ≡ [] → IsRightAhead (any_problem p) ahead
+  is_right start timed ahead bys froms taken takers owed held in_vain late = record {
     needs = (let k = known p ahead.needs start timed bys froms in record { each_by = k.each_by; each_from = k.each_from; needed = λ a b m n there here below other. k.needed a b m n there here below });
     behind = rw (bys, taken, takers) (are_behind start timed);
     owed = rw owed (are_owed start);
     held = rw held (λ g e. absurd (cc));
     in_vain = λ e. absurd (cc);
+    late = nothing_late (any_problem p) ahead.late late;
   }

@@ -8,6 +8,7 @@ use Rattle.lin_history.specs.Problems.Needs.{NeedNumbers, Needs}
 use Rattle.lin_ahead.specs.declared.look_ahead.KnownAhead.{KnownAhead}
 use Rattle.lin_ahead.specs.Owed.{AreOwed}
 use Rattle.lin_ahead.specs.Held.{AreHeldUntil}
+use Rattle.lin_ahead.specs.Late.{NoneIsLate}
 
 -- Call b needs call a behind the set: wherever b stands in a linearization, with no call of the set behind it, a stands before it.
 abbrev pub NeedsBehind : {State Op Reply : Type 0} → Problem State Op Reply → List Bool → ℕ → ℕ → Type 0
@@ -38,4 +39,5 @@ pub record IsRightAhead {State Op Reply : Type 0} (p : Problem State Op Reply) (
   pub behind : AreNeedsBehind p ahead.needs.by ahead.taken.items ahead.takers.items
   pub owed : AreOwed p ahead.owed.items
   pub held : AreHeldUntil p ahead.held.items
+  pub late : NoneIsLate p ahead.late
   pub in_vain : IsTrue ahead.in_vain → (l : List ℕ) → IsLinearization p l → ⊥

@@ -84,3 +84,4 @@ pub record AreRowsOf (start : ℤ) (calls : List (ProblemCall Op Reply)) (ahead 
   pub taken : ahead.taken.items ≡ []
   pub takers : ahead.takers.items ≡ []
   pub owed : ahead.owed.items ≡ []
+  pub late : ahead.late.from.items ≡ []

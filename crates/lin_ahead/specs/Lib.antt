@@ -14,3 +14,6 @@ pub mod NeededPairs
 pub mod ValueCalls
 pub mod ToldOfRegister
 pub mod KeyValue
+pub mod Stack
+pub mod ToldOfStack
+pub mod Late

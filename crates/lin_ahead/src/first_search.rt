@@ -18,10 +18,12 @@ use crate::calls_in_turn::CallsInTurn;
 use crate::finders::Finders;
 use crate::first_answer::FirstAnswer;
 use crate::held_state::held_until;
+use crate::late_pushes::is_late;
 use crate::look_ahead::KnownAhead;
 use crate::needed_calls::{left_out, needed_in_turn};
 use crate::owed_replies::{is_owed, owed_in_turn, pending_answer};
 use crate::refuted_set::RefutedSet;
+use crate::stack_hints::StackHints;
 use lin_history::{Order, Problem};
 use lin_object::{SeqObject, lawful};
 use lin_search::{Config, Frame, Longest, Path};
@@ -38,6 +40,7 @@ struct FirstSearch<'p, O: SeqObject> {
     needed: CallsInTurn,
     owed: CallsInTurn,
     held: Finders,
+    stack: StackHints,
     lifts: u64,
 }
 
@@ -73,6 +76,7 @@ impl<'p, O: SeqObject> FirstSearch<'p, O> {
         self.needed.unlifted(frame.call());
         self.owed.unlifted(frame.call());
         self.held.unlifted(frame.call());
+        self.stack.unlifted(frame.call());
         Ok(self.path.after(frame.call(), Longest::none()).candidate)
     }
 
@@ -91,6 +95,7 @@ impl<'p, O: SeqObject> FirstSearch<'p, O> {
             self.new.path.entries.lifted self.new.path.frames.items self.new.path.config) }
     {
         self.held.lifted(self.path.config(), frame.call());
+        self.stack.lifted(self.path.config(), frame.call());
         if self.refuted.has(self.path.config()) {
             let mut left = frame;
             let next = self.leave(&mut left)?;
@@ -149,8 +154,23 @@ impl<'p, O: SeqObject> FirstSearch<'p, O> {
         }
     }
 
-    // Whether the call, which is minimal, is known to begin no completion: it needs one that is not lifted, or would take a
-    // reply that is owed to another.
+    // Whether the call is known to be a push that is too late.
+    fn comes_too_late(&self, ahead: &KnownAhead, call: usize) -> bool
+        requires ahead { IsRightAhead (problem_of O.after O.State.eq O.Reply.eq
+            self.now.path.entries.problem) ahead.now }
+        requires reachable { IsReachable (problem_of O.after O.State.eq O.Reply.eq
+            self.now.path.entries.problem) self.now.path.config.lifted self.now.path.config.state }
+        ensures { IsTrue result → BeginsNone
+            (problem_of O.after O.State.eq O.Reply.eq self.now.path.entries.problem)
+            self.now.path.config.lifted self.now.path.config.state call }
+    {
+        lawful::<O>();
+        let problem = self.path.problem();
+        is_late(problem, &ahead.late, &self.stack, self.path.config(), call)
+    }
+
+    // Whether the call, which is minimal, is known to begin no completion: it needs one that is not lifted, is a push that is
+    // too late, or would take a reply that is owed to another.
     fn begins_none(&self, ahead: &KnownAhead, call: usize) -> Result<bool, AllocError>
         requires ahead { IsRightAhead (problem_of O.after O.State.eq O.Reply.eq
             self.now.path.entries.problem) ahead.now }
@@ -163,6 +183,9 @@ impl<'p, O: SeqObject> FirstSearch<'p, O> {
         lawful::<O>();
         let config = self.path.config();
         if left_out(self.path.problem(), ahead, &self.needed, config, call).is_some() {
+            return Ok(true);
+        }
+        if self.comes_too_late(ahead, call) {
             return Ok(true);
         }
         self.takes_what_is_owed(ahead, call)
@@ -387,7 +410,7 @@ impl<'p, O: SeqObject> FirstSearch<'p, O> {
 
 /// The search from the root that only asks whether there is a linearization, and for the least one (this project's
 /// own). It makes at most so many lifts. It passes over each call that needs one that is not lifted, before a state is made,
-/// and each pending call that would get a reply which is owed to another; and it keeps of a refuted configuration only that
+/// each push that is known to be too late, and each pending call that would get a reply which is owed to another; and it keeps of a refuted configuration only that
 /// it is refuted. So it may meet far fewer configurations than `search`, and what it keeps is of no use to that one.
 ///
 /// `Found` with the least linearization; `Refuted` where there is none; `Exhausted` where as many lifts were made and
@@ -419,6 +442,7 @@ pub fn search_first<O: SeqObject>(
         needed: needed_in_turn(alloc, &ahead.needs)?,
         owed: owed_in_turn(alloc, ahead.owed.as_slice())?,
         held: Finders::new(alloc, &ahead.values)?,
+        stack: StackHints::new(alloc, problem, &ahead.late)?,
         lifts: 0,
     };
     search.go(ahead, lifts)

@@ -1,4 +1,5 @@
-//! What the calls of a queue, a register or one key of a map tell before any search, and a first search that goes by it (this project's own).
+//! What the calls of a queue, a stack, a register or one key of a map tell before any search, and a first search that goes by it
+//! (this project's own).
 //!
 //! - `item_calls`: what the calls on a queue tell of one item: how many put it in, and when it was taken out; `each_item`: the
 //!   same of each item, by one pass over the calls; `numbers`: the two numbers of a call.
@@ -6,10 +7,12 @@
 //!   it returned and were called; `each_value`: the same of each value, by one pass; `value_rows`: the rows of a register;
 //!   `needed_pairs`: two calls that need each other; `call_values`: the values of each call by numbers.
 //! - `key_value`: the calls of a map on one key, as calls of a register that holds the key's value.
+//! - `stack_rows`: the rows of a stack, whose calls are read as those on a queue.
 //! - `look_ahead`: what is known ahead of a whole problem.
 //! - `first_search`: a search that passes over calls that need one left out, that would take a reply which is owed to
-//!   another, or that would change a state which is held; `needed_calls`: the calls by how early they are needed;
+//!   another, that are too late, or that would change a state which is held; `needed_calls`: the calls by how early they are needed;
 //!   `owed_replies`: the replies that are owed; `calls_in_turn`: calls in an order, and the first that is not lifted;
+//!   `late_pushes`: pushes that are too late, by the pushes that must lie above them; `stack_hints`: which of those to ask of;
 //!   `held_state`: calls until which the state is held; `finders`: the calls that found each value, in turn; `refuted_set`:
 //!   what it has refuted; `first_answer`: what it answers.
 #![tactic(auto)]
@@ -24,15 +27,19 @@ mod first_search;
 mod held_state;
 mod item_calls;
 mod key_value;
+mod late_pushes;
 mod look_ahead;
 mod needed_calls;
 mod needed_pairs;
 mod numbers;
 mod owed_replies;
 mod refuted_set;
+mod stack_hints;
+mod stack_rows;
 mod value_calls;
 mod value_rows;
 
 pub use first_answer::FirstAnswer;
 pub use first_search::search_first;
+pub use late_pushes::LateRows;
 pub use look_ahead::{KnownAhead, known_ahead};

@@ -1,10 +1,10 @@
-//! What the calls of a queue's, a register's or a map's problem tell before any search: which calls need which, which are owed their
-//! replies, and until which of them the state is held.
+//! What the calls of a queue's, a stack's, a register's or a map's problem tell before any search: which calls need which, which
+//! are owed their replies, which are too late, and until which of them the state is held.
 
 ghost use Rattle.std.specs.Prelude.{◌≡◌, ◌↔◌, ◌⊎◌, ℤ, [], false, Some, IfOk, IfSome, IsSome, IsTrue, map};
 ghost use Rattle.std.specs.Ordering.{int_eq};
 ghost use Rattle.indexmap.specs.IndexMap.{get};
-ghost use Rattle.lin_object.specs.declared.state.ObjState.TheVariants.{Queue, Register, Map};
+ghost use Rattle.lin_object.specs.declared.state.ObjState.TheVariants.{Queue, Register, Stack, Map};
 ghost use Rattle.lin_ahead.specs.ItemCalls.{told, told_in, least_pending};
 ghost use Rattle.lin_ahead.specs.CallNumbers.{by_row, from_row};
 ghost use Rattle.lin_ahead.specs.Behind.{IsRightAhead};
@@ -12,13 +12,16 @@ ghost use Rattle.lin_ahead.specs.ToldAhead.{once_row, taken_row, takers_from, Is
 ghost use Rattle.lin_ahead.specs.ToldOfRegister.{IsToldOfRegister};
 ghost use Rattle.lin_ahead.specs.declared.key_value.TheConstants.{NOTHING};
 ghost use Rattle.lin_ahead.specs.KeyValue.{call_on_value, of_one_key, on_value, AreRowsOf};
+ghost use Rattle.lin_ahead.specs.ToldOfStack.{IsToldOfStack};
 ghost use Rattle.lin_ahead.specs.AnyProblem.{any_problem};
 
 use crate::call_values::ValueNumbers;
 use crate::each_item::told_by_calls;
 use crate::item_calls::{ItemCalls, least_pending};
 use crate::key_value::{NOTHING, calls_on_value, of_one_key};
+use crate::late_pushes::LateRows;
 use crate::numbers::{by_of, from_of, is_taker, taken_of, took_once};
+use crate::stack_rows::told_of_stack;
 use crate::value_rows::told_of_register;
 use indexmap::IndexMap;
 use lin_history::{NeedRows, Problem, ProblemCall};
@@ -47,8 +50,8 @@ fn by_row(
     Ok(row)
 }
 
-// For each call the event up to which it needs others.
-fn from_row(
+/// For each call the event up to which it needs others.
+pub(crate) fn from_row(
     alloc: Global,
     items: &IndexMap<i64, ItemCalls>,
     calls: &[ProblemCall<Op, Reply>],
@@ -64,8 +67,8 @@ fn from_row(
     Ok(row)
 }
 
-// For each call whether it took an item that goes in once.
-fn once_row(
+/// For each call whether it took an item that goes in once.
+pub(crate) fn once_row(
     alloc: Global,
     items: &IndexMap<i64, ItemCalls>,
     calls: &[ProblemCall<Op, Reply>],
@@ -129,6 +132,8 @@ pub struct KnownAhead {
     pub in_vain: bool,
     /// The values of each call, by which a search finds one that has this flag.
     pub values: ValueNumbers,
+    /// What is known of each call on a stack, by which a search finds pushes that are too late.
+    pub late: LateRows,
 }
 
 // What these calls tell, on a queue that starts empty.
@@ -143,6 +148,7 @@ fn told_of_queue(alloc: Global, calls: &[ProblemCall<Op, Reply>]) -> Result<Know
         ≡ once_row (told calls.now) calls.now) }
     ensures held { IfOk result (λ ahead. ahead.held.items ≡ []) }
     ensures in_vain { IfOk result (λ ahead. ahead.in_vain ≡ false) }
+    ensures late { IfOk result (λ ahead. ahead.late.from.items ≡ []) }
 {
     let items = told_by_calls(alloc, calls)?;
     let by = by_row(alloc, &items, calls)?;
@@ -155,6 +161,7 @@ fn told_of_queue(alloc: Global, calls: &[ProblemCall<Op, Reply>]) -> Result<Know
         held: Vec::new(alloc),
         in_vain: false,
         values: ValueNumbers::none(alloc),
+        late: LateRows::none(alloc),
     })
 }
 
@@ -182,10 +189,10 @@ fn told_of_key(
     Ok(Some(told_of_register(alloc, &start, on_value.as_slice())?))
 }
 
-/// What is known of a problem before any search: of one that starts with an empty queue, or with a register, what its calls
-/// tell by real time, and all of that (as `IsToldAhead` and `IsToldOfRegister` say); of one that starts with an empty map and
-/// has calls on one key alone, what they tell as calls of a register that holds the key's value. `None` of every other
-/// problem. `AllocError` where memory was refused. (This project's own.)
+/// What is known of a problem before any search: of one that starts with an empty queue, an empty stack, or with a register,
+/// what its calls tell by real time, and all of that (as `IsToldAhead`, `IsToldOfStack` and `IsToldOfRegister` say); of one that
+/// starts with an empty map and has calls on one key alone, what they tell as calls of a register that holds the key's value.
+/// `None` of every other problem. `AllocError` where memory was refused. (This project's own.)
 pub fn known_ahead(
     alloc: Global,
     problem: &Problem<AnyObject>,
@@ -199,14 +206,18 @@ pub fn known_ahead(
         → IsToldOfRegister (any_problem problem.now) v ahead)) }
     ensures told_of_key { IfOk result (λ known. IfSome known (λ ahead. problem.now.start ≡ Map []
         → IsToldOfRegister (any_problem (on_value problem.now)) NOTHING ahead)) }
+    ensures told_of_stack { IfOk result (λ known. IfSome known (λ ahead. problem.now.start
+        ≡ Stack [] → IsToldOfStack (any_problem problem.now) ahead)) }
     ensures when { IfOk result (λ known. IsSome known
-        ↔ ((problem.now.start ≡ Queue []) ⊎ (((v : ℤ) × (problem.now.start ≡ Register v))
-        ⊎ ((problem.now.start ≡ Map []) × IsTrue (of_one_key problem.now.calls))))) }
+        ↔ ((problem.now.start ≡ Queue []) ⊎ ((problem.now.start ≡ Stack [])
+        ⊎ (((v : ℤ) × (problem.now.start ≡ Register v))
+        ⊎ ((problem.now.start ≡ Map []) × IsTrue (of_one_key problem.now.calls)))))) }
 {
     map_law();
     let calls = problem.calls();
     match problem.start() {
         ObjState::Queue(items) if is_empty(items) => Ok(Some(told_of_queue(alloc, calls)?)),
+        ObjState::Stack(items) if is_empty(items) => Ok(Some(told_of_stack(alloc, calls)?)),
         ObjState::Register(start) => Ok(Some(told_of_register(alloc, start, calls)?)),
         ObjState::Map(_) if is_empty_map(alloc, problem.start()) => told_of_key(alloc, calls),
         _ => Ok(None),

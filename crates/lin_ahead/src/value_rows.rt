@@ -11,6 +11,7 @@ ghost use Rattle.lin_ahead.specs.ValueCalls.{value_in, value_told, single_by, cl
 use crate::call_values::{CallValues, ValueNumbers};
 use crate::each_value::{told_of_value, values_told};
 use crate::item_calls::BEYOND;
+use crate::late_pushes::LateRows;
 use crate::look_ahead::KnownAhead;
 use crate::needed_pairs::{CallNumbers, some_pair};
 use crate::value_calls::{ValueCalls, value_found, value_written};
@@ -232,6 +233,7 @@ pub(crate) fn told_of_register(
     ensures taken { IfOk result (λ ahead. ahead.taken.items ≡ []) }
     ensures takers { IfOk result (λ ahead. ahead.takers.items ≡ []) }
     ensures owed { IfOk result (λ ahead. ahead.owed.items ≡ []) }
+    ensures late { IfOk result (λ ahead. ahead.late.from.items ≡ []) }
 {
     let told = values_told(alloc, calls)?;
     let values = Values {
@@ -251,5 +253,6 @@ pub(crate) fn told_of_register(
         held: found_single_row(alloc, &values, calls)?,
         in_vain,
         values: value_numbers(alloc, &values, calls)?,
+        late: LateRows::none(alloc),
     })
 }

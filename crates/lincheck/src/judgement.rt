@@ -186,7 +186,7 @@ fn options_here<R: Threads, G: Gate>(rt: &R, options: &Options, gate: &G) -> Opt
 /// Checks a history. Its objects are searched in the order of declaration, each as `check_object` does with these options;
 /// the first that has no linearization, or that is not decided within the limit, ends the check. Unless the gate
 /// wants workers, a map or a set is searched by key before that (`search_by_key`), and of an object of which something is known
-/// ahead, a queue that starts empty or a register, a first search is made (`search_first`); where that finds the order,
+/// ahead, a queue or a stack that starts empty or a register, a first search is made (`search_first`); where that finds the order,
 /// nothing is stored for the object. No more workers are started than the machine has cores for the program, however many the
 /// options say, unless the gate wants workers.
 ///

@@ -1,7 +1,9 @@
 use Rattle.std.proofs.Common.{◌≡◌, [], rules}
-use Rattle.lin_object.specs.declared.state.ObjState.TheVariants.{Queue, Register, Map}
+use Rattle.lin_object.specs.declared.state.ObjState.TheVariants.{Queue, Register, Stack, Map}
 use Rattle.lin_ahead.specs.AnyProblem.{any_problem}
 use Rattle.lin_ahead.proofs.AheadLemmas.{is_right, is_told}
+use Rattle.lin_ahead.proofs.StackLateLemmas.{stack_right}
+use Rattle.lin_ahead.proofs.StackRowLemmas.{stack_told}
 use Rattle.lin_ahead.proofs.KeyLemmas.{key_rights, key_tells}
 use Rattle.lin_ahead.proofs.VainLemmas.{register_right, register_told}
 use Rattle.lin_ahead.proofs.look_ahead.known_ahead.Goals as goal
@@ -11,7 +13,7 @@ pub returns-in_ok-told_of_queue-in-Queue-clause-right :
 returns-in_ok-told_of_queue-in-Queue-clause-right c =
     let start : c.args.problem.now.start ≡ Queue [] = search rules in
     let tells = c.in_ok-told_of_queue-in-Queue.ensures in
-    is_right c.args.problem.now start c.calls-calls.ensures.timed _ (rw c.calls-calls.ensures.calls at tells.by) (rw c.calls-calls.ensures.calls at tells.from) (rw c.calls-calls.ensures.calls at tells.taken) (rw c.calls-calls.ensures.calls at tells.takers) (rw c.calls-calls.ensures.calls at tells.owed) tells.held tells.in_vain
+    is_right c.args.problem.now start c.calls-calls.ensures.timed _ (rw c.calls-calls.ensures.calls at tells.by) (rw c.calls-calls.ensures.calls at tells.from) (rw c.calls-calls.ensures.calls at tells.taken) (rw c.calls-calls.ensures.calls at tells.takers) (rw c.calls-calls.ensures.calls at tells.owed) tells.held tells.in_vain tells.late
 
 pub returns-in_ok-told_of_queue-in-Queue-clause-told :
     goal.returns-in_ok-told_of_queue-in-Queue-clause-told
@@ -24,7 +26,7 @@ pub returns-in_ok-told_of_register-in-Register-clause-right :
 returns-in_ok-told_of_register-in-Register-clause-right c =
     let start : c.args.problem.now.start ≡ Register c.in-Register.start = search rules in
     let tells = c.in_ok-told_of_register-in-Register.ensures in
-    register_right c.args.problem.now c.in-Register.start start _ (rw c.calls-calls.ensures.calls at tells.by) (rw c.calls-calls.ensures.calls at tells.from) (rw c.calls-calls.ensures.calls at tells.held) (rw c.calls-calls.ensures.calls at tells.in_vain) tells.taken tells.takers tells.owed
+    register_right c.args.problem.now c.in-Register.start start _ (rw c.calls-calls.ensures.calls at tells.by) (rw c.calls-calls.ensures.calls at tells.from) (rw c.calls-calls.ensures.calls at tells.held) (rw c.calls-calls.ensures.calls at tells.in_vain) tells.taken tells.takers tells.owed tells.late
 
 pub returns-in_ok-told_of_register-in-Register-clause-told_of_register :
     goal.returns-in_ok-told_of_register-in-Register-clause-told_of_register
@@ -32,6 +34,19 @@ returns-in_ok-told_of_register-in-Register-clause-told_of_register c =
     let start : c.args.problem.now.start ≡ Register c.in-Register.start = search rules in
     let tells = c.in_ok-told_of_register-in-Register.ensures in
     register_told c.args.problem.now c.in-Register.start start _ (rw c.calls-calls.ensures.calls at tells.by) (rw c.calls-calls.ensures.calls at tells.from) (rw c.calls-calls.ensures.calls at tells.held) (rw c.calls-calls.ensures.calls at tells.in_vain) tells.taken tells.takers tells.owed
+
+pub returns-in_ok-told_of_stack-in-Stack-clause-right :
+    goal.returns-in_ok-told_of_stack-in-Stack-clause-right
+returns-in_ok-told_of_stack-in-Stack-clause-right c =
+    let start : c.args.problem.now.start ≡ Stack [] = search rules in
+    let tells = c.in_ok-told_of_stack-in-Stack.ensures in
+    stack_right c.args.problem.now start _ (rw c.calls-calls.ensures.calls at tells.by) (rw c.calls-calls.ensures.calls at tells.from) tells.taken tells.takers (rw c.calls-calls.ensures.calls at tells.owed) tells.held tells.in_vain (rw c.calls-calls.ensures.calls at tells.late) c.calls-calls.ensures.timed
+
+pub returns-in_ok-told_of_stack-in-Stack-clause-told_of_stack :
+    goal.returns-in_ok-told_of_stack-in-Stack-clause-told_of_stack
+returns-in_ok-told_of_stack-in-Stack-clause-told_of_stack c = λ start.
+    (let tells = c.in_ok-told_of_stack-in-Stack.ensures in
+    stack_told (any_problem c.args.problem.now) _ (rw c.calls-calls.ensures.calls at tells.from) tells.taken tells.takers (rw c.calls-calls.ensures.calls at tells.owed) tells.held tells.in_vain (rw c.calls-calls.ensures.calls at tells.late))
 
 pub returns-in-Map-clause-right : goal.returns-in-Map-clause-right
 returns-in-Map-clause-right c =

@@ -1,0 +1,191 @@
+//! What a search of a stack goes by: the pushes and the empty answers that are left, and what lies on the stack. All of it is a
+//! hint.
+
+use crate::calls_in_turn::CallsInTurn;
+use crate::item_calls::BEYOND;
+use crate::late_pushes::LateRows;
+use lin_history::Problem;
+use lin_object::SeqObject;
+use lin_search::Config;
+use std::alloc::{AllocError, Global};
+
+// A push as it lies on the stack.
+#[derive(Clone, Copy, Debug)]
+struct Lying {
+    // When the call returned that popped its item; beyond all events where that is not known, or the call is no push.
+    popped: u64,
+    // The push whose item lies under its own.
+    under: Option<usize>,
+    // Of the push and those under it, the one whose item is popped first.
+    first_popped: Option<usize>,
+}
+
+/// The calls on a stack that are left, by their returns, and the pushes whose items lie on it.
+#[derive(Drop)]
+pub(crate) struct StackHints {
+    pushes: CallsInTurn,
+    empties: CallsInTurn,
+    is_push: Vec<bool>,
+    lying: Vec<Lying>,
+    // What lay on top before it, of each call that is lifted and no push.
+    before: Vec<Option<usize>>,
+    top: Option<usize>,
+}
+
+// A call, and when it returned.
+#[derive(Clone, Copy, Drop)]
+struct Returned {
+    event: u64,
+    call: usize,
+}
+
+// When the call returned; beyond all events where it did not.
+fn returned_at<O: SeqObject>(problem: &Problem<O>, call: usize) -> u64 {
+    if call >= problem.len() {
+        return BEYOND;
+    }
+    match &problem.call(call).returned {
+        Some((number, _)) => u64::from(*number),
+        None => BEYOND,
+    }
+}
+
+// The completed calls with a flag, in the order of their returns.
+fn by_returns<O: SeqObject>(
+    alloc: Global,
+    problem: &Problem<O>,
+    flags: &[bool],
+) -> Result<CallsInTurn, AllocError> {
+    let mut returned = Vec::new(alloc);
+    for call in 0..flags.len() {
+        let event = returned_at(problem, call);
+        if flags[call] && event < BEYOND {
+            returned.push(Returned { event, call })?;
+        }
+    }
+    returned.sort_by_key(|one| one.event)?;
+    let mut order = Vec::with_capacity(alloc, returned.len())?;
+    for one in &returned {
+        order.push(one.call)?;
+    }
+    CallsInTurn::new(alloc, order, flags.len())
+}
+
+// For each call whether it is a push.
+fn push_flags(alloc: Global, late: &LateRows) -> Result<Vec<bool>, AllocError> {
+    let mut flags = Vec::with_capacity(alloc, late.from.len())?;
+    for from in &late.from {
+        flags.push(0 < *from)?;
+    }
+    Ok(flags)
+}
+
+// Each push before any is lifted.
+fn lying_of<O: SeqObject>(
+    alloc: Global,
+    problem: &Problem<O>,
+    late: &LateRows,
+) -> Result<Vec<Lying>, AllocError> {
+    let mut lying = Vec::with_capacity(alloc, late.poppers.len())?;
+    for popper in &late.poppers {
+        let popped = match popper {
+            Some(call) => returned_at(problem, *call),
+            None => BEYOND,
+        };
+        lying.push(Lying {
+            popped,
+            under: None,
+            first_popped: None,
+        })?;
+    }
+    Ok(lying)
+}
+
+impl StackHints {
+    // Those of a problem none of whose calls is lifted.
+    pub(crate) fn new<O: SeqObject>(
+        alloc: Global,
+        problem: &Problem<O>,
+        late: &LateRows,
+    ) -> Result<Self, AllocError> {
+        let is_push = push_flags(alloc, late)?;
+        Ok(StackHints {
+            pushes: by_returns(alloc, problem, is_push.as_slice())?,
+            empties: by_returns(alloc, problem, late.found_empty.as_slice())?,
+            lying: lying_of(alloc, problem, late)?,
+            before: vec![in alloc; None; is_push.len()]?,
+            is_push,
+            top: None,
+        })
+    }
+
+    // When the item of the push is popped.
+    fn popped_of(&self, push: usize) -> u64 {
+        match self.lying.get(push) {
+            Some(lying) => lying.popped,
+            None => BEYOND,
+        }
+    }
+
+    // Of the pushes whose items lie on the stack, the one whose item is popped first.
+    pub(crate) fn first_popped(&self) -> Option<usize> {
+        self.lying.get(self.top?)?.first_popped
+    }
+
+    // The first call that found the stack empty and is not lifted.
+    pub(crate) fn first_empty(&self) -> Option<usize> {
+        self.empties.ahead(0)
+    }
+
+    // The completed push that is so many behind the first that is not lifted.
+    pub(crate) fn push_ahead(&self, count: usize) -> Option<usize> {
+        self.pushes.ahead(count)
+    }
+
+    // Puts the item of the push on top.
+    fn put_on(&mut self, push: usize) {
+        let under = self.top;
+        let first_popped = match self.first_popped() {
+            Some(other) if self.popped_of(other) < self.popped_of(push) => other,
+            _ => push,
+        };
+        if let Some(lying) = self.lying.get_mut(push) {
+            lying.under = under;
+            lying.first_popped = Some(first_popped);
+        }
+        self.top = Some(push);
+    }
+
+    // The push whose item lies under that of the top.
+    fn under_top(&self) -> Option<usize> {
+        self.lying.get(self.top?)?.under
+    }
+
+    // Whether the call is a push.
+    fn is_push(&self, call: usize) -> bool {
+        matches!(self.is_push.get(call), Some(true))
+    }
+
+    // Goes on after the call, which is lifted now.
+    pub(crate) fn lifted<O: SeqObject>(&mut self, config: &Config<O>, call: usize) {
+        if self.is_push(call) {
+            self.put_on(call);
+        } else if let Some(before) = self.before.get_mut(call) {
+            *before = self.top;
+            self.top = self.under_top();
+        }
+        self.pushes.lifted(config);
+        self.empties.lifted(config);
+    }
+
+    // Goes back to before the call, which was taken out again.
+    pub(crate) fn unlifted(&mut self, call: usize) {
+        if self.is_push(call) {
+            self.top = self.under_top();
+        } else if let Some(before) = self.before.get(call) {
+            self.top = *before;
+        }
+        self.pushes.unlifted(call);
+        self.empties.unlifted(call);
+    }
+}
