@@ -18,4 +18,5 @@ returns-clause-rows c =
       taken = tells.taken;
       takers = tells.takers;
       owed = tells.owed;
+      late = tells.late;
     })
