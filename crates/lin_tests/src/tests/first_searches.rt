@@ -25,9 +25,9 @@ fn first_is_as_plain(alloc: Global, problem: &Part) -> Result<bool, AllocError> 
     Ok(is_as_plain(&first, &plainly_searched(alloc, problem)?))
 }
 
-// The same of a random history of a queue.
-fn first_is_as_plain_on(alloc: Global, seed: u64) -> Result<bool, AllocError> {
-    let history = random_history(alloc, Kind::Queue, seed);
+// The same of a random history of an object of this kind.
+fn first_is_as_plain_on(alloc: Global, kind: Kind, seed: u64) -> Result<bool, AllocError> {
+    let history = random_history(alloc, kind, seed);
     if history.object_count() == 0 {
         return Ok(false);
     }
@@ -37,6 +37,7 @@ fn first_is_as_plain_on(alloc: Global, seed: u64) -> Result<bool, AllocError> {
 #[test]
 fn first_search_answers_as_the_plain_search(rt: HostRuntime) {
     for seed in 0..200 {
-        assert!(rt; matches!(first_is_as_plain_on(rt.alloc(), seed), Ok(true)));
+        assert!(rt; matches!(first_is_as_plain_on(rt.alloc(), Kind::Queue, seed), Ok(true)));
+        assert!(rt; matches!(first_is_as_plain_on(rt.alloc(), Kind::Stack, seed), Ok(true)));
     }
 }
