@@ -1,13 +1,12 @@
 -- Pushes that are too late begin no completion of a reachable configuration; and how a chain of pushes grows.
-use Rattle.std.proofs.Common.{◌≡◌, ℕ, ◌<◌, Bool, true, false, Option, Some, None, List, [], ◌∷◌, ◌++◌, ◌⊎◌, inl, inr, refl, sym, subst, arith}
+use Rattle.std.proofs.Common.{◌≡◌, ℕ, ◌<◌, Bool, Option, Some, None, List, [], ◌∷◌, ◌++◌, ◌⊎◌, inl, inr, refl, sym, subst, arith}
 use Rattle.std.specs.Prelude.{slice_get, IfSome}
 use Rattle.lin_history.specs.Problems.Problem.{Problem}
-use Rattle.lin_history.specs.Problems.Continuations.{has}
 use Rattle.lin_history.specs.Problems.Configurations.{IsReachable}
 use Rattle.lin_search.specs.AlikeLemmas.{AreAlike}
 use Rattle.lin_ahead.specs.declared.late_pushes.LateRows.{LateRows}
 use Rattle.lin_ahead.specs.FirstProgress.{BeginsNone}
-use Rattle.lin_ahead.specs.Late.{ReturnsOutside, LeadsBeyond, IsHeldTo, Grows, IsDeadline, IsLate, NoneIsLate}
+use Rattle.lin_ahead.specs.Late.{LeadsBeyond, IsHeldTo, Grows, IsDeadline, IsLate, NoneIsLate}
 use Rattle.lin_ahead.proofs.NeedsLemmas.{joined}
 
 -- a value that there may be, of which more is known

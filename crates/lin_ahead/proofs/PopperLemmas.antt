@@ -1,5 +1,5 @@
 -- The rows of a stack: pops of items that one call alone pushes, and replies that are owed.
-use Rattle.std.proofs.Common.{◌≡◌, ℕ, zero, suc, Bool, true, Option, Some, None, List, [], ◌∷◌, ◌++◌, length, ◌⊎◌, inl, inr, refl, sym, ◌∙◌, ap, subst, arith}
+use Rattle.std.proofs.Common.{◌≡◌, ℕ, zero, suc, Bool, true, Option, Some, List, [], ◌∷◌, ◌++◌, length, ◌⊎◌, inl, inr, refl, sym, ◌∙◌, ap, subst, arith}
 use Rattle.std.specs.Prelude.{ℤ, ◌+◌, slice_get, IfSome}
 use Rattle.std.proofs.lemmas.List.{length-append}
 use Rattle.lin_object.specs.declared.op.Op.{Op}

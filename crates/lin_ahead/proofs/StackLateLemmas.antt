@@ -21,12 +21,12 @@ use Rattle.lin_ahead.specs.declared.late_pushes.LateRows.{LateRows}
 use Rattle.lin_ahead.specs.declared.look_ahead.KnownAhead.{KnownAhead}
 use Rattle.lin_ahead.specs.AnyProblem.{any_problem}
 use Rattle.lin_ahead.specs.Behind.{IsRightAhead}
-use Rattle.lin_ahead.specs.Late.{ReturnsOutside, LeadsBeyond, IsLate, NoneIsLate}
+use Rattle.lin_ahead.specs.Late.{LeadsBeyond, IsLate, NoneIsLate}
 use Rattle.lin_ahead.specs.Numbers.{ReturnsAt, CalledFrom, IsFrom}
-use Rattle.lin_ahead.specs.Queue.{Item, Puts, Took, MayTake, OnlyPuts}
+use Rattle.lin_ahead.specs.Queue.{Item, Took, MayTake, OnlyPuts}
 use Rattle.lin_ahead.specs.Stack.{Pushes, Popped, FoundEmpty, OnlyPushes}
 use Rattle.lin_ahead.specs.ToldOfStack.{exchanged_op, exchanged_call, exchanged_calls, popped_once_row, found_empty, found_empty_row, AreLateRows}
-use Rattle.lin_ahead.proofs.ChainLemmas.{OnlyPushesOf, IsPoppedFrom, IsDeadlineAt, IsHeldFrom, HeldRules, numbers, legal_split}
+use Rattle.lin_ahead.proofs.ChainLemmas.{IsPoppedFrom, IsDeadlineAt, IsHeldFrom, HeldRules, numbers, legal_split}
 use Rattle.lin_ahead.proofs.OnceLemmas.{there_once}
 use Rattle.lin_ahead.proofs.OwedStackLemmas.{still_stack}
 use Rattle.lin_ahead.proofs.PlaceLemmas.{in_either, apart, distinct_late}

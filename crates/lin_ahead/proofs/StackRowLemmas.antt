@@ -1,5 +1,5 @@
 -- What is told ahead of a stack's problem is right, and is all that it says of replies that are owed.
-use Rattle.std.proofs.Common.{◌≡◌, ℕ, zero, suc, ◌<◌, Bool, true, false, Option, Some, List, [], length, replicate, refl, sym, ◌∙◌, ap, subst, arith}
+use Rattle.std.proofs.Common.{◌≡◌, ℕ, zero, suc, true, false, Some, [], length, replicate, refl, sym, ◌∙◌, ap, subst, arith}
 use Rattle.std.specs.Prelude.{ℤ, slice_get}
 use Rattle.std.proofs.lemmas.List.{length-map, length-replicate}
 use Rattle.lin_object.specs.declared.op.Op.{Op}
@@ -15,7 +15,7 @@ use Rattle.lin_ahead.specs.declared.look_ahead.KnownAhead.{KnownAhead}
 use Rattle.lin_ahead.specs.AnyProblem.{any_problem}
 use Rattle.lin_ahead.specs.Behind.{AreOtherNeeds}
 use Rattle.lin_ahead.specs.Owed.{HasReply, IsOwed, AreOwed}
-use Rattle.lin_ahead.specs.Queue.{Puts, Took, OnlyPuts}
+use Rattle.lin_ahead.specs.Queue.{Puts, Took}
 use Rattle.lin_ahead.specs.Stack.{Pushes, Popped, PushedOnce, OnlyPushes}
 use Rattle.lin_ahead.specs.ToldOfStack.{exchanged_op, exchanged_call, exchanged_calls, popped_once_row, AreLateRows, IsToldOfStack}
 use Rattle.lin_ahead.proofs.AheadLemmas.{flagged_took, took_flagged}

@@ -274,8 +274,9 @@ fn check_by_any<O: SharedObject, R: Threads + Sync, G: Gate>(
 /// `Undecided`, and that only where there are more runs than the limit.
 ///
 /// The number stored is always told. It is below 2^54, and there are as many reachable configurations or more.
-/// `CheckFault::Memory` where the calling thread was refused memory; a worker that was refused some leaves its task to the
-/// calling thread, and where no thread can be had the workers work one after another. It may wait: for its workers, which wait
+/// `CheckFault::Memory` where the calling thread was refused memory: for its search itself, or for 100,000 configurations more
+/// than it could store since, without which a search would take far too long. A worker that was refused memory so leaves its
+/// task to the calling thread, and where no thread can be had the workers work one after another. It may wait: for its workers, which wait
 /// where the gate does.
 pub fn check_object<O: SharedObject, R: AllocGlobal + Threads + Sync, G: Gate>(
     rt: &R,

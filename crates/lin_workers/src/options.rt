@@ -108,7 +108,10 @@ impl Options {
     pub fn with_at_most(self, most: u64) -> Options
         ensures { result ≡ with_at_most most self }
     {
-        let workers = if self.workers < most { self.workers } else { most.max(1) };
+        let mut workers = most.max(1);
+        if self.workers < workers {
+            workers = self.workers;
+        }
         Options { workers, ..self }
     }
 

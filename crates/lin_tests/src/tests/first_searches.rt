@@ -37,7 +37,17 @@ fn first_is_as_plain_on(alloc: Global, kind: Kind, seed: u64) -> Result<bool, Al
 #[test]
 fn first_search_answers_as_the_plain_search(rt: HostRuntime) {
     for seed in 0..200 {
-        assert!(rt; matches!(first_is_as_plain_on(rt.alloc(), Kind::Queue, seed), Ok(true)));
-        assert!(rt; matches!(first_is_as_plain_on(rt.alloc(), Kind::Stack, seed), Ok(true)));
+        assert!(rt;
+            matches!(
+                first_is_as_plain_on(rt.alloc(), Kind::Queue, seed),
+                Ok(true)
+            )
+        );
+        assert!(rt;
+            matches!(
+                first_is_as_plain_on(rt.alloc(), Kind::Stack, seed),
+                Ok(true)
+            )
+        );
     }
 }

@@ -1,4 +1,4 @@
-use Rattle.std.proofs.Common.{rules, ◌≡◌, ap, subst}
+use Rattle.std.proofs.Common.{◌≡◌, ap, subst}
 use Rattle.std.proofs.lemmas.List.Elements.{All-weaker}
 use Rattle.lin_table.specs.Hand.{HandFacts, IsHandOf, new_hand}
 use Rattle.lin_history.specs.Problems.Problem.{problem_of}

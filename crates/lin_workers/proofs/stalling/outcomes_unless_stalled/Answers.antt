@@ -1,4 +1,4 @@
-use Rattle.std.proofs.Common.{◌∙◌, ap, sym, subst}
+use Rattle.std.proofs.Common.{◌∙◌, sym, subst}
 use Rattle.lin_history.specs.Problems.Problem.{problem_of}
 use Rattle.lin_workers.specs.Outcomes.{AreOutcomes}
 use Rattle.lin_workers.proofs.RunLemmas.{leads_reachable}
