@@ -1,4 +1,5 @@
 pub mod OptionLemmas
+pub mod ReplyLemmas
 pub mod Refusals
 pub mod Problems
 pub mod Recorder

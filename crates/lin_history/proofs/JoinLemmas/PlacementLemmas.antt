@@ -162,8 +162,24 @@ module _ {State Op Reply : Type 0} (same_state : State → State → Bool) (h : 
       let index : index_of h object (get_or xs i 0) ≡ Some value = rw (same, ← e) n.is_index in
       rw pushed (placing_step start order front s (get_or xs i 0) (drop (i + 1) xs) value c after reply (placing_at start order front s xs i (get_or xs i 0) within refl p) index there st)
 
+  -- the rest of an order, placed from some state
+  abbrev pub IsPlacingOn : State → List ℕ → List (Placed Reply) → List ℕ → Type 0
+  IsPlacingOn start order front rest = (s : State) × IsPlacing start order front s rest
+
   same_call : (value index : ℕ) (c d : Call Op Reply) → value ≡ index → slice_get h.calls value ≡ Some c → slice_get h.calls index ≡ Some d → c ≡ d
   same_call value index c d same there also = cc
+
+  -- the loop's step: a completed call is placed with its recorded reply, which is that of its step
+  pub placing_recorded : ((a b : Reply) → h.same_reply a b ≡ true → a ≡ b) → (start : State) (order : List ℕ) (front new : List (Placed Reply)) (xs : List ℕ) (i : ℕ) (indices : List ℕ) (value : ℕ) (c : Call Op Reply) (back : ℕ) (reply : Reply)
+      → i < length xs → indices ≡ indices_from object 0 h.calls → IsPlacingOn start order front (drop i xs) → value ≡ get_or indices (get_or xs i 0) 0 → slice_get h.calls value ≡ Some c
+      → c.returned ≡ Some (back, reply) → new ≡ front ++ (record { call = value; reply = reply }) ∷ [] → IsPlacingOn start order new (drop (i + 1) xs)
+  placing_recorded exact start order front new xs i indices value c back reply within e p is there done pushed =
+      let n = next_of start order front p.0 (get_or xs i 0) (drop (i + 1) xs) (placing_at start order front p.0 xs i (get_or xs i 0) within refl p.1) in
+      let stands : StandsNext indices (get_or xs i 0) = record { index = n.call.index; is_index = rw e n.call.is_index; call = n.call.call; there = n.call.there } in
+      let found : c ≡ n.call.call = same_call value n.call.index c n.call.call (value_is indices (get_or xs i 0) value stands is) there n.call.there in
+      let fit : fits h.same_reply n.call.reply (Some (back, reply)) ≡ true = rw (← found, done) at n.call.recorded in
+      let same : n.call.reply ≡ reply = exact n.call.reply reply fit in
+      (n.after, placing_next start order front new p.0 xs i indices value c n.after reply within e p.1 is there (rw (found, ← same) n.call.step) pushed)
 
   no_step : (o : Option (State × Reply)) (x : State × Reply) → o ≡ None → o ≡ Some x → ⊥
   no_step o x none some = absurd (cc)

@@ -4,7 +4,7 @@ use Rattle.lin_object.specs.contracts.state.ObjStatePartialEq.TheImpl.{eq-value 
 use Rattle.lin_history.specs.Recorder.Views.{call_view}
 use Rattle.lin_history.specs.Locality.RecordedWhole.{whole_of}
 use Rattle.lin_history.proofs.JoinLemmas.PlacementLemmas.{stands_next, value_within, placing_next, placing_goes_on, placing_done}
-use Rattle.lin_history.proofs.locality.placing.place_at.Goals as goal
+use Rattle.lin_history.proofs.locality.placing.placed_by_steps.Goals as goal
 
 pub bounds-indices-number : goal.bounds-indices-number
 bounds-indices-number c =
