@@ -71,6 +71,10 @@ conditions_as kind known d =
     ∷ (is_kind Return kind && is_none (reply_in d), BadResult)
     ∷ []
 
+-- The causes of what an event of a process names, in order: its process, the name of its object, and that the object is declared.
+abbrev pub naming_conditions : (List ℕ → Option Kind) → Data → List (Bool × Cause)
+naming_conditions known d = (is_none (process_in d), BadProcess) ∷ (is_none (name_in d), BadObject) ∷ (is_none (declared_kind known d), UnknownObject) ∷ []
+
 -- The causes of a line that is this JSON value, in a text of this format.
 abbrev pub conditions_in : Format → (List ℕ → Option Kind) → Data → List (Bool × Cause)
 conditions_in format known d = conditions_as (event_kind_in format d) known d

@@ -1,10 +1,11 @@
 //! From a line's JSON value to its event, or its first cause.
 
-ghost use Rattle.std.specs.Prelude.{◌≡◌, is_some, true, Some, Ok, Err};
+ghost use Rattle.std.specs.Prelude.{◌≡◌, is_some, true, Some, Ok, Err, IfOk, IfErr};
 ghost use Rattle.serde_json.specs.Find.{as_object};
 ghost use Rattle.lin_history.specs.Recorder.Recording.{kind_named};
-ghost use Rattle.lin_text.specs.Fields.{event_kind_in};
-ghost use Rattle.lin_text.specs.Line.{Tells};
+ghost use Rattle.lin_history.specs.Refusals.{first_that_holds};
+ghost use Rattle.lin_text.specs.Fields.{event_kind_in, process_in, name_in, declared_kind};
+ghost use Rattle.lin_text.specs.Line.{naming_conditions, Tells};
 
 use crate::cause::Cause;
 use crate::fields::{
@@ -13,6 +14,7 @@ use crate::fields::{
 use crate::line::{EventKind, Format, Line};
 use crate::line_value::LineValue;
 use lin_history::Builder;
+use lin_object::Kind;
 use std::alloc::Global;
 
 // The declaration that a value is, or its first cause.
@@ -37,6 +39,39 @@ fn declaration_of<'v, V: LineValue>(
     Ok(Line::Declare(name, kind, start))
 }
 
+// What an event of a process names: the process, and the object with its kind.
+#[derive(Clone, Copy)]
+struct Named<'v> {
+    process: u32,
+    object: &'v str,
+    kind: Kind,
+}
+
+// What a value names that is an event of a process, or the first cause that it does not.
+fn named_in<'v, V: LineValue>(builder: &Builder, value: &'v V) -> Result<Named<'v>, Cause>
+    ensures process { IfOk result (λ named. process_in (V.json value.now) ≡ Some named.process) }
+    ensures object { IfOk result (λ named. name_in (V.json value.now) ≡ Some named.object.now) }
+    ensures kind { IfOk result (λ named. declared_kind (kind_named builder.now)
+        (V.json value.now) ≡ Some named.kind) }
+    ensures err { IfErr result (λ cause. first_that_holds (naming_conditions
+        (kind_named builder.now) (V.json value.now)) ≡ Some cause) }
+{
+    let Some(process) = process_of(value) else {
+        return Err(Cause::BadProcess);
+    };
+    let Some(object) = name_of(value) else {
+        return Err(Cause::BadObject);
+    };
+    match builder.kind_of(object) {
+        Some(kind) => Ok(Named {
+            process,
+            object,
+            kind,
+        }),
+        None => Err(Cause::UnknownObject),
+    }
+}
+
 // The call that a value is, or its first cause.
 fn call_of<'v, V: LineValue>(
     alloc: Global,
@@ -48,19 +83,9 @@ fn call_of<'v, V: LineValue>(
     requires kind { event_kind_in format (V.json value.now) ≡ Some EventKind.Call }
     ensures { Tells format (kind_named builder.now) (V.json value.now) result }
 {
-    let Some(process) = process_of(value) else {
-        return Err(Cause::BadProcess);
-    };
-    let Some(name) = name_of(value) else {
-        return Err(Cause::BadObject);
-    };
-    let Some(kind) = builder.kind_of(name) else {
-        return Err(Cause::UnknownObject);
-    };
-    match op_of(alloc, kind, value) {
-        Ok(op) => Ok(Line::Call(process, name, op)),
-        Err(cause) => Err(cause),
-    }
+    let named = named_in(builder, value)?;
+    let op = op_of(alloc, named.kind, value)?;
+    Ok(Line::Call(named.process, named.object, op))
 }
 
 // The return that a value is, or its first cause.
@@ -73,19 +98,11 @@ fn return_of<'v, V: LineValue>(
     requires kind { event_kind_in format (V.json value.now) ≡ Some EventKind.Return }
     ensures { Tells format (kind_named builder.now) (V.json value.now) result }
 {
-    let Some(process) = process_of(value) else {
-        return Err(Cause::BadProcess);
-    };
-    let Some(name) = name_of(value) else {
-        return Err(Cause::BadObject);
-    };
-    if builder.kind_of(name).is_none() {
-        return Err(Cause::UnknownObject);
+    let named = named_in(builder, value)?;
+    match reply_of(value) {
+        Some(reply) => Ok(Line::Return(named.process, named.object, reply)),
+        None => Err(Cause::BadResult),
     }
-    let Some(reply) = reply_of(value) else {
-        return Err(Cause::BadResult);
-    };
-    Ok(Line::Return(process, name, reply))
 }
 
 // The failure of a call that a value is, or its first cause.
@@ -98,16 +115,8 @@ fn fail_of<'v, V: LineValue>(
     requires kind { event_kind_in format (V.json value.now) ≡ Some EventKind.Fail }
     ensures { Tells format (kind_named builder.now) (V.json value.now) result }
 {
-    let Some(process) = process_of(value) else {
-        return Err(Cause::BadProcess);
-    };
-    let Some(name) = name_of(value) else {
-        return Err(Cause::BadObject);
-    };
-    if builder.kind_of(name).is_none() {
-        return Err(Cause::UnknownObject);
-    }
-    Ok(Line::Fail(process, name))
+    let named = named_in(builder, value)?;
+    Ok(Line::Fail(named.process, named.object))
 }
 
 // The end of a process that a value is, or its first cause.
@@ -120,16 +129,8 @@ fn info_of<'v, V: LineValue>(
     requires kind { event_kind_in format (V.json value.now) ≡ Some EventKind.Info }
     ensures { Tells format (kind_named builder.now) (V.json value.now) result }
 {
-    let Some(process) = process_of(value) else {
-        return Err(Cause::BadProcess);
-    };
-    let Some(name) = name_of(value) else {
-        return Err(Cause::BadObject);
-    };
-    if builder.kind_of(name).is_none() {
-        return Err(Cause::UnknownObject);
-    }
-    Ok(Line::Info(process, name))
+    let named = named_in(builder, value)?;
+    Ok(Line::Info(named.process, named.object))
 }
 
 // The header that a value is, or its first cause.
