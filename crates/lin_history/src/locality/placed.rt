@@ -45,11 +45,4 @@ impl WholeOrder {
     {
         self.placed.as_slice()
     }
-
-    /// The calls, first to last.
-    pub fn into_placed(self) -> Vec<Placed>
-        ensures { result.items ≡ self }
-    {
-        self.placed
-    }
 }
