@@ -3,6 +3,7 @@
 
 mod device;
 mod fault;
+mod help;
 mod judgement;
 mod lines;
 mod pipeline;
