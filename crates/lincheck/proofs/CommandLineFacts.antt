@@ -1,7 +1,7 @@
 -- What the command line takes and refuses, computed of words that are written out.
 use Rattle.std.proofs.Common.{◌≡◌, List, [], ◌∷◌, Some, None, refl, codes}
 use Rattle.clap.specs.Words.{Text, fault_of, matches_of, one_of}
-use Rattle.clap.specs.declared.error.kind.ErrorKind.TheVariants.{ArgumentConflict, DisplayHelp, UnknownArgument, ValueValidation}
+use Rattle.clap.specs.declared.error.kind.ErrorKind.TheVariants.{ArgumentConflict, DisplayHelp, DisplayVersion, UnknownArgument, ValueValidation}
 use Rattle.clap.proofs.OnLiterals.{clap_on_literals}
 use Rattle.lincheck.specs.CommandLine.{number_given, program}
 use Rattle.lincheck.specs.declared.request.TheConstants.{DEFAULT_WORKERS, DEFAULT_SHARDS}
@@ -72,3 +72,8 @@ word_refused = refl
 help_told : fault_of program (codes "--help" ∷ []) ≡ DisplayHelp ∷ []
 unfolding program clap_on_literals
 help_told = refl
+
+-- So is the version.
+version_told : fault_of program (codes "--version" ∷ []) ≡ DisplayVersion ∷ []
+unfolding program clap_on_literals
+version_told = refl

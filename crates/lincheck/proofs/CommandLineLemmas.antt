@@ -28,7 +28,7 @@ use Rattle.lin_workers.specs.declared.options.TheConstants.{MAX_WORKERS, MAX_SHA
 use Rattle.lincheck.specs.CommandLine.{TakesUpTo, flag_rule, no_options, number_rule, program, IsBareLine, IsCommandLine, IsFlagOption, IsNumberOption, GivesUpTo, AreAsked, AreInRange, number_in}
 use Rattle.lincheck.specs.Request.{AnswersKind, IsAnswerTo}
 use Rattle.lincheck.specs.declared.request.Request.{Request}
-use Rattle.lincheck.specs.declared.request.Request.TheVariants.{Run, Help, Refused}
+use Rattle.lincheck.specs.declared.request.Request.TheVariants.{Run, Help, Version, Refused}
 use Rattle.lincheck.specs.declared.request.TheConstants.{DEFAULT_WORKERS, DEFAULT_SHARDS}
 
 -- One more argument, which takes such a number where it has the name.
@@ -218,6 +218,9 @@ run_answers words c m o line matches fails asked =
 help_is_not_memory : kinds.DisplayHelp ≡ kinds.OutOfMemory → ⊥
 help_is_not_memory same = cc
 
+version_is_not_memory : kinds.DisplayVersion ≡ kinds.OutOfMemory → ⊥
+version_is_not_memory same = cc
+
 -- Where they are not, help or a refusal is told by a fault that they have.
 pub other_answers : {E : Type 0} → (words : List Text) (c : Command) (e : Error) (r : Result Request E) → IsCommandLine c
     → (is_simple_and_free (app_of c) ≡ true → HasKind (fault_of (app_of c) words) e) → AnswersKind (kind_of e) r → IfOk r (IsAnswerTo words)
@@ -228,8 +231,10 @@ other_answers {E} words c e r line fails answers =
     go (Ok (Run o)) answers kind = absurd answers
     go (Ok (Help text)) answers (inl memory) = absurd (help_is_not_memory (sym answers ∙ memory))
     go (Ok (Help text)) answers (inr among) = subst (λ k. IsAmong k (fault_of program words)) answers among
-    go (Ok (Refused text)) answers (inl memory) = absurd (answers.1 memory)
-    go (Ok (Refused text)) answers (inr among) = (kind_of e, answers.0, among)
+    go (Ok (Version text)) answers (inl memory) = absurd (version_is_not_memory (sym answers ∙ memory))
+    go (Ok (Version text)) answers (inr among) = subst (λ k. IsAmong k (fault_of program words)) answers among
+    go (Ok (Refused text)) answers (inl memory) = absurd (answers.2 memory)
+    go (Ok (Refused text)) answers (inr among) = (kind_of e, answers.0, answers.1, among)
     go (Err fault) answers kind = tt
 
 -- A command to which the program's four options were added, one after another.

@@ -27,9 +27,9 @@ number_rule name greatest = record (new_rule name) {
 abbrev pub flag_rule : List ℕ → Rule
 flag_rule name = record (new_rule name) { long = Some name; action = Some SetTrue }
 
--- A command line without an option, which is parsed without the name of the program.
+-- A command line without an option, which has a version and is parsed without the name of the program.
 abbrev pub no_options : App
-no_options = on_top (λ s. record s { no_binary_name = true }) (new_app (codes "lincheck"))
+no_options = on_top (λ s. record s { no_binary_name = true; has_version = true }) (new_app (codes "lincheck"))
 
 -- The program's command line.
 unfoldable pub program : App

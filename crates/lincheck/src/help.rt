@@ -1,10 +1,13 @@
-//! What `--help` says.
+//! What `--help` and `--version` say.
 
 /// What the program is for.
 pub(crate) const ABOUT: &str =
     "Decides whether a recorded history of calls on concurrent objects is linearizable.
 Reads the history from standard input, and prints the answer on standard output.
 No file is taken as an argument: lincheck < FILE";
+
+/// The program's version: 0.1.0 as long as nothing is released.
+pub(crate) const VERSION: &str = "0.1.0";
 
 /// What `--workers` is good for.
 pub(crate) const WORKERS: &str =

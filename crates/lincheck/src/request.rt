@@ -24,6 +24,8 @@ pub enum Request {
     Run(Options),
     /// This text, which tells how the program is used.
     Help(String),
+    /// This text, which tells the program's name and version.
+    Version(String),
     /// Something that can't be had, as this text tells.
     Refused(String),
 }
@@ -64,6 +66,7 @@ fn bare_line<'a>(alloc: Global) -> Command<'a>
 {
     Command::new(alloc, "lincheck")
         .no_binary_name(true)
+        .version(help::VERSION)
         .override_usage("lincheck [OPTIONS] < HISTORY")
         .about(help::ABOUT)
         .after_help(help::MANUAL)
@@ -102,13 +105,14 @@ fn answer_to(alloc: Global, error: &Error) -> Result<Request, AllocError>
     match error.kind() {
         ErrorKind::OutOfMemory => Err(AllocError),
         ErrorKind::DisplayHelp => Ok(Request::Help(text)),
+        ErrorKind::DisplayVersion => Ok(Request::Version(text)),
         _ => Ok(Request::Refused(text)),
     }
 }
 
 /// What the words after the program's name ask for: `--workers N` (1 to `MAX_WORKERS`, 4 where absent), `--shards N` (1
 /// to `MAX_SHARDS`, 16), `--limit N` (1 to `MAX_LIMIT`, none), `--stats`, each at most once and in any order; or
-/// `--help`. Each number is read as a `u64`. Any other words are refused. The texts are `clap`'s. `AllocError` where memory
+/// `--help`, or `--version`. Each number is read as a `u64`. Any other words are refused. The texts are `clap`'s. `AllocError` where memory
 /// was refused.
 pub fn options_of(alloc: Global, words: &[String]) -> Result<Request, AllocError>
     ensures { IfOk result (IsAnswerTo (map string_bytes words.entry.now)) }

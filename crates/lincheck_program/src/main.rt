@@ -50,7 +50,7 @@ fn carry_out<R: AllocGlobal + Threads + Sync>(
 ) -> ExitCode {
     match request {
         Request::Run(options) => ended(rt, check(rt, threads, options)),
-        Request::Help(text) => match print!(rt; "{text}") {
+        Request::Help(text) | Request::Version(text) => match print!(rt; "{text}") {
             Ok(()) => ExitCode::SUCCESS,
             Err(_) => ended(rt, Err(RunFault::Write)),
         },

@@ -27,6 +27,13 @@ fn is_helped(alloc: Global, words: &[&str]) -> Result<bool, AllocError> {
     Ok(matches!(&request(alloc, words)?, Request::Help(_)))
 }
 
+// Whether they are answered with the version.
+fn is_told_version(alloc: Global, words: &[&str]) -> Result<bool, AllocError> {
+    Ok(
+        matches!(&request(alloc, words)?, Request::Version(text) if text.as_str() == "lincheck 0.1.0\n"),
+    )
+}
+
 const GREATEST: [&str; 7] = [
     "--limit",
     "1000000000000",
@@ -66,6 +73,7 @@ fn other_words_are_refused(rt: HostRuntime) {
     assert!(rt; matches!(is_refused(rt.alloc(), &["--limit", "0"]), Ok(true)));
     assert!(rt; matches!(is_refused(rt.alloc(), &["extra"]), Ok(true)));
     assert!(rt; matches!(is_helped(rt.alloc(), &["--help"]), Ok(true)));
+    assert!(rt; matches!(is_told_version(rt.alloc(), &["--version"]), Ok(true)));
 }
 
 const REFUSED: [(u64, u64, Option<u64>, OptionFault); 4] = [
