@@ -9,6 +9,7 @@ pub mod Timeline
 pub mod EventLemmas
 pub mod NumberedEvents
 pub mod Continuations
+pub mod ListLemmas
 pub mod Linearizations
 pub mod Configurations
 pub mod Needs

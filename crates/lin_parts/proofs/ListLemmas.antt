@@ -2,9 +2,9 @@
 use Rattle.std.proofs.Common.{◌≡◌, ℕ, zero, suc, ◌+◌, ◌<◌, ◌≤◌, List, [], ◌∷◌, ◌++◌, length, take, drop, get_or, ◌⊎◌, inl, inr, refl, sym, ◌∙◌, ap, subst, append_assoc, append-nil, arith, ◌≢◌, Bool, true, false, set, get_or-set_other}
 use Rattle.std.proofs.lemmas.Bool.{cases_lt}
 use Rattle.lin_history.specs.Problems.Lists.{In, IsDistinct}
+use Rattle.lin_history.specs.Problems.ListLemmas.{in_early, in_either, in_late}
 use Rattle.lin_parts.specs.Parts.{IsRising, IsFilled, named}
 use Rattle.lin_parts.proofs.PartLemmas.{named_append}
-use Rattle.lin_parts.proofs.RunLemmas.{In_front, In_late, In_either}
 
 -- ---- from an index on
 
@@ -44,7 +44,7 @@ named_one kept l i n h e =
 pub rising_more : (l : List ℕ) (c : ℕ) → IsRising l → ((d : ℕ) → In d l → d < c) → IsRising (l ++ c ∷ [])
 rising_more [] c r below = ((λ d h. absurd h), tt)
 rising_more (x ∷ xs) c r below = (
-  (λ d h. elim (In_either d xs (c ∷ []) h) [ inl a ↦ r.0 d a | inr (inl e) ↦ (let less = below x (inl refl) in omega (arith, e, less)) | inr (inr none) ↦ absurd none ]),
+  (λ d h. elim (in_either d xs (c ∷ []) h) [ inl a ↦ r.0 d a | inr (inl e) ↦ (let less = below x (inl refl) in omega (arith, e, less)) | inr (inr none) ↦ absurd none ]),
   rising_more xs c r.1 (λ d h. below d (inr h)),
 )
 
@@ -53,7 +53,7 @@ rising_distinct [] r = tt
 rising_distinct (x ∷ xs) r = ((λ h. (let less = r.0 x h in omega (arith, less))), rising_distinct xs r.1)
 
 pub in_more : (l : List ℕ) (c d n : ℕ) → ((b : ℕ) → In b l → b < n) → d ≡ n → In c (l ++ d ∷ []) → c < n + 1
-in_more l c d n below e h = elim (In_either c l (d ∷ []) h) [
+in_more l c d n below e h = elim (in_either c l (d ∷ []) h) [
   | inl a ↦ (let less = below c a in omega (arith, less))
   | inr (inl f) ↦ omega (arith, e, f)
   | inr (inr none) ↦ absurd none
@@ -91,10 +91,10 @@ filled_more n l all new e fresh k = record {
   rises = rising_more k.rest n k.rises k.below;
   below = λ c h. in_more k.rest c n n k.below refl h;
   each = λ c h. elim (last_or c n h) [
-    | inl x ↦ elim (k.each c x) [ inl a ↦ inl a | inr a ↦ inr (In_front c k.rest (n ∷ []) a) ]
-    | inr x ↦ inr (In_late c k.rest (n ∷ []) (inl x))
+    | inl x ↦ elim (k.each c x) [ inl a ↦ inl a | inr a ↦ inr (in_early c k.rest (n ∷ []) a) ]
+    | inr x ↦ inr (in_late c k.rest (n ∷ []) (inl x))
   ];
-  apart = λ c h there. elim (In_either c k.rest (n ∷ []) h) [
+  apart = λ c h there. elim (in_either c k.rest (n ∷ []) h) [
     | inl a ↦ k.apart c a there
     | inr (inl x) ↦ fresh (subst (λ (y : ℕ). In y l) x there)
     | inr (inr none) ↦ none
@@ -119,7 +119,7 @@ flag_set xs i l there others k e = elim (cases_lt k i) [
 
 -- with the flag of one call more set, every call so far below n has its flag
 pub flag_more : (xs : List Bool) (l : List ℕ) (i n : ℕ) → length xs ≡ n → i < length l → get_or l i 0 < n → ((k : ℕ) → In k (take i l) → k < n → get_or xs k false ≡ true) → (k : ℕ) → In k (take (i + 1) l) → k < n → get_or (set xs (get_or l i 0) true) k false ≡ true
-flag_more xs l i n e h within flags k there below = elim (In_either k (take i l) (get_or l i 0 ∷ []) (subst (λ (x : List ℕ). In k x) (take_one l i h) there)) [
+flag_more xs l i n e h within flags k there below = elim (in_either k (take i l) (get_or l i 0 ∷ []) (subst (λ (x : List ℕ). In k x) (take_one l i h) there)) [
   | inl early ↦ elim (cases_lt k (get_or l i 0)) [
     | inl less ↦ (let other : k ≢ get_or l i 0 = omega (arith, less) in get_or-set_other xs (get_or l i 0) k true false other ∙ flags k early below)
     | inr more ↦ elim (cases_lt (get_or l i 0) k) [
@@ -141,7 +141,7 @@ flag_more xs l i n e h within flags k there below = elim (In_either k (take i l)
 
 -- a call whose number is beyond the flags needs none
 pub flag_past : (xs : List Bool) (l : List ℕ) (i n : ℕ) → i < length l → n ≤ get_or l i 0 → ((k : ℕ) → In k (take i l) → k < n → get_or xs k false ≡ true) → (k : ℕ) → In k (take (i + 1) l) → k < n → get_or xs k false ≡ true
-flag_past xs l i n h past flags k there below = elim (In_either k (take i l) (get_or l i 0 ∷ []) (subst (λ (x : List ℕ). In k x) (take_one l i h) there)) [
+flag_past xs l i n h past flags k there below = elim (in_either k (take i l) (get_or l i 0 ∷ []) (subst (λ (x : List ℕ). In k x) (take_one l i h) there)) [
   | inl early ↦ flags k early below
   | inr (inl same) ↦ absurd (let b = below in omega (arith, b, past, same))
   | inr (inr none) ↦ absurd none

@@ -1,24 +1,19 @@
 -- The runs of a problem of some calls, and those of the whole.
-use Rattle.std.proofs.Common.{◌≡◌, ℕ, zero, suc, ◌<◌, false, Option, Some, None, List, [], ◌∷◌, ◌++◌, length, replicate, IsSome, ◌⊎◌, inl, inr, refl, sym, ◌∙◌, ap, subst, arith}
+use Rattle.std.proofs.Common.{◌≡◌, ℕ, zero, suc, ◌<◌, Option, Some, None, List, [], ◌∷◌, ◌++◌, length, IsSome, ◌⊎◌, inl, inr, refl, sym, ◌∙◌, ap, subst, arith}
 use Rattle.std.specs.Prelude.{IsSomeAnd}
 use Rattle.std.specs.List.{slice_get}
 use Rattle.std.proofs.lemmas.Option.{slice_get_cases}
 use Rattle.lin_history.specs.declared.problems.problem.ProblemCall.{ProblemCall}
 use Rattle.lin_history.specs.OptionLemmas.{some_and, some_more}
 use Rattle.lin_history.specs.Problems.Lists.{In, IsDistinct, IsUpTo}
+use Rattle.lin_history.specs.Problems.ListLemmas.{has_none}
 use Rattle.lin_history.specs.Problems.Problem.{Problem}
 use Rattle.lin_history.specs.Problems.LegalLists.{next, after_call, Legal}
 use Rattle.lin_history.specs.Problems.Precedence.{Before, IsCompleted}
-use Rattle.lin_history.specs.Problems.Continuations.{has}
 use Rattle.lin_history.specs.Problems.Linearizations.{IsRun, IsLinearization}
 use Rattle.lin_history.specs.Locality.OrderLemmas.{KeepsTime, keeps_time, earlier}
 use Rattle.lin_search.specs.FirstCallLemmas.{next_within}
 use Rattle.lin_parts.specs.Parts.{ArePart, part_of, name, named}
-
-pub has_none : (n c : ℕ) → has (replicate n false) c ≡ false
-has_none zero c = refl
-has_none (suc n) zero = refl
-has_none (suc n) (suc c) = has_none n c
 
 pub three : (i j : ℕ) → (i < j) ⊎ ((i ≡ j) ⊎ (j < i))
 three i j = grind arith

@@ -1,10 +1,11 @@
 -- Linearizations of one object's problem, and of its part of the history: each gives the other.
-use Rattle.std.proofs.Common.{◌≡◌, ℕ, zero, suc, ◌+◌, ◌==◌, Bool, true, false, List, [], ◌∷◌, ◌++◌, length, replicate, Option, Some, None, IsSome, ◌⊎◌, inl, inr, refl, sym, ap, subst, ◌∙◌, append_assoc, arith}
+use Rattle.std.proofs.Common.{◌≡◌, ℕ, ◌+◌, ◌==◌, Bool, true, List, [], ◌∷◌, ◌++◌, length, Option, Some, None, IsSome, ◌⊎◌, inl, inr, refl, sym, ap, subst, ◌∙◌, append_assoc, arith}
 use Rattle.std.specs.Prelude.{IsSomeAnd}
 use Rattle.std.specs.List.{slice_get}
 use Rattle.lin_history.specs.declared.locality.placed.Placed.{Placed}
 use Rattle.lin_history.specs.Recorder.Events.{Call}
 use Rattle.lin_history.specs.Problems.Lists.{In, IsDistinct}
+use Rattle.lin_history.specs.Problems.ListLemmas.{has_none, in_either, apart}
 use Rattle.lin_history.specs.Problems.Problem.{Problem}
 use Rattle.lin_history.specs.Problems.LegalLists.{next, Legal}
 use Rattle.lin_history.specs.Problems.Precedence.{Before, IsCompleted}
@@ -15,25 +16,6 @@ use Rattle.lin_history.specs.Locality.JoinedOrder.{index_of, Places}
 use Rattle.lin_history.specs.Locality.PlaceLemmas.{IsAt, at_number, number_at, index_at, one_number}
 use Rattle.lin_history.specs.Locality.PartProblem.{part_problem}
 use Rattle.lin_history.specs.OptionLemmas.{some_more}
-
--- ---- lists
-
-has_none : (n c : ℕ) → has (replicate n false) c ≡ false
-has_none zero c = refl
-has_none (suc n) zero = refl
-has_none (suc n) (suc c) = has_none n c
-
-In_append : (c : ℕ) (xs ys : List ℕ) → In c (xs ++ ys) → In c xs ⊎ In c ys
-In_append c [] ys h = inr h
-In_append c (x ∷ xs) ys h = elim h [ inl e ↦ inl (inl e) | inr more ↦ elim (In_append c xs ys more) [ inl p ↦ inl (inr p) | inr p ↦ inr p ] ]
-
-In_later : (c : ℕ) (xs ys : List ℕ) → In c ys → In c (xs ++ ys)
-In_later c [] ys h = h
-In_later c (x ∷ xs) ys h = inr (In_later c xs ys h)
-
-apart : (c : ℕ) (xs ys : List ℕ) → IsDistinct (xs ++ ys) → In c xs → In c ys → ⊥
-apart c [] ys d h k = h
-apart c (x ∷ xs) ys d h k = elim h [ inl e ↦ d.0 (subst (λ (n : ℕ). In n (xs ++ ys)) e (In_later c xs ys k)) | inr more ↦ apart c xs ys d.1 more k ]
 
 module _ {State Op Reply : Type 0} (p : Problem State Op Reply) where
   -- no call of the list precedes one that stands before it, or itself
@@ -64,7 +46,7 @@ module _ {State Op Reply : Type 0} (p : Problem State Op Reply) where
   -- what keeps time, and has each call that precedes one of it, has that call earlier
   pub earlier : (l early : List ℕ) (b : ℕ) (late : List ℕ) → KeepsTime l → l ≡ early ++ b ∷ late → (a : ℕ) → Before p a b → In a l → In a early
   earlier l early b late k e a before there =
-      let split : In a early ⊎ In a (b ∷ late) = In_append a early (b ∷ late) (subst (In a) e there) in
+      let split : In a early ⊎ In a (b ∷ late) = in_either a early (b ∷ late) (subst (In a) e there) in
       elim split [ inl h ↦ h | inr h ↦ absurd ((keeps_late early (b ∷ late) (subst KeepsTime e k)).0 a h before) ]
 
 module _ {State Op Reply : Type 0} (same_state : State → State → Bool) (h : Whole State Op Reply) (object : ℕ) where

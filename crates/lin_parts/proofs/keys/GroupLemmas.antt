@@ -3,8 +3,8 @@ use Rattle.std.proofs.Common.{◌≡◌, ◌≢◌, ℕ, zero, suc, ◌+◌, ◌
 use Rattle.lin_parts.specs.Keys.Products.{AreCallsOf}
 use Rattle.lin_parts.specs.Keys.Merging.{order_at}
 use Rattle.lin_parts.proofs.PartLemmas.{three}
-use Rattle.lin_parts.proofs.RunLemmas.{In_front, In_late, In_either}
 use Rattle.lin_parts.proofs.ListLemmas.{rising_more, last_or, in_more}
+use Rattle.lin_history.specs.Problems.ListLemmas.{in_early, in_either, in_late}
 
 pub no_calls_of : (key : ℕ → ℕ) (k : ℕ) → AreCallsOf key 0 k []
 no_calls_of key k = record {
@@ -18,9 +18,9 @@ module _ (key : ℕ → ℕ) (n k : ℕ) (l : List ℕ) (a : AreCallsOf key n k 
   pub call_of_key : key n ≡ k → AreCallsOf key (n + 1) k (l ++ n ∷ [])
   call_of_key e = record {
     rises = rising_more l n a.rises a.below;
-    there = λ c h f. elim (last_or c n h) [ inl x ↦ In_front c l (n ∷ []) (a.there c x f) | inr x ↦ In_late c l (n ∷ []) (inl x) ];
+    there = λ c h f. elim (last_or c n h) [ inl x ↦ in_early c l (n ∷ []) (a.there c x f) | inr x ↦ in_late c l (n ∷ []) (inl x) ];
     below = λ c h. in_more l c n n a.below refl h;
-    own = λ c h. elim (In_either c l (n ∷ []) h) [ inl x ↦ a.own c x | inr (inl x) ↦ ap key x ∙ e | inr (inr none) ↦ absurd none ];
+    own = λ c h. elim (in_either c l (n ∷ []) h) [ inl x ↦ a.own c x | inr (inl x) ↦ ap key x ∙ e | inr (inr none) ↦ absurd none ];
   }
 
   pub call_of_other : (key n ≡ k → ⊥) → AreCallsOf key (n + 1) k l

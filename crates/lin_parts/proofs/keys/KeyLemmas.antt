@@ -1,14 +1,14 @@
 -- The least linearization by keys.
 use Rattle.std.proofs.Common.{◌≡◌, ℕ, ◌<◌, ◌==◌, Bool, true, false, cond, List, [], ◌∷◌, ◌++◌, length, ◌⊎◌, inl, inr, refl, sym, ◌∙◌, ap, subst, append_assoc, append-nil, eqb-true, eq-eqb, arith}
 use Rattle.lin_history.specs.Problems.Lists.{In, IsDistinct, IsUpTo}
+use Rattle.lin_history.specs.Problems.ListLemmas.{apart, has_none, in_late}
 use Rattle.lin_history.specs.Problems.Problem.{Problem}
 use Rattle.lin_history.specs.Problems.Precedence.{IsCompleted}
 use Rattle.lin_history.specs.Problems.Linearizations.{IsLinearization}
 use Rattle.lin_history.specs.Locality.OrderLemmas.{KeepsTime}
 use Rattle.lin_parts.specs.Keys.Products.{with_key}
 use Rattle.lin_parts.specs.Keys.Merging.{IsKeyOrder, IsMerged}
-use Rattle.lin_parts.proofs.PartLemmas.{has_none, three, legal_calls}
-use Rattle.lin_parts.proofs.RunLemmas.{In_late, apart}
+use Rattle.lin_parts.proofs.PartLemmas.{three, legal_calls}
 
 module _ (key : ℕ → ℕ) (k : ℕ) where
   pub key_on : (c : ℕ) (l : List ℕ) → key c ≡ k → with_key key k (c ∷ l) ≡ c ∷ with_key key k l
@@ -82,7 +82,7 @@ module _ {State Op Reply : Type 0} (p : Problem State Op Reply) (key : ℕ → �
         distinct = subst (λ (z : List ℕ). IsDistinct z) f lin.continuation.distinct
 
         in_l : In y l
-        in_l = subst (λ (z : List ℕ). In y z) (sym f) (In_late y early (y ∷ ys) (inl refl))
+        in_l = subst (λ (z : List ℕ). In y z) (sym f) (in_late y early (y ∷ ys) (inl refl))
 
         there : In y (orders (key y))
         there = (each (key y)).there y (legal_calls p l p.start lin.continuation.legal.0 lin.continuation.legal.1 y in_l) refl

@@ -2,6 +2,7 @@
 use Rattle.std.proofs.Common.{◌≡◌, ℕ, ◌<◌, ◌≤◌, Some, List, [], ◌∷◌, ◌++◌, length, ◌⊎◌, inl, inr, refl, sym, ◌∙◌, ap, subst, arith}
 use Rattle.lin_history.specs.declared.problems.problem.ProblemCall.{ProblemCall}
 use Rattle.lin_history.specs.Problems.Lists.{In, IsDistinct, IsUpTo, IsLeast}
+use Rattle.lin_history.specs.Problems.ListLemmas.{has_none, in_early, in_either, in_late}
 use Rattle.lin_history.specs.Problems.Problem.{Problem}
 use Rattle.lin_history.specs.Problems.LegalLists.{next, Legal}
 use Rattle.lin_history.specs.Problems.Linearizations.{IsLinearization}
@@ -9,8 +10,7 @@ use Rattle.lin_history.specs.Locality.OrderLemmas.{keeps_time}
 use Rattle.lin_parts.specs.Parts.{ArePart, IsRising, IsFilled, name, named}
 use Rattle.lin_parts.specs.Keys.Products.{with_key, IsProduct, AreOfKey, part_of_key}
 use Rattle.lin_parts.specs.Keys.Merging.{IsKeyOrder, IsMerged}
-use Rattle.lin_parts.proofs.PartLemmas.{has_none, three, legal_calls, part_of_list, in_named, index_in, one_name}
-use Rattle.lin_parts.proofs.RunLemmas.{In_front, In_late, In_either}
+use Rattle.lin_parts.proofs.PartLemmas.{three, legal_calls, part_of_list, in_named, index_in, one_name}
 use Rattle.lin_parts.proofs.keys.KeyLemmas.{key_on, key_off, key_in, in_key, key_distinct, key_time, same_key_or_not, merged_least}
 
 -- As long as both lists go on alike, the first goes on with no greater call.
@@ -92,7 +92,7 @@ module _ {State Op Reply : Type 0} (p : Problem State Op Reply) (key : ℕ → �
     -- The least linearization of a key's part, and behind it the other calls of the part, is an order of the key.
     pub order_of_key : (l all : List ℕ) → IsLeast (IsLinearization (part_of_key p (only k) calls)) l → IsFilled (length kept) l all → IsKeyOrder p key k (named kept all)
     order_of_key l all least f = record {
-      there = λ c h e. (let i = index_in kept c (of_key.there c h e) in subst (λ (x : ℕ). In x (named kept all)) i.2 (in_named kept i.0 all (subst (In i.0) (sym f.is) (elim (f.each i.0 i.1) [ inl a ↦ In_front i.0 l f.rest a | inr a ↦ In_late i.0 l f.rest a ]))));
+      there = λ c h e. (let i = index_in kept c (of_key.there c h e) in subst (λ (x : ℕ). In x (named kept all)) i.2 (in_named kept i.0 all (subst (In i.0) (sym f.is) (elim (f.each i.0 i.1) [ inl a ↦ in_early i.0 l f.rest a | inr a ↦ in_late i.0 l f.rest a ]))));
       least = λ whole lin early h rest c late e g. (
           let m = part_of_whole whole lin in
           let first : GoesFirst all m.0 = subst (λ (x : List ℕ). GoesFirst x m.0) (sym f.is) (filled_goes l f.rest m.0 (least.1 m.0 m.3) f.rises m.3.continuation.distinct (λ i there. f.each i (m.2 i there))) in
@@ -107,7 +107,7 @@ module _ {State Op Reply : Type 0} (p : Problem State Op Reply) (key : ℕ → �
         either i h = elim h [ inl a ↦ below_l i a | inr a ↦ f.below i a ]
 
         below : (i : ℕ) → In i all → i < length kept
-        below i h = either i (In_either i l f.rest (subst (In i) f.is h))
+        below i h = either i (in_either i l f.rest (subst (In i) f.is h))
 
   -- The orders of the keys, merged, are the least linearization of the whole, where they are one.
   pub merged_is_least : (orders : ℕ → List ℕ) → ((k : ℕ) → IsKeyOrder p key k (orders k)) → (l : List ℕ) → IsMerged p key orders l → IsLinearization p l → IsLeast (IsLinearization p) l

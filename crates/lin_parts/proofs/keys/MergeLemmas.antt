@@ -3,6 +3,7 @@ use Rattle.std.proofs.Common.{◌≡◌, ℕ, ◌<◌, Some, List, [], ◌∷◌
 use Rattle.std.proofs.lemmas.Bool.{cases_lt}
 use Rattle.lin_history.specs.declared.problems.problem.ProblemCall.{ProblemCall}
 use Rattle.lin_history.specs.Problems.Lists.{In, IsDistinct, IsLeast}
+use Rattle.lin_history.specs.Problems.ListLemmas.{distinct_early, has_none, in_early}
 use Rattle.lin_history.specs.Problems.Problem.{Problem}
 use Rattle.lin_history.specs.Problems.ProblemParts.{AreTimed}
 use Rattle.lin_history.specs.Problems.LegalLists.{next, Legal}
@@ -13,8 +14,8 @@ use Rattle.lin_search.specs.FirstCallLemmas.{next_within}
 use Rattle.lin_parts.specs.Parts.{ArePart, IsFilled, IsTotal, name, named}
 use Rattle.lin_parts.specs.Keys.Products.{with_key, IsProduct, part_of_key}
 use Rattle.lin_parts.specs.Keys.Merging.{IsKeyOrder, IsKeyRun, IsMerged}
-use Rattle.lin_parts.proofs.PartLemmas.{has_none, legal_calls, completed_of, completed_back, distinct_named, legal_named, legal_there, keeps_named, name_in, next_named}
-use Rattle.lin_parts.proofs.RunLemmas.{In_front, before_later, distinct_front, legal_front}
+use Rattle.lin_parts.proofs.PartLemmas.{legal_calls, completed_of, completed_back, distinct_named, legal_named, legal_there, keeps_named, name_in, next_named}
+use Rattle.lin_parts.proofs.RunLemmas.{before_later, legal_front}
 use Rattle.lin_parts.proofs.ListLemmas.{rising_distinct}
 use Rattle.lin_parts.proofs.FullLemmas.{full_linearization}
 use Rattle.lin_parts.proofs.keys.KeyLemmas.{key_on, key_off, in_key, key_append, same_key_or_not}
@@ -61,7 +62,7 @@ module _ {State Op Reply : Type 0} (p : Problem State Op Reply) (key : ℕ → �
   module _ (timed : AreTimed p.calls) (orders : ℕ → List ℕ) (each : (k : ℕ) → IsKeyRun p (only k) (orders k)) (l : List ℕ) (merged : IsMerged p key orders l) where
     -- a call that stands behind does not precede: its key's order goes on with a call that is no smaller
     not_before : (early : List ℕ) (c : ℕ) (late : List ℕ) → l ≡ early ++ c ∷ late → (d : ℕ) → In d (c ∷ late) → Before p d c → ⊥
-    not_before early c late e d there before = from (with_key key (key d) (c ∷ late) ++ (merged.fronts (key d)).0) split (In_front d (with_key key (key d) (c ∷ late)) (merged.fronts (key d)).0 (in_key key (key d) d (c ∷ late) there refl))
+    not_before early c late e d there before = from (with_key key (key d) (c ∷ late) ++ (merged.fronts (key d)).0) split (in_early d (with_key key (key d) (c ∷ late)) (merged.fronts (key d)).0 (in_key key (key d) d (c ∷ late) there refl))
       where
         split : orders (key d) ≡ with_key key (key d) early ++ (with_key key (key d) (c ∷ late) ++ (merged.fronts (key d)).0)
         split = (merged.fronts (key d)).1 ∙ ap (λ (z : List ℕ). with_key key (key d) z ++ (merged.fronts (key d)).0) e ∙ ap (λ (z : List ℕ). z ++ (merged.fronts (key d)).0) (key_append key (key d) early (c ∷ late)) ∙ append_assoc (with_key key (key d) early) (with_key key (key d) (c ∷ late)) (merged.fronts (key d)).0
@@ -90,7 +91,7 @@ module _ {State Op Reply : Type 0} (p : Problem State Op Reply) (key : ℕ → �
     pub merged_linearization : ((c : ℕ) → In c l → key c < count) → ((c : ℕ) → IsCompleted p c → In c l) → IsLinearization p l
     merged_linearization inside complete = record {
       continuation = record {
-        distinct = distinct_of_keys l (λ k. distinct_front (with_key key k l) (merged.fronts k).0 (subst (λ (z : List ℕ). IsDistinct z) (merged.fronts k).1 (each k).distinct));
+        distinct = distinct_of_keys l (λ k. distinct_early (with_key key k l) (merged.fronts k).0 (subst (λ (z : List ℕ). IsDistinct z) (merged.fronts k).1 (each k).distinct));
         outside = λ c h. has_none (length p.calls) c;
         legal = legal_of_keys l p.start product.start inside (λ k below. legal_front p (with_key key k l) (merged.fronts k).0 (only k p.start) (each k).legal.0 (subst (λ (z : List ℕ). Legal p (only k p.start) z (each k).legal.0) (merged.fronts k).1 (each k).legal.1));
         ordered = λ early b late e a before. inr (earlier p l early b late (time_from [] l refl) e a before (complete a (completed_of p a b before)));

@@ -5,10 +5,10 @@ use Rattle.std.proofs.lemmas.Bool.{cases_lt}
 use Rattle.std.proofs.Math.ListN.{length-set}
 use Rattle.std.proofs.lemmas.List.{length-replicate}
 use Rattle.lin_history.specs.Problems.Lists.{In}
+use Rattle.lin_history.specs.Problems.ListLemmas.{in_early, in_either, in_late}
 use Rattle.lin_parts.specs.Keys.Products.{with_key}
 use Rattle.lin_parts.specs.Keys.Merging.{order_at, AreOrdersOfKeys, IsMergedWhole, IsMerging, IsTakenUpTo}
 use Rattle.lin_parts.proofs.PartLemmas.{three}
-use Rattle.lin_parts.proofs.RunLemmas.{In_front, In_late, In_either}
 use Rattle.lin_parts.proofs.ListLemmas.{drop_at, drop_none}
 use Rattle.lin_parts.proofs.keys.KeyLemmas.{key_on, key_off, key_append}
 use Rattle.lin_parts.proofs.keys.MergingLemmas.{merging_start, merging_run, same_behind, heads_same}
@@ -66,10 +66,10 @@ module _ (numbers : List ℕ) (orders : List (List ℕ)) (own : AreOrdersOfKeys 
     goes = m.from (key n) ∙ ap (λ (z : List ℕ). with_key (slice_index numbers) (key n) l ++ z) t.is
 
     taken_own : (c : ℕ) → In c t.taken → key c ≡ key n
-    taken_own c h = own.own (key n) c (subst (λ (z : List ℕ). In c z) (sym goes) (In_late c (with_key (slice_index numbers) (key n) l) (t.taken ++ drop next (order_at orders (key n))) (In_front c t.taken (drop next (order_at orders (key n))) h)))
+    taken_own c h = own.own (key n) c (subst (λ (z : List ℕ). In c z) (sym goes) (in_late c (with_key (slice_index numbers) (key n) l) (t.taken ++ drop next (order_at orders (key n))) (in_early c t.taken (drop next (order_at orders (key n))) h)))
 
     in_order : (k h : ℕ) (rest : List ℕ) → drop (slice_index places k) (order_at orders k) ≡ h ∷ rest → In h (order_at orders k)
-    in_order k h rest e = subst (λ (z : List ℕ). In h z) (sym (m.from k)) (In_late h (with_key (slice_index numbers) k l) (drop (slice_index places k) (order_at orders k)) (subst (λ (z : List ℕ). In h z) (sym e) (inl refl)))
+    in_order k h rest e = subst (λ (z : List ℕ). In h z) (sym (m.from k)) (in_late h (with_key (slice_index numbers) k l) (drop (slice_index places k) (order_at orders k)) (subst (λ (z : List ℕ). In h z) (sym e) (inl refl)))
 
     others : (j h : ℕ) (late : List ℕ) → (j ≡ key n → ⊥) → order_at orders j ≡ with_key (slice_index numbers) j l ++ h ∷ late → n ≤ h
     others j h late apart e = m.high j h late (same_behind (with_key (slice_index numbers) j l) (drop (slice_index places j) (order_at orders j)) (h ∷ late) (sym (m.from j) ∙ e))
@@ -117,7 +117,7 @@ module _ (numbers : List ℕ) (orders : List (List ℕ)) (own : AreOrdersOfKeys 
       from k [] e = m.from k ∙ ap (λ (z : List ℕ). with_key (slice_index numbers) k l ++ z) e ∙ append-nil (with_key (slice_index numbers) k l)
       from k (h ∷ rest) e = absurd (
           let a = m.high k h rest e in
-          let b = own.below k h (subst (λ (z : List ℕ). In h z) (sym (m.from k)) (In_late h (with_key (slice_index numbers) k l) (drop (slice_index places k) (order_at orders k)) (subst (λ (z : List ℕ). In h z) (sym e) (inl refl)))) in
+          let b = own.below k h (subst (λ (z : List ℕ). In h z) (sym (m.from k)) (in_late h (with_key (slice_index numbers) k l) (drop (slice_index places k) (order_at orders k)) (subst (λ (z : List ℕ). In h z) (sym e) (inl refl)))) in
           omega (arith, a, b, last)
           )
 
@@ -155,7 +155,7 @@ taking_more order place call old new more next t h low e = record {
   is = t.is ∙ ap (λ (z : List ℕ). t.taken ++ z) (drop_at order next h) ∙ sym (append_assoc t.taken (slice_index order next ∷ []) (drop (next + 1) order));
   behind = e ∙ ap (λ (z : List ℕ). z ++ slice_index order next ∷ []) t.behind ∙ append_assoc old t.taken (slice_index order next ∷ []);
   within = omega (arith, h);
-  low = λ c there. elim (In_either c t.taken (slice_index order next ∷ []) there) [ inl a ↦ t.low c a | inr (inl same) ↦ rw same low | inr (inr none) ↦ absurd none ];
+  low = λ c there. elim (in_either c t.taken (slice_index order next ∷ []) there) [ inl a ↦ t.low c a | inr (inl same) ↦ rw same low | inr (inr none) ↦ absurd none ];
 }
 
 pub taking_end : (order : List ℕ) (place call : ℕ) (old new : List ℕ) (next : ℕ) → IsTaking order place call old new next → (next < length order → slice_index order next ≤ call → ⊥) → IsTakenUpTo order place call old new next

@@ -16,6 +16,7 @@ use Rattle.lin_parts.specs.Keys.KeyedCalls.{AreKeyNumbers, IsOnKey}
 use Rattle.std.proofs.lemmas.Option.{slice_get_cases}
 use Rattle.lin_history.specs.declared.problems.problem.ProblemCall.{ProblemCall}
 use Rattle.lin_history.specs.Problems.Lists.{In, IsDistinct, IsLeast}
+use Rattle.lin_history.specs.Problems.ListLemmas.{apart, distinct_early, in_early, in_either, in_late}
 use Rattle.lin_history.specs.Problems.Problem.{Problem}
 use Rattle.lin_history.specs.Problems.ProblemParts.{AreTimed, ProblemParts}
 use Rattle.lin_history.specs.Problems.Precedence.{IsCompleted}
@@ -26,7 +27,6 @@ use Rattle.lin_parts.specs.Keys.Merging.{order_at, AreOrdersOfKeys, IsKeyOrder, 
 use Rattle.lin_parts.specs.Keys.PartOrder.{AreFullOrders, HasRefutedPart, IsFullOrder}
 use Rattle.lin_search.specs.FirstCallLemmas.{no_part}
 use Rattle.lin_parts.proofs.PartLemmas.{completed_there, legal_calls, name_in, named_in}
-use Rattle.lin_parts.proofs.RunLemmas.{In_front, In_late, In_either, apart, distinct_front}
 use Rattle.lin_parts.proofs.ListLemmas.{take_one}
 use Rattle.lin_parts.proofs.keys.KeyLemmas.{key_in, in_key, key_append}
 use Rattle.lin_parts.proofs.keys.KeyPartLemmas.{none_of_whole, order_of_key}
@@ -47,7 +47,7 @@ take_then_drop (c ∷ l) (suc n) = ap (λ (z : List ℕ). c ∷ z) (take_then_dr
 
 -- the last call of a list stands behind what is in front of another
 last_late : (early : List ℕ) (x : ℕ) (late front : List ℕ) (z : ℕ) → early ++ x ∷ late ≡ front ++ z ∷ [] → In z (x ∷ late)
-last_late [] x late front z e = subst (λ (y : List ℕ). In z y) (sym e) (In_late z front (z ∷ []) (inl refl))
+last_late [] x late front z e = subst (λ (y : List ℕ). In z y) (sym e) (in_late z front (z ∷ []) (inl refl))
 last_late (a ∷ early) x late [] z e = absurd (let f : early ++ x ∷ late ≡ [] = cc in no_end early f)
   where
     no_end : (l : List ℕ) → l ++ x ∷ late ≡ [] → ⊥
@@ -121,7 +121,7 @@ module _ {State Op Reply : Type 0} (p : Problem State Op Reply) (numbers : List 
         in_all k known i h = (
             let f = full_at k known in
             let e = f.part.count in
-            elim (In_either i f.first f.filled.rest (subst (λ (z : List ℕ). In i z) f.filled.is h)) [
+            elim (in_either i f.first f.filled.rest (subst (λ (z : List ℕ). In i z) f.filled.is h)) [
               | inl a ↦ (let w = legal_calls (part_of p f.calls) f.first p.start f.least.0.continuation.legal.0 f.least.0.continuation.legal.1 i a in omega (arith, w, e))
               | inr a ↦ f.filled.below i a
             ]
@@ -142,7 +142,7 @@ module _ {State Op Reply : Type 0} (p : Problem State Op Reply) (numbers : List 
       parts = sym (take_then_drop merged end)
 
       in_merged : (c : ℕ) → In c (take end merged) → In c merged
-      in_merged c h = subst (λ (z : List ℕ). In c z) (sym parts) (In_front c (take end merged) (drop end merged) h)
+      in_merged c h = subst (λ (z : List ℕ). In c z) (sym parts) (in_early c (take end merged) (drop end merged) h)
 
       there : (c : ℕ) → In c merged → c < length p.calls
       there c h = (let b = orders_of_keys.below (key c) c (subst (λ (z : List ℕ). In c z) (sym (whole.whole (key c))) (in_key (slice_index numbers) (key c) c merged h refl)) in omega (arith, b, calls))
@@ -151,13 +151,13 @@ module _ {State Op Reply : Type 0} (p : Problem State Op Reply) (numbers : List 
       front_of k = whole.whole k ∙ ap (with_key (slice_index numbers) k) parts ∙ key_append (slice_index numbers) k (take end merged) (drop end merged)
 
       distinct : IsDistinct (take end merged)
-      distinct = distinct_of_keys p (slice_index numbers) count only keeps product (take end merged) (λ k. distinct_front (with_key (slice_index numbers) k (take end merged)) (with_key (slice_index numbers) k (drop end merged)) (subst (λ (z : List ℕ). IsDistinct z) (front_of k) (key_run k).distinct))
+      distinct = distinct_of_keys p (slice_index numbers) count only keeps product (take end merged) (λ k. distinct_early (with_key (slice_index numbers) k (take end merged)) (with_key (slice_index numbers) k (drop end merged)) (subst (λ (z : List ℕ). IsDistinct z) (front_of k) (key_run k).distinct))
 
       complete : (c : ℕ) → IsCompleted p c → In c (take end merged)
       complete c done =
           let o = (key_order (key c)).there c (completed_there p c done) refl in
           let m = (key_in (slice_index numbers) (key c) c merged (subst (λ (z : List ℕ). In c z) (whole.whole (key c)) o)).0 in
-          elim (In_either c (take end merged) (drop end merged) (subst (λ (z : List ℕ). In c z) parts m)) [ inl h ↦ h | inr h ↦ absurd (behind c h done) ]
+          elim (in_either c (take end merged) (drop end merged) (subst (λ (z : List ℕ). In c z) parts m)) [ inl h ↦ h | inr h ↦ absurd (behind c h done) ]
 
       ends_by : (n : ℕ) → end ≡ n → (early : List ℕ) (x : ℕ) (late : List ℕ) → take end merged ≡ early ++ x ∷ late → ((c : ℕ) → IsCompleted p c → In c early) → ⊥
       ends_by zero e early x late f done = no_part early x late (subst (λ (n : ℕ). take n merged ≡ early ++ x ∷ late) e f)
@@ -165,7 +165,7 @@ module _ {State Op Reply : Type 0} (p : Problem State Op Reply) (numbers : List 
           let less : i < length merged = omega (arith, e, within) in
           let step : suc i ≡ i + 1 = omega arith in
           let is : take end merged ≡ take i merged ++ slice_index merged i ∷ [] = ap (λ (n : ℕ). take n merged) (e ∙ step) ∙ take_one merged i less in
-          let here : In (slice_index merged i) (take end merged) = subst (λ (z : List ℕ). In (slice_index merged i) z) (sym is) (In_late (slice_index merged i) (take i merged) (slice_index merged i ∷ []) (inl refl)) in
+          let here : In (slice_index merged i) (take end merged) = subst (λ (z : List ℕ). In (slice_index merged i) z) (sym is) (in_late (slice_index merged i) (take i merged) (slice_index merged i ∷ []) (inl refl)) in
           let completed = last i e (there (slice_index merged i) (in_merged (slice_index merged i) here)) in
           apart (slice_index merged i) early (x ∷ late) (subst (λ (z : List ℕ). IsDistinct z) f distinct) (done (slice_index merged i) completed) (last_late early x late (take i merged) (slice_index merged i) (sym f ∙ is))
 
