@@ -13,9 +13,10 @@ use Rattle.lin_search.specs.Answer.{IsAnswer}
 use Rattle.lin_ahead.specs.AnyProblem.{any_problem}
 use Rattle.lin_prefixes.specs.declared.part_answer.PartAnswer.{PartAnswer}
 use Rattle.lin_prefixes.specs.declared.part_answer.PartAnswer.TheVariants.{Found, Refuted, Unknown}
-use Rattle.lin_prefixes.specs.Prefixes.{IsRising, IsLoosePrefix, HasNoRunOf, part_of, name}
+use Rattle.lin_parts.specs.Parts.{IsRising, part_of, name}
+use Rattle.lin_prefixes.specs.Prefixes.{IsLoosePrefix, HasNoRunOf}
 use Rattle.lin_prefixes.specs.PartAnswer.{answer_of, IsPartAnswer, IsAnswerTo}
-use Rattle.lin_prefixes.proofs.PartLemmas.{name_in}
+use Rattle.lin_parts.specs.PartLemmas.{name_in}
 use Rattle.lin_prefixes.proofs.LooseLemmas.{no_run_by_loose}
 
 -- What a search from the root answers.

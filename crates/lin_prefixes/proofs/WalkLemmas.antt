@@ -6,7 +6,7 @@ use Rattle.lin_history.specs.Problems.Configurations.{IsReachable}
 use Rattle.lin_search.specs.CallSet.{with_call, with_calls, lifted_set}
 use Rattle.lin_search.specs.NextCall.{IsNext}
 use Rattle.lin_search.specs.FirstCallLemmas.{continuation_join, none_continues}
-use Rattle.lin_prefixes.proofs.ListLemmas.{take_one}
+use Rattle.lin_parts.specs.ListLemmas.{take_one}
 
 take_all : (l : List ℕ) (i : ℕ) → length l ≤ i → take i l ≡ l
 take_all [] zero h = refl

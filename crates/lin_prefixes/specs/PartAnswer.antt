@@ -8,7 +8,7 @@ use Rattle.lin_search.specs.declared.outcome.Outcome.{Outcome}
 use Rattle.lin_search.specs.declared.outcome.Outcome.TheVariants as outcomes
 use Rattle.lin_prefixes.specs.declared.part_answer.PartAnswer.{PartAnswer}
 use Rattle.lin_prefixes.specs.declared.part_answer.PartAnswer.TheVariants.{Found, Refuted, Unknown}
-use Rattle.lin_prefixes.specs.Prefixes.{ArePart, part_of}
+use Rattle.lin_parts.specs.Parts.{ArePart, part_of}
 
 -- The least linearization of the problem of these calls; or that it has none; or nothing.
 abbrev pub IsPartAnswer : {State Op Reply : Type 0} → Problem State Op Reply → List ℕ → PartAnswer → Type 0

@@ -3,7 +3,8 @@ ghost use Rattle.std.specs.Prelude.{◌≡◌, ◌<◌, ◌≤◌, ◌+◌, ◌^
 ghost use Rattle.lin_history.specs.Problems.Lists.{In};
 ghost use Rattle.lin_ahead.specs.AnyProblem.{any_problem};
 ghost use Rattle.lin_ahead.specs.Behind.{IsRightAhead};
-ghost use Rattle.lin_prefixes.specs.Prefixes.{IsRising, HasNoRunOf};
+ghost use Rattle.lin_parts.specs.Parts.{IsRising};
+ghost use Rattle.lin_prefixes.specs.Prefixes.{HasNoRunOf};
 ghost use Rattle.lin_prefixes.specs.PartAnswer.{answer_of, IsAnswerTo, IsPartAnswer};
 
 use crate::call_lists::kept_calls;

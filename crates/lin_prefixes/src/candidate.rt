@@ -7,13 +7,15 @@ ghost use Rattle.lin_history.specs.Problems.Configurations.{IsReachable};
 ghost use Rattle.lin_search.specs.CallSet.{with_call, lifted_set};
 ghost use Rattle.lin_search.specs.Entries.{IsMinimal};
 ghost use Rattle.lin_search.specs.NextCall.{IsNext};
-ghost use Rattle.lin_prefixes.specs.Prefixes.{IsBeaten, IsFilled, IsRunWithout, named};
+ghost use Rattle.lin_parts.specs.Parts.{IsFilled, named};
+ghost use Rattle.lin_prefixes.specs.Prefixes.{IsBeaten, IsRunWithout};
 
-use crate::call_lists::{beats, fill, kept_calls, with_names};
+use crate::call_lists::{beats, kept_calls};
 use crate::part_answer::PartAnswer;
 use crate::part_search::PartSearch;
 use lin_history::{Order, Problem};
 use lin_object::{SeqObject, lawful};
+use lin_parts::{fill, with_names};
 use lin_search::{Config, Frame, Longest, Path};
 use std::alloc::{AllocError, Global};
 

@@ -2,7 +2,8 @@
 ghost use Rattle.std.specs.Prelude.{◌≡◌, ◌<◌, ◌≤◌, ℕ, length, IfOk, IsTrue};
 ghost use Rattle.lin_history.specs.Problems.Lists.{In};
 ghost use Rattle.lin_history.specs.Problems.Problem.{problem_of};
-ghost use Rattle.lin_prefixes.specs.Prefixes.{IsRising, HasNoRunOf};
+ghost use Rattle.lin_parts.specs.Parts.{IsRising};
+ghost use Rattle.lin_prefixes.specs.Prefixes.{HasNoRunOf};
 ghost use Rattle.lin_prefixes.specs.PartAnswer.{IsPartAnswer};
 
 use crate::part_answer::PartAnswer;

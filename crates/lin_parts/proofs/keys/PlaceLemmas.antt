@@ -7,9 +7,9 @@ use Rattle.std.proofs.lemmas.List.{length-replicate}
 use Rattle.lin_history.specs.Problems.Lists.{In}
 use Rattle.lin_parts.specs.Keys.Products.{with_key}
 use Rattle.lin_parts.specs.Keys.Merging.{order_at, AreOrdersOfKeys, IsMergedWhole, IsMerging, IsTakenUpTo}
-use Rattle.lin_parts.proofs.PartLemmas.{three}
-use Rattle.lin_parts.proofs.RunLemmas.{In_front, In_late, In_either}
-use Rattle.lin_parts.proofs.ListLemmas.{drop_at, drop_none}
+use Rattle.lin_parts.specs.PartLemmas.{three}
+use Rattle.lin_parts.specs.RunLemmas.{In_front, In_late, In_either}
+use Rattle.lin_parts.specs.ListLemmas.{drop_at, drop_none}
 use Rattle.lin_parts.proofs.keys.KeyLemmas.{key_on, key_off, key_append}
 use Rattle.lin_parts.proofs.keys.MergingLemmas.{merging_start, merging_run, same_behind, heads_same}
 

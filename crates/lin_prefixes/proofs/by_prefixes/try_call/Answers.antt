@@ -3,7 +3,7 @@ use Rattle.lin_history.specs.Problems.Problem.{problem_of}
 use Rattle.lin_prefixes.specs.Prefixes.{IsRunLacking}
 use Rattle.lin_prefixes.proofs.BeatenLemmas.{beaten_itself, beaten_chain}
 use Rattle.lin_prefixes.proofs.LackLemmas.{tried_enough}
-use Rattle.lin_prefixes.proofs.ListLemmas.{last_or}
+use Rattle.lin_parts.specs.ListLemmas.{last_or}
 use Rattle.lin_prefixes.proofs.by_prefixes.try_call.Goals as goal
 
 pub loop-lacking-init : goal.loop-lacking-init

@@ -7,8 +7,8 @@ use Rattle.lin_history.specs.Problems.Precedence.{Before, IsCompleted}
 use Rattle.lin_history.specs.Problems.Linearizations.{IsLinearization}
 use Rattle.lin_history.specs.Locality.OrderLemmas.{KeepsTime, keeps_time, earlier}
 use Rattle.lin_parts.specs.Parts.{IsTotal}
-use Rattle.lin_parts.proofs.PartLemmas.{has_none, completed_of}
-use Rattle.lin_parts.proofs.RunLemmas.{In_front, In_either}
+use Rattle.lin_parts.specs.PartLemmas.{has_none, completed_of}
+use Rattle.lin_parts.specs.RunLemmas.{In_front, In_either}
 
 module _ {State Op Reply : Type 0} (q : Problem State Op Reply) where
   -- ---- where every pending call has a step

@@ -3,8 +3,8 @@ use Rattle.std.proofs.Common.{◌≡◌, ℕ, zero, suc, ◌+◌, ◌<◌, ◌�
 use Rattle.std.proofs.lemmas.Bool.{cases_lt}
 use Rattle.lin_history.specs.Problems.Lists.{In, IsDistinct}
 use Rattle.lin_parts.specs.Parts.{IsRising, IsFilled, named}
-use Rattle.lin_parts.proofs.PartLemmas.{named_append}
-use Rattle.lin_parts.proofs.RunLemmas.{In_front, In_late, In_either}
+use Rattle.lin_parts.specs.PartLemmas.{named_append}
+use Rattle.lin_parts.specs.RunLemmas.{In_front, In_late, In_either}
 
 -- ---- from an index on
 
