@@ -1,4 +1,0 @@
-pub mod PartLemmas
-pub mod RunLemmas
-pub mod FullLemmas
-pub mod ListLemmas

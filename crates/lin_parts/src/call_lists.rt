@@ -23,8 +23,8 @@ fn flags_of(alloc: Global, calls: &[usize], n: usize) -> Result<Vec<bool>, Alloc
     Ok(flags)
 }
 
-/// Puts behind the calls those below n that they lack, in increasing order.
-pub(crate) fn fill(alloc: Global, calls: &mut Vec<usize>, n: usize) -> Result<(), AllocError>
+/// Puts behind the calls those below n that they lack, in increasing order. `AllocError` where memory was refused.
+pub fn fill(alloc: Global, calls: &mut Vec<usize>, n: usize) -> Result<(), AllocError>
     ensures { IfOk result (λ done. IsFilled n calls.old.items calls.new.items) }
 {
     let flags = flags_of(alloc, calls.as_slice(), n)?;
@@ -37,7 +37,8 @@ pub(crate) fn fill(alloc: Global, calls: &mut Vec<usize>, n: usize) -> Result<()
 }
 
 /// The calls by their numbers in the whole, where `kept` has the number of each call of the part; `None` where it lacks one.
-pub(crate) fn with_names(
+/// `AllocError` where memory was refused.
+pub fn with_names(
     alloc: Global,
     kept: &[usize],
     calls: &[usize],

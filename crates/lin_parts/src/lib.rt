@@ -7,5 +7,6 @@
 mod call_lists;
 mod keys;
 
+pub use call_lists::{fill, with_names};
 pub use keys::key_answer::KeyAnswer;
 pub use keys::key_search::search_by_key;

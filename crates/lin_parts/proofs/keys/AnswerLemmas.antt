@@ -15,7 +15,7 @@ use Rattle.lin_search.specs.Answer.{IsAnswer}
 use Rattle.lin_ahead.specs.AnyProblem.{any_problem}
 use Rattle.lin_parts.specs.Parts.{ArePart, IsRising, part_of, name}
 use Rattle.lin_parts.specs.Keys.PartOrder.{answer_of, HasRefutedPart, IsAnswerTo, IsFullOrder, IsNamed}
-use Rattle.lin_parts.proofs.PartLemmas.{name_in}
+use Rattle.lin_parts.specs.PartLemmas.{name_in}
 
 -- What a search from the root answers.
 pub told_of : {State Op Reply : Type 0} (p : Problem State Op Reply) (limit : Option ℕ) (tells : ℕ → Type 0) (o : Outcome) → IsAnswer p (no_calls p) p.start limit tells o → IsAnswerTo p (answer_of o)

@@ -2,8 +2,8 @@
 use Rattle.std.proofs.Common.{◌≡◌, ◌≢◌, ℕ, zero, suc, ◌+◌, ◌<◌, List, [], ◌∷◌, ◌++◌, length, get_or, set, inl, inr, refl, sym, ◌∙◌, ap, subst, arith, get_or-set_other}
 use Rattle.lin_parts.specs.Keys.Products.{AreCallsOf}
 use Rattle.lin_parts.specs.Keys.Merging.{order_at}
-use Rattle.lin_parts.proofs.PartLemmas.{three}
-use Rattle.lin_parts.proofs.ListLemmas.{rising_more, last_or, in_more}
+use Rattle.lin_parts.specs.PartLemmas.{three}
+use Rattle.lin_parts.specs.ListLemmas.{rising_more, last_or, in_more}
 use Rattle.lin_history.specs.Problems.ListLemmas.{in_early, in_either, in_late}
 
 pub no_calls_of : (key : ℕ → ℕ) (k : ℕ) → AreCallsOf key 0 k []

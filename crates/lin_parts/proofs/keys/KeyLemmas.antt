@@ -8,7 +8,7 @@ use Rattle.lin_history.specs.Problems.Linearizations.{IsLinearization}
 use Rattle.lin_history.specs.Locality.OrderLemmas.{KeepsTime}
 use Rattle.lin_parts.specs.Keys.Products.{with_key}
 use Rattle.lin_parts.specs.Keys.Merging.{IsKeyOrder, IsMerged}
-use Rattle.lin_parts.proofs.PartLemmas.{three, legal_calls}
+use Rattle.lin_parts.specs.PartLemmas.{three, legal_calls}
 
 module _ (key : ℕ → ℕ) (k : ℕ) where
   pub key_on : (c : ℕ) (l : List ℕ) → key c ≡ k → with_key key k (c ∷ l) ≡ c ∷ with_key key k l

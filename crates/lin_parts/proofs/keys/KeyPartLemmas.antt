@@ -10,7 +10,7 @@ use Rattle.lin_history.specs.Locality.OrderLemmas.{keeps_time}
 use Rattle.lin_parts.specs.Parts.{ArePart, IsRising, IsFilled, name, named}
 use Rattle.lin_parts.specs.Keys.Products.{with_key, IsProduct, AreOfKey, part_of_key}
 use Rattle.lin_parts.specs.Keys.Merging.{IsKeyOrder, IsMerged}
-use Rattle.lin_parts.proofs.PartLemmas.{three, legal_calls, part_of_list, in_named, index_in, one_name}
+use Rattle.lin_parts.specs.PartLemmas.{three, legal_calls, part_of_list, in_named, index_in, one_name}
 use Rattle.lin_parts.proofs.keys.KeyLemmas.{key_on, key_off, key_in, in_key, key_distinct, key_time, same_key_or_not, merged_least}
 
 -- As long as both lists go on alike, the first goes on with no greater call.

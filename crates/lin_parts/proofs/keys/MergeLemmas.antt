@@ -14,10 +14,10 @@ use Rattle.lin_search.specs.FirstCallLemmas.{next_within}
 use Rattle.lin_parts.specs.Parts.{ArePart, IsFilled, IsTotal, name, named}
 use Rattle.lin_parts.specs.Keys.Products.{with_key, IsProduct, part_of_key}
 use Rattle.lin_parts.specs.Keys.Merging.{IsKeyOrder, IsKeyRun, IsMerged}
-use Rattle.lin_parts.proofs.PartLemmas.{legal_calls, completed_of, completed_back, distinct_named, legal_named, legal_there, keeps_named, name_in, next_named}
-use Rattle.lin_parts.proofs.RunLemmas.{before_later, legal_front}
-use Rattle.lin_parts.proofs.ListLemmas.{rising_distinct}
-use Rattle.lin_parts.proofs.FullLemmas.{full_linearization}
+use Rattle.lin_parts.specs.PartLemmas.{legal_calls, completed_of, completed_back, distinct_named, legal_named, legal_there, keeps_named, name_in, next_named}
+use Rattle.lin_parts.specs.RunLemmas.{before_later, legal_front}
+use Rattle.lin_parts.specs.ListLemmas.{rising_distinct}
+use Rattle.lin_parts.specs.FullLemmas.{full_linearization}
 use Rattle.lin_parts.proofs.keys.KeyLemmas.{key_on, key_off, in_key, key_append, same_key_or_not}
 use Rattle.lin_parts.proofs.keys.KeyPartLemmas.{merged_is_least}
 

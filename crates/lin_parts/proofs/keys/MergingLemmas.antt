@@ -6,7 +6,7 @@ use Rattle.lin_history.specs.Problems.Precedence.{IsCompleted}
 use Rattle.lin_search.specs.FirstCallLemmas.{no_part}
 use Rattle.lin_parts.specs.Keys.Products.{with_key}
 use Rattle.lin_parts.specs.Keys.Merging.{IsMerging, IsMerged}
-use Rattle.lin_parts.proofs.PartLemmas.{three}
+use Rattle.lin_parts.specs.PartLemmas.{three}
 use Rattle.lin_parts.proofs.keys.KeyLemmas.{key_on, key_off, key_append, same_key_or_not}
 
 -- a place in a list with one call more is the last, or one in the list

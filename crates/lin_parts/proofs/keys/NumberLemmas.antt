@@ -8,7 +8,7 @@ use Rattle.lin_object.specs.declared.state.ObjState.{ObjState}
 use Rattle.lin_history.specs.declared.problems.problem.ProblemCall.{ProblemCall}
 use Rattle.lin_history.specs.Problems.ProblemParts.{ProblemParts}
 use Rattle.lin_parts.specs.Keys.KeyedCalls.{AreKeyNumbers, IsOnKey, StartsEmpty}
-use Rattle.lin_parts.proofs.ListLemmas.{last_or}
+use Rattle.lin_parts.specs.ListLemmas.{last_or}
 use Rattle.std.specs.List.{slice_get, list_any}
 use Rattle.std.specs.Ordering.{int_eq}
 use Rattle.std.proofs.lemmas.Cmp.{int_eq_equiv}

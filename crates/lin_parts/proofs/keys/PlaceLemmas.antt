@@ -8,8 +8,8 @@ use Rattle.lin_history.specs.Problems.Lists.{In}
 use Rattle.lin_history.specs.Problems.ListLemmas.{in_early, in_either, in_late}
 use Rattle.lin_parts.specs.Keys.Products.{with_key}
 use Rattle.lin_parts.specs.Keys.Merging.{order_at, AreOrdersOfKeys, IsMergedWhole, IsMerging, IsTakenUpTo}
-use Rattle.lin_parts.proofs.PartLemmas.{three}
-use Rattle.lin_parts.proofs.ListLemmas.{drop_at, drop_none}
+use Rattle.lin_parts.specs.PartLemmas.{three}
+use Rattle.lin_parts.specs.ListLemmas.{drop_at, drop_none}
 use Rattle.lin_parts.proofs.keys.KeyLemmas.{key_on, key_off, key_append}
 use Rattle.lin_parts.proofs.keys.MergingLemmas.{merging_start, merging_run, same_behind, heads_same}
 

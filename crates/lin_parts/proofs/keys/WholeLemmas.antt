@@ -26,8 +26,8 @@ use Rattle.lin_parts.specs.Keys.Products.{with_key, IsProduct, AreOfKey, AreCall
 use Rattle.lin_parts.specs.Keys.Merging.{order_at, AreOrdersOfKeys, IsKeyOrder, IsKeyRun, IsMerged, IsMergedWhole}
 use Rattle.lin_parts.specs.Keys.PartOrder.{AreFullOrders, HasRefutedPart, IsFullOrder}
 use Rattle.lin_search.specs.FirstCallLemmas.{no_part}
-use Rattle.lin_parts.proofs.PartLemmas.{completed_there, legal_calls, name_in, named_in}
-use Rattle.lin_parts.proofs.ListLemmas.{take_one}
+use Rattle.lin_parts.specs.PartLemmas.{completed_there, legal_calls, name_in, named_in}
+use Rattle.lin_parts.specs.ListLemmas.{take_one}
 use Rattle.lin_parts.proofs.keys.KeyLemmas.{key_in, in_key, key_append}
 use Rattle.lin_parts.proofs.keys.KeyPartLemmas.{none_of_whole, order_of_key}
 use Rattle.lin_parts.proofs.keys.MapKeyLemmas as maps

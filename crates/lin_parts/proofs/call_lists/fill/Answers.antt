@@ -1,6 +1,6 @@
 use Rattle.std.proofs.Common.{arith, ℕ, List, subst, sym, ◌∙◌, true≢false}
 use Rattle.lin_history.specs.Problems.Lists.{In}
-use Rattle.lin_parts.proofs.ListLemmas.{filled_has, filled_more, flag_there, flag_not}
+use Rattle.lin_parts.specs.ListLemmas.{filled_has, filled_more, flag_there, flag_not}
 use Rattle.lin_parts.proofs.call_lists.fill.Goals as goal
 use Rattle.lin_parts.proofs.call_lists.fill.Goals.{then-not-index+in_ok-push, else-not-index}
 

@@ -1,5 +1,5 @@
 use Rattle.std.proofs.Common.{ℕ, List, ◌∷◌, ◌++◌, [], ap, ◌∙◌}
-use Rattle.lin_parts.proofs.ListLemmas.{named_one}
+use Rattle.lin_parts.specs.ListLemmas.{named_one}
 use Rattle.lin_parts.proofs.call_lists.with_names.Goals as goal
 
 pub loop-c-preserved : goal.loop-c-preserved

@@ -4,7 +4,7 @@ use Rattle.std.proofs.lemmas.Bool.{cases_lt}
 use Rattle.lin_history.specs.Problems.Lists.{In, IsDistinct}
 use Rattle.lin_history.specs.Problems.ListLemmas.{in_early, in_either, in_late}
 use Rattle.lin_parts.specs.Parts.{IsRising, IsFilled, named}
-use Rattle.lin_parts.proofs.PartLemmas.{named_append}
+use Rattle.lin_parts.specs.PartLemmas.{named_append}
 
 -- ---- from an index on
 

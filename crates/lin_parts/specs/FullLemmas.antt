@@ -8,7 +8,7 @@ use Rattle.lin_history.specs.Problems.Precedence.{Before, IsCompleted}
 use Rattle.lin_history.specs.Problems.Linearizations.{IsLinearization}
 use Rattle.lin_history.specs.Locality.OrderLemmas.{KeepsTime, keeps_time, earlier}
 use Rattle.lin_parts.specs.Parts.{IsTotal}
-use Rattle.lin_parts.proofs.PartLemmas.{completed_of}
+use Rattle.lin_parts.specs.PartLemmas.{completed_of}
 
 module _ {State Op Reply : Type 0} (q : Problem State Op Reply) where
   -- ---- where every pending call has a step

@@ -1,0 +1,47 @@
+-- Parts made anew, and what a search tells of them.
+use Rattle.std.proofs.Common.{◌≡◌, ℕ, zero, suc, ◌<◌, Option, List, [], ◌∷◌, length, subst, arith}
+use Rattle.std.specs.Prelude.{slice_get, slice_index}
+use Rattle.lin_object.specs.declared.op.Op.{Op}
+use Rattle.lin_object.specs.declared.reply.Reply.{Reply}
+use Rattle.lin_object.specs.declared.state.ObjState.{ObjState}
+use Rattle.lin_history.specs.Problems.Problem.{Problem}
+use Rattle.lin_history.specs.Problems.ProblemParts.{ProblemParts}
+use Rattle.lin_history.specs.Problems.Continuations.{no_calls}
+use Rattle.lin_search.specs.declared.outcome.Outcome.{Outcome}
+use Rattle.lin_search.specs.declared.outcome.Outcome.TheVariants as outcomes
+use Rattle.lin_search.specs.Answer.{IsAnswer}
+use Rattle.lin_ahead.specs.AnyProblem.{any_problem}
+use Rattle.lin_prefixes.specs.declared.part_answer.PartAnswer.{PartAnswer}
+use Rattle.lin_prefixes.specs.declared.part_answer.PartAnswer.TheVariants.{Found, Refuted, Unknown}
+use Rattle.lin_parts.specs.Parts.{IsRising, part_of, name}
+use Rattle.lin_prefixes.specs.Prefixes.{IsLoosePrefix, HasNoRunOf}
+use Rattle.lin_prefixes.specs.PartAnswer.{answer_of, IsPartAnswer, IsAnswerTo}
+use Rattle.lin_parts.specs.PartLemmas.{name_in}
+use Rattle.lin_prefixes.proofs.LooseLemmas.{no_run_by_loose}
+
+-- What a search from the root answers.
+pub told_of : {State Op Reply : Type 0} (p : Problem State Op Reply) (limit : Option ℕ) (tells : ℕ → Type 0) (o : Outcome) → IsAnswer p (no_calls p) p.start limit tells o → IsAnswerTo p (answer_of o)
+told_of p limit tells (outcomes.Found order) k = k
+told_of p limit tells (outcomes.Refuted longest) k = k.0
+told_of p limit tells outcomes.Undecided k = tt
+told_of p limit tells (outcomes.Stopped told) k = tt
+
+rising_at : (l : List ℕ) → IsRising l → (i j : ℕ) → i < j → j < length l → name l i < name l j
+rising_at [] r i j less h = absurd (omega (arith, h))
+rising_at (c ∷ l) r i zero less h = absurd (omega (arith, less))
+rising_at (c ∷ l) r zero (suc j) less h = r.0 (name l j) (name_in l j (omega (arith, h)))
+rising_at (c ∷ l) r (suc i) (suc j) less h = rising_at l r.1 i j (omega (arith, less)) (omega (arith, h))
+
+module _ {Object : Type 0} (whole part : ProblemParts Object ObjState Op Reply) (start : part.start ≡ whole.start) where
+  -- what holds of the problem made anew holds of the whole with its calls
+  at_part : (P : Problem ObjState Op Reply → Type 0) → P (any_problem part) → P (part_of (any_problem whole) part.calls)
+  at_part P h = subst (λ (s : ObjState). P (record (any_problem part) { start = s })) start h
+
+  pub part_answer : (kept : List ℕ) → IsRising kept → length part.calls ≡ length kept → ((i : ℕ) → i < length kept → slice_get part.calls i ≡ slice_get whole.calls (slice_index kept i))
+      → (answer : PartAnswer) → IsAnswerTo (any_problem part) answer → IsPartAnswer (any_problem whole) kept answer
+  part_answer kept rises count same Unknown h = tt
+  part_answer kept rises count same (Found order) h = (part.calls, record { count = count; same = same; rises = rising_at kept rises }, at_part (λ p. IsAnswerTo p (Found order)) h)
+  part_answer kept rises count same Refuted h = (part.calls, record { count = count; same = same; rises = rising_at kept rises }, at_part (λ p. IsAnswerTo p Refuted) h)
+
+  pub loose_answer : (k : ℕ) → k < length whole.calls → IsLoosePrefix (any_problem whole) k part.calls → IsAnswerTo (any_problem part) Refuted → HasNoRunOf (any_problem whole) k
+  loose_answer k last loose h = no_run_by_loose (any_problem whole) k part.calls loose last (at_part (λ p. IsAnswerTo p Refuted) h)

@@ -1,0 +1,217 @@
+//! Searches of parts made anew, which share a budget of lifts.
+ghost use Rattle.std.specs.Prelude.{◌≡◌, ◌<◌, ◌≤◌, ◌+◌, ◌^◌, ℕ, IfOk, IfSome, IsTrue, length};
+ghost use Rattle.lin_history.specs.Problems.Lists.{In};
+ghost use Rattle.lin_ahead.specs.AnyProblem.{any_problem};
+ghost use Rattle.lin_ahead.specs.Behind.{IsRightAhead};
+ghost use Rattle.lin_parts.specs.Parts.{IsRising};
+ghost use Rattle.lin_prefixes.specs.Prefixes.{HasNoRunOf};
+ghost use Rattle.lin_prefixes.specs.PartAnswer.{answer_of, IsAnswerTo, IsPartAnswer};
+
+use crate::call_lists::kept_calls;
+use crate::part_answer::PartAnswer;
+use crate::part_search::PartSearch;
+use crate::parts_anew::{is_loose_prefix, is_part, made_anew};
+use lin_ahead::{FirstAnswer, KnownAhead, known_ahead, search_first};
+use lin_history::{Problem, ProblemEvent};
+use lin_object::{AnyObject, lawful};
+use lin_search::{Config, NoStop, Outcome, OwnMemo, search};
+use std::alloc::{AllocError, Global};
+
+// How many lifts for each call a search may make at first, how many times as many each time that it tells nothing, and how
+// often it is made.
+const FIRST_LIFTS: u64 = 2;
+
+const GROWTH: u64 = 4;
+
+const ROUNDS: usize = 16;
+
+// What a first search tells, with what is known ahead.
+fn first_answer(
+    alloc: Global,
+    part: &Problem<AnyObject>,
+    ahead: &KnownAhead,
+    lifts: u64,
+) -> Result<PartAnswer, AllocError>
+    requires { IsRightAhead (any_problem part.now) ahead.now }
+    ensures { IfOk result (IsAnswerTo (any_problem part.now)) }
+{
+    Ok(match search_first(alloc, part, ahead, lifts)? {
+        FirstAnswer::Found(order) => PartAnswer::Found(order),
+        FirstAnswer::Refuted => PartAnswer::Refuted,
+        FirstAnswer::Exhausted => PartAnswer::Unknown,
+    })
+}
+
+// What the outcome of a search tells.
+fn told_by(outcome: Outcome) -> PartAnswer
+    ensures { result ≡ answer_of outcome }
+{
+    match outcome {
+        Outcome::Found(order) => PartAnswer::Found(order),
+        Outcome::Refuted(_) => PartAnswer::Refuted,
+        Outcome::Undecided => PartAnswer::Unknown,
+        Outcome::Stopped(_) => PartAnswer::Unknown,
+    }
+}
+
+// What a search tells that keeps what it refuted.
+fn full_answer(
+    alloc: Global,
+    part: &Problem<AnyObject>,
+    lifts: u64,
+) -> Result<PartAnswer, AllocError>
+    ensures { IfOk result (IsAnswerTo (any_problem part.now)) }
+{
+    lawful::<AnyObject>();
+    let root = Config::root(alloc, part)?;
+    let mut memo = OwnMemo::new(alloc, part);
+    let outcome = search(alloc, part, &root, &mut memo, Some(lifts), &mut NoStop)?;
+    Ok(told_by(outcome))
+}
+
+// What a search of so many lifts tells: a first search where something is known ahead.
+fn answer_within(
+    alloc: Global,
+    part: &Problem<AnyObject>,
+    known: &Option<KnownAhead>,
+    lifts: u64,
+) -> Result<PartAnswer, AllocError>
+    requires { IfSome known.now (IsRightAhead (any_problem part.now)) }
+    ensures { IfOk result (IsAnswerTo (any_problem part.now)) }
+{
+    match known {
+        Some(ahead) => first_answer(alloc, part, ahead, lifts),
+        None => full_answer(alloc, part, lifts),
+    }
+}
+
+/// Searches of parts of a problem of the seven kinds, each made anew: first searches where something is known ahead, and
+/// searches that keep what they refuted for other parts. All of them together make no more lifts than were given at the
+/// start; from then on they tell nothing.
+#[derive(Drop)]
+pub struct AnewSearch {
+    events: Vec<ProblemEvent>,
+    lifts: u64,
+}
+
+impl AnewSearch {
+    /// Searches of parts of this problem, with so many lifts for all of them. Of another problem they tell nothing.
+    /// `AllocError` where memory was refused.
+    pub fn new(
+        alloc: Global,
+        problem: &Problem<AnyObject>,
+        lifts: u64,
+    ) -> Result<Self, AllocError> {
+        Ok(AnewSearch {
+            events: problem.timeline(alloc)?,
+            lifts,
+        })
+    }
+
+    // Takes so many lifts, or as many as are left.
+    fn take(&mut self, wanted: u64) -> u64 {
+        let lifts = wanted.min(self.lifts);
+        self.lifts = self.lifts.saturating_sub(lifts);
+        lifts
+    }
+
+    // What is told of the problem, by searches of more and more lifts.
+    fn answer_in_rounds(
+        &mut self,
+        alloc: Global,
+        part: &Problem<AnyObject>,
+        known: &Option<KnownAhead>,
+    ) -> Result<PartAnswer, AllocError>
+        requires { IfSome known.now (IsRightAhead (any_problem part.now)) }
+        ensures { IfOk result (IsAnswerTo (any_problem part.now)) }
+    {
+        let mut wanted = FIRST_LIFTS.saturating_mul(part.len() as u64);
+        for _ in 0..ROUNDS {
+            let lifts = self.take(wanted);
+            match answer_within(alloc, part, known, lifts)? {
+                PartAnswer::Unknown if self.lifts > 0 => wanted = wanted.saturating_mul(GROWTH),
+                answer => return Ok(answer),
+            }
+        }
+        Ok(PartAnswer::Unknown)
+    }
+
+    // What is told of the problem, which may be the whole.
+    pub(crate) fn answer_to(
+        &mut self,
+        alloc: Global,
+        part: &Problem<AnyObject>,
+    ) -> Result<PartAnswer, AllocError>
+        ensures { IfOk result (IsAnswerTo (any_problem part.now)) }
+    {
+        let known = known_ahead(alloc, part)?;
+        self.answer_in_rounds(alloc, part, &known)
+    }
+
+    // What is told of the problem of these calls.
+    fn answer_to_part(
+        &mut self,
+        alloc: Global,
+        problem: &Problem<AnyObject>,
+        kept: &[usize],
+    ) -> Result<PartAnswer, AllocError>
+        requires { IsRising kept.now }
+        ensures { IfOk result (IsPartAnswer (any_problem problem.now) kept.now) }
+    {
+        let Some(part) = made_anew(alloc, problem, self.events.as_slice(), kept, u64::MAX)? else {
+            return Ok(PartAnswer::Unknown);
+        };
+        if !is_part(problem, kept, &part) {
+            return Ok(PartAnswer::Unknown);
+        }
+        let answer = self.answer_to(alloc, &part)?;
+        Ok(answer)
+    }
+
+    // Whether it is known that the call has no run.
+    fn has_none(
+        &mut self,
+        alloc: Global,
+        problem: &Problem<AnyObject>,
+        call: usize,
+    ) -> Result<bool, AllocError>
+        requires { call < length problem.now.calls }
+        ensures { IfOk result (λ none. IsTrue none → HasNoRunOf (any_problem problem.now) call) }
+    {
+        let _calls = problem.calls();
+        let kept = kept_calls(alloc, call, &[])?;
+        let until = u64::from(problem.call(call).called);
+        let events = self.events.as_slice();
+        let Some(part) = made_anew(alloc, problem, events, kept.as_slice(), until)? else {
+            return Ok(false);
+        };
+        if !is_loose_prefix(problem, call, &part) {
+            return Ok(false);
+        }
+        match self.answer_to(alloc, &part)? {
+            PartAnswer::Refuted => Ok(true),
+            PartAnswer::Found(_) => Ok(false),
+            PartAnswer::Unknown => Ok(false),
+        }
+    }
+}
+
+impl PartSearch<AnyObject> for AnewSearch {
+    fn least_of_part(
+        &mut self,
+        alloc: Global,
+        problem: &Problem<AnyObject>,
+        kept: &[usize],
+    ) -> Result<PartAnswer, AllocError> {
+        self.answer_to_part(alloc, problem, kept)
+    }
+
+    fn has_no_run_of(
+        &mut self,
+        alloc: Global,
+        problem: &Problem<AnyObject>,
+        call: usize,
+    ) -> Result<bool, AllocError> {
+        self.has_none(alloc, problem, call)
+    }
+}

@@ -1,0 +1,45 @@
+//! A search of the problem of some of a problem's calls.
+ghost use Rattle.std.specs.Prelude.{◌≡◌, ◌<◌, ◌≤◌, ℕ, length, IfOk, IsTrue};
+ghost use Rattle.lin_history.specs.Problems.Lists.{In};
+ghost use Rattle.lin_history.specs.Problems.Problem.{problem_of};
+ghost use Rattle.lin_parts.specs.Parts.{IsRising};
+ghost use Rattle.lin_prefixes.specs.Prefixes.{HasNoRunOf};
+ghost use Rattle.lin_prefixes.specs.PartAnswer.{IsPartAnswer};
+
+use crate::part_answer::PartAnswer;
+use lin_history::Problem;
+use lin_object::SeqObject;
+use std::alloc::{AllocError, Global};
+
+/// A search that is asked for parts of a problem. It may end for whatever reason with nothing known, as where it has made
+/// as many lifts as it may.
+pub trait PartSearch<O: SeqObject> {
+    /// The least linearization of the problem of these calls, by their numbers in that problem; or that it has none; or
+    /// nothing. `AllocError` where memory was refused.
+    ///
+    /// Conditions: the calls are calls of the problem, and stand in increasing order.
+    fn least_of_part(
+        &mut self,
+        alloc: Global,
+        problem: &Problem<O>,
+        kept: &[usize],
+    ) -> Result<PartAnswer, AllocError>
+        requires rises { IsRising kept.now }
+        requires within { (c : ℕ) → In c kept.now → c < length problem.now.calls }
+        ensures { IfOk result (IsPartAnswer (problem_of O.after O.State.eq O.Reply.eq problem.now)
+            kept.now) };
+
+    /// Whether it is known that there is no run with calls up to this one alone and with every call that precedes it.
+    /// `AllocError` where memory was refused.
+    ///
+    /// Condition: it is a call of the problem.
+    fn has_no_run_of(
+        &mut self,
+        alloc: Global,
+        problem: &Problem<O>,
+        call: usize,
+    ) -> Result<bool, AllocError>
+        requires { call < length problem.now.calls }
+        ensures { IfOk result (λ none. IsTrue none
+            → HasNoRunOf (problem_of O.after O.State.eq O.Reply.eq problem.now) call) };
+}

@@ -1,0 +1,151 @@
+//! Parts of a problem of the seven kinds, made anew by their events. Nothing is proved of how they are made: each part is
+//! compared with the whole, call by call.
+ghost use Rattle.std.specs.Prelude.{◌≡◌, ◌⊎◌, ◌+◌, ◌<◌, ◌≤◌, ◌^◌, ℕ, None, Some, IfOk, IfSome, IsTrue, IsSome, IsSomeAnd, length, slice_get, slice_index};
+ghost use Rattle.lin_ahead.specs.AnyProblem.{any_problem};
+ghost use Rattle.lin_prefixes.specs.Prefixes.{IsLoosePrefix};
+
+use lin_history::{Problem, ProblemCall, ProblemEvent};
+use lin_object::{AnyObject, Op, Reply, SeqObject};
+use std::alloc::{AllocError, Global};
+
+// Whether both calls are the same but for their returns.
+fn same_start(a: &ProblemCall<Op, Reply>, b: &ProblemCall<Op, Reply>) -> bool
+    ensures process { IsTrue result → a.now.process ≡ b.now.process }
+    ensures op { IsTrue result → a.now.op ≡ b.now.op }
+    ensures called { IsTrue result → a.now.called ≡ b.now.called }
+{
+    a.process == b.process && a.op == b.op && a.called == b.called
+}
+
+// Whether both are pending, or returned at one number with the same reply.
+fn same_return(a: &Option<(u32, Reply)>, b: &Option<(u32, Reply)>) -> bool
+    ensures { IsTrue result → a.now ≡ b.now }
+{
+    match (a, b) {
+        (None, None) => true,
+        (Some((m, r)), Some((n, s))) => *m == *n && *r == *s,
+        (None, Some(_)) => false,
+        (Some(_), None) => false,
+    }
+}
+
+// Whether both calls are the same.
+fn same_call(a: &ProblemCall<Op, Reply>, b: &ProblemCall<Op, Reply>) -> bool
+    ensures { IsTrue result → a.now ≡ b.now }
+{
+    same_start(a, b) && same_return(&a.returned, &b.returned)
+}
+
+// Whether the call is the other one made pending, or the same and returned before the event.
+fn same_or_pending(own: &ProblemCall<Op, Reply>, call: &ProblemCall<Op, Reply>, event: u32) -> bool
+    ensures { IsTrue result
+        → ((own.now ≡ call.now) × IsSomeAnd call.now.returned (λ r. r.0 < event))
+        ⊎ (own.now ≡ record call.now { returned = None }) }
+{
+    match &own.returned {
+        None => same_start(own, call),
+        Some((number, _)) => same_call(own, call) && *number < event,
+    }
+}
+
+// Whether the problem has just these calls.
+pub(crate) fn is_part(
+    problem: &Problem<AnyObject>,
+    kept: &[usize],
+    part: &Problem<AnyObject>,
+) -> bool
+    ensures count { IsTrue result → length part.now.calls ≡ length kept.now }
+    ensures same { IsTrue result → (i : ℕ) → i < length kept.now
+        → slice_get part.now.calls i ≡ slice_get problem.now.calls (slice_index kept.now i) }
+{
+    if part.len() != kept.len() {
+        return false;
+    }
+    for i in 0..kept.len() {
+        if kept[i] >= problem.len() || !same_call(part.call(i), problem.call(kept[i])) {
+            return false;
+        }
+    }
+    true
+}
+
+// Whether the problem has the calls up to this one, those pending that do not precede it.
+pub(crate) fn is_loose_prefix(
+    problem: &Problem<AnyObject>,
+    call: usize,
+    part: &Problem<AnyObject>,
+) -> bool
+    requires { call < length problem.now.calls }
+    ensures { IsTrue result → IsLoosePrefix (any_problem problem.now) call part.now.calls }
+{
+    let _calls = problem.calls();
+    let event = problem.call(call).called;
+    if part.len() != call + 1 {
+        return false;
+    }
+    for c in 0..part.len() {
+        if !same_or_pending(part.call(c), problem.call(c), event) {
+            return false;
+        }
+    }
+    true
+}
+
+// Adds the event of the whole's call, if it is one of those kept and no return from the event `until` on. `false` where it
+// was refused.
+fn add_event(
+    part: &mut Problem<AnyObject>,
+    problem: &Problem<AnyObject>,
+    kept: &[usize],
+    until: u64,
+    event: &ProblemEvent,
+) -> bool
+    ensures { part.new.start ≡ part.old.start }
+{
+    match event {
+        ProblemEvent::Call(call) => {
+            let Some(made) = problem.calls().get(*call) else {
+                return false;
+            };
+            if kept.binary_search(call).is_err() {
+                return true;
+            }
+            part.add_call(made.process, made.op, made.called).is_ok()
+        }
+        ProblemEvent::Return(call) => {
+            let Some(made) = problem.calls().get(*call) else {
+                return false;
+            };
+            let Ok(index) = kept.binary_search(call) else {
+                return true;
+            };
+            match &made.returned {
+                Some((number, reply)) if u64::from(*number) < until => {
+                    part.add_return(index, *reply, *number).is_ok()
+                }
+                _ => true,
+            }
+        }
+    }
+}
+
+// The problem of these calls, which stand in increasing order, by the events of the whole in the order of their numbers; the
+// returns from the event `until` on are left out. `None` where an event was refused.
+pub(crate) fn made_anew(
+    alloc: Global,
+    problem: &Problem<AnyObject>,
+    events: &[ProblemEvent],
+    kept: &[usize],
+    until: u64,
+) -> Result<Option<Problem<AnyObject>>, AllocError>
+    ensures { IfOk result (λ answer. IfSome answer (λ part. part.start ≡ problem.now.start)) }
+{
+    let start = problem.object().copy_state(alloc, problem.start())?;
+    let mut part = Problem::new(alloc, AnyObject, start);
+    for event in events {
+        if !add_event(&mut part, problem, kept, until, event) {
+            return Ok(None);
+        }
+    }
+    Ok(Some(part))
+}

@@ -1,0 +1,38 @@
+//! The search of a whole problem by its prefixes.
+
+ghost use Rattle.std.specs.Prelude.{IfOk, IfSome};
+ghost use Rattle.lin_ahead.specs.AnyProblem.{any_problem};
+ghost use Rattle.lin_prefixes.specs.WholeAnswer.{IsWholeAnswer};
+
+use crate::anew_search::AnewSearch;
+use crate::by_prefixes::longest_by_prefixes;
+use crate::part_answer::PartAnswer;
+use crate::whole_answer::WholeAnswer;
+use lin_history::Problem;
+use lin_object::AnyObject;
+use std::alloc::{AllocError, Global};
+
+/// The least linearization of the problem; or, where it has none, the first of its longest runs, from searches of smaller
+/// problems for their least linearizations. `None` where all these searches together would have made more lifts than so
+/// many, or where that is not known: where a pending call of the longest run has no step. No configuration is kept from one
+/// search to the next. `AllocError` where memory was refused.
+///
+/// It is quick where something is known ahead of the problem (`known_ahead`) and its searches so come to an end soon: a
+/// search is made for each halving of the number of calls, and then some for each few calls that the longest run lacks.
+pub fn search_by_prefixes(
+    alloc: Global,
+    problem: &Problem<AnyObject>,
+    lifts: u64,
+) -> Result<Option<WholeAnswer>, AllocError>
+    ensures { IfOk result (λ answer. IfSome answer (IsWholeAnswer (any_problem problem.now))) }
+{
+    let mut search = AnewSearch::new(alloc, problem, lifts)?;
+    match search.answer_to(alloc, problem)? {
+        PartAnswer::Found(order) => Ok(Some(WholeAnswer::Found(order))),
+        PartAnswer::Unknown => Ok(None),
+        PartAnswer::Refuted => {
+            let run = longest_by_prefixes(alloc, problem, &mut search)?;
+            Ok(run.map(WholeAnswer::Refuted))
+        }
+    }
+}
