@@ -5,4 +5,5 @@ pub mod BeatenLemmas
 pub mod LackLemmas
 pub mod WalkLemmas
 pub mod LooseLemmas
+pub mod CrossedLemmas
 pub mod AnewLemmas

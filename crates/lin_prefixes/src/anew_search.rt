@@ -1,6 +1,7 @@
 //! Searches of parts made anew, which share a budget of lifts.
-ghost use Rattle.std.specs.Prelude.{◌≡◌, ◌<◌, ◌≤◌, ◌+◌, ◌^◌, ℕ, IfOk, IfSome, IsTrue, length};
+ghost use Rattle.std.specs.Prelude.{◌≡◌, ◌<◌, ◌≤◌, ◌+◌, ◌^◌, ℕ, List, IfOk, IfSome, IsTrue, length};
 ghost use Rattle.lin_history.specs.Problems.Lists.{In};
+ghost use Rattle.lin_history.specs.Problems.Linearizations.{IsLinearization};
 ghost use Rattle.lin_ahead.specs.AnyProblem.{any_problem};
 ghost use Rattle.lin_ahead.specs.Behind.{IsRightAhead};
 ghost use Rattle.lin_parts.specs.Parts.{IsRising};
@@ -8,6 +9,7 @@ ghost use Rattle.lin_prefixes.specs.Prefixes.{HasNoRunOf};
 ghost use Rattle.lin_prefixes.specs.PartAnswer.{answer_of, IsAnswerTo, IsPartAnswer};
 
 use crate::call_lists::kept_calls;
+use crate::crossed_calls::some_cross;
 use crate::part_answer::PartAnswer;
 use crate::part_search::PartSearch;
 use crate::parts_anew::{is_loose_prefix, is_part, made_anew};
@@ -85,6 +87,22 @@ fn answer_within(
     }
 }
 
+// Whether what is known ahead shows that there is no linearization, without a search.
+fn shows_none(
+    alloc: Global,
+    part: &Problem<AnyObject>,
+    known: &Option<KnownAhead>,
+) -> Result<bool, AllocError>
+    requires { IfSome known.now (IsRightAhead (any_problem part.now)) }
+    ensures { IfOk result (λ shown. IsTrue shown
+        → (l : List ℕ) → IsLinearization (any_problem part.now) l → ⊥) }
+{
+    match known {
+        Some(ahead) => some_cross(alloc, part, &ahead.needs),
+        None => Ok(false),
+    }
+}
+
 /// Searches of parts of a problem of the seven kinds, each made anew: first searches where something is known ahead, and
 /// searches that keep what they refuted for other parts. All of them together make no more lifts than were given at the
 /// start; from then on they tell nothing.
@@ -145,6 +163,9 @@ impl AnewSearch {
         ensures { IfOk result (IsAnswerTo (any_problem part.now)) }
     {
         let known = known_ahead(alloc, part)?;
+        if shows_none(alloc, part, &known)? {
+            return Ok(PartAnswer::Refuted);
+        }
         self.answer_in_rounds(alloc, part, &known)
     }
 

@@ -10,6 +10,7 @@
 //! - `candidate`: the best run that lacks just these calls.
 //! - `by_prefixes`: the longest run, from the last call that a run may have downwards.
 //! - `parts_anew`: parts of a problem, made anew by their events; `anew_search`: searches of them, with a budget of lifts.
+//! - `crossed_calls`: two calls of which each would have to stand before the other.
 //! - `whole_search`: the search of a whole problem by its prefixes; `whole_answer`: what it answers.
 #![tactic(auto)]
 
@@ -17,6 +18,7 @@ mod anew_search;
 mod by_prefixes;
 mod call_lists;
 mod candidate;
+mod crossed_calls;
 mod part_answer;
 mod part_search;
 mod parts_anew;
