@@ -36,6 +36,8 @@ mod owed_replies;
 mod refuted_set;
 mod stack_hints;
 mod stack_rows;
+mod taker_hints;
+mod takers;
 mod value_calls;
 mod value_rows;
 
