@@ -208,12 +208,14 @@ more_lost p set c items a vs new v w b so_far more' test among' same lost goes' 
     let goes = subst (λ (x : ℤ). GoesBefore p set c items a x) same goes' in
     let more : new ≡ vs ++ v ∷ [] = more' ∙ ap (λ (x : ℤ). vs ++ x ∷ []) same in
     let among : is_in v vs ≡ false = ap (λ (x : ℤ). is_in x vs) (sym same) ∙ sym test ∙ among' in
-    subst (λ (l : List ℤ). AreLostBefore p set c items a l) (sym more)
-    (apart_more vs v so_far.0 (among_false v vs among), λ w h. elim (Item_either w vs (v ∷ []) h) [
-      | inl q ↦ so_far.1 w q
-      | inr (inl e) ↦ subst (λ (u : ℤ). IsLost p u × GoesBefore p set c items a u) (sym e) (lost, goes)
-      | inr (inr q) ↦ absurd q
-    ])
+    subst (λ (l : List ℤ). AreLostBefore p set c items a l) (sym more) (
+      apart_more vs v so_far.0 (among_false v vs among),
+      λ w h. elim (Item_either w vs (v ∷ []) h) [
+        | inl q ↦ so_far.1 w q
+        | inr (inl e) ↦ subst (λ (u : ℤ). IsLost p u × GoesBefore p set c items a u) (sym e) (lost, goes)
+        | inr (inr q) ↦ absurd q
+      ],
+    )
 
 -- ---- what is taken, and by whom
 
@@ -342,10 +344,13 @@ module _ {p : Problem ObjState Op Reply} {start : List ℤ} (of_queue : IsOfQueu
 
       -- a call in front of it is left, and was called by its return
       called : (d : ℕ) → In d mid → IsTaker p d → IsTakerLeft p set c m d
-      called d there taker = (taker, both_true (outside d there) (elim (leb_tells taker.0.called m) [
-        | inl k ↦ (rw taker.1 k.0)
-        | inr k ↦ absurd (not_after d there (returned_before p z d m taker.0 returns.1 taker.1 (let less = k.1 in omega (arith, less))))
-      ]))
+      called d there taker = (
+        taker,
+        both_true (outside d there) (elim (leb_tells taker.0.called m) [
+          | inl k ↦ (rw taker.1 k.0)
+          | inr k ↦ absurd (not_after d there (returned_before p z d m taker.0 returns.1 taker.1 (let less = k.1 in omega (arith, less))))
+        ]),
+      )
 
       too_few : (a : ℕ) → FindsGone p items a z → (vs : List ℤ) → AreLostBefore p set c items a vs → AreFewer p set c m (length vs) → ⊥
       too_few a finds vs lost fewer =

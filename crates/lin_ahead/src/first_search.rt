@@ -121,7 +121,10 @@ impl<'p> FirstSearch<'p> {
 
     // Lifts the frame's call, which leads to the frame's state: that is a success where the configuration is complete then.
     // Else the search goes on from there.
-    fn visit(&mut self, next: Frame<AnyObject>) -> Result<ControlFlow<Order, Option<usize>>, AllocError>
+    fn visit(
+        &mut self,
+        next: Frame<AnyObject>,
+    ) -> Result<ControlFlow<Order, Option<usize>>, AllocError>
         requires room { self.old.lifts + 1 < 2 ^ 64 }
         requires turn { IsFirstTurn (any_problem
             self.old.path.entries.problem) self.old.refuted self.old.lifts
@@ -333,7 +336,9 @@ impl<'p> FirstSearch<'p> {
 
     // Goes back from a configuration all of whose calls were tried, and which is so refuted: keeps it, and goes on after the
     // last frame's call. Where there is no frame, the root is refuted.
-    fn go_back(&mut self) -> Result<ControlFlow<Option<Frame<AnyObject>>, Option<usize>>, AllocError>
+    fn go_back(
+        &mut self,
+    ) -> Result<ControlFlow<Option<Frame<AnyObject>>, Option<usize>>, AllocError>
         requires progress { IsFirstProgress (any_problem
             self.old.path.entries.problem) self.old.refuted self.old.lifts
             self.old.path.entries.lifted self.old.path.frames.items self.old.path.config None }
@@ -450,8 +455,9 @@ impl<'p> FirstSearch<'p> {
 
 /// The search from the root that only asks whether there is a linearization, and for the least one (this project's
 /// own). It makes at most so many lifts. It passes over each call that needs one that is not lifted, before a state is made,
-/// each push that is known to be too late, and each pending call that would get a reply which is owed to another; and it keeps of a refuted configuration only that
-/// it is refuted. So it may meet far fewer configurations than `search`, and what it keeps is of no use to that one.
+/// each push that is known to be too late, each pending call that would get a reply which is owed to another, and each call that
+/// leaves too few dequeues for what must be taken out of a queue; and it keeps of a refuted configuration only that it is
+/// refuted. So it may meet far fewer configurations than `search`, and what it keeps is of no use to that one.
 ///
 /// `Found` with the least linearization; `Refuted` where there is none; `Exhausted` where as many lifts were made and
 /// another was to be made. `AllocError` where memory was refused.

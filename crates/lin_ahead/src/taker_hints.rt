@@ -2,9 +2,10 @@
 //! returned with, and which calls find that gone. All of it is a hint.
 
 use crate::calls_in_turn::CallsInTurn;
+use crate::each_item::told_of;
 use crate::item_calls::BEYOND;
 use crate::look_ahead::KnownAhead;
-use crate::takers::{After, Wanting, item_put, lost_item};
+use crate::takers::{After, Wanting, item_put};
 use indexmap::IndexMap;
 use lin_history::{Problem, ProblemCall};
 use lin_object::{AnyObject, Op, Reply};
@@ -48,8 +49,10 @@ fn takers_by_item(
 ) -> Result<IndexMap<i64, usize>, AllocError> {
     let mut takers = IndexMap::new(alloc);
     for call in 0..calls.len() {
-        if let (Op::Dequeue, Some((_, Reply::Int(item)))) = (&calls[call].op, &calls[call].returned)
-        {
+        if let (Op::Dequeue, Some((_, Reply::Int(item)))) = (
+            &calls[call].op,
+            &calls[call].returned,
+        ) {
             takers.insert(*item, call)?;
         }
     }
@@ -128,7 +131,8 @@ fn first_called_after(calls: &[ProblemCall<Op, Reply>], event: u64) -> usize {
     for _ in 0..HALVES {
         let half = low / 2 + high / 2;
         match calls.get(half) {
-            Some(call) if low < high && u64::from(call.called) <= event => low = half.saturating_add(1),
+            Some(call) if low < high && u64::from(call.called) <= event => low =
+                half.saturating_add(1),
             _ => high = half,
         }
     }
@@ -143,6 +147,14 @@ fn returned_at(calls: &[ProblemCall<Op, Reply>], call: usize) -> Option<u64> {
     }
 }
 
+// Whether the call puts an item in with which no completed call is told to have returned.
+fn is_told_lost(problem: &Problem<AnyObject>, ahead: &KnownAhead, call: usize) -> bool {
+    match item_put(problem, call) {
+        Some(item) => !told_of(&ahead.items, item).taken,
+        None => false,
+    }
+}
+
 // Whether each call puts a lost item in.
 fn lost_flags(
     alloc: Global,
@@ -151,7 +163,7 @@ fn lost_flags(
 ) -> Result<Vec<bool>, AllocError> {
     let mut flags = Vec::with_capacity(alloc, problem.len())?;
     for call in 0..problem.len() {
-        flags.push(lost_item(problem, ahead, call).is_some())?;
+        flags.push(is_told_lost(problem, ahead, call))?;
     }
     Ok(flags)
 }
@@ -303,7 +315,9 @@ impl TakerHints {
         for place in (0..self.lifted.len()).rev() {
             let call = self.lifted[place];
             match item_put(problem, call) {
-                Some(item) if after.items.has(item) && lying.len() < self.in_sight => lying.push(call)?,
+                Some(item) if after.items.has(item) && lying.len() < self.in_sight => lying.push(
+                    call,
+                )?,
                 _ => return Ok(lying),
             }
         }

@@ -54,18 +54,11 @@ fn is_left_by(problem: &Problem<AnyObject>, after: &After, call: usize, event: u
     ensures { result ≡ is_left_by (any_problem problem.now) after.now.config.now.lifted
         after.now.call event call }
 {
-    is_left(after, call)
-        && call < problem.len()
-        && u64::from(problem.call(call).called) <= event
+    is_left(after, call) && call < problem.len() && u64::from(problem.call(call).called) <= event
 }
 
 // How many of these calls are still left and were called by this event.
-fn count_left(
-    problem: &Problem<AnyObject>,
-    after: &After,
-    calls: &[usize],
-    event: u64,
-) -> usize
+fn count_left(problem: &Problem<AnyObject>, after: &After, calls: &[usize], event: u64) -> usize
     ensures { result ≡ left_from (any_problem problem.now) after.now.config.now.lifted
         after.now.call event 0 calls.now }
 {
@@ -132,12 +125,8 @@ fn is_before(problem: &Problem<AnyObject>, call: usize, other: usize) -> bool
     }
 }
 
-/// The item that the call puts in, where no completed call returned with it.
-pub(crate) fn lost_item(
-    problem: &Problem<AnyObject>,
-    ahead: &KnownAhead,
-    call: usize,
-) -> Option<i64>
+// The item that the call puts in, where no completed call returned with it.
+fn lost_item(problem: &Problem<AnyObject>, ahead: &KnownAhead, call: usize) -> Option<i64>
     requires { AreQueueCalls (any_problem problem.now) ahead.now }
     ensures put { IfSome result (Puts (any_problem problem.now) call) }
     ensures lost { IfSome result (IsLost (any_problem problem.now)) }
@@ -286,7 +275,14 @@ pub(crate) fn lacks_takers(
 {
     let mut calls = hints.lying(problem, after)?;
     if let Some(wanting) = hints.wanting(next_needed) {
-        if lacks_takers_for(hints.alloc(), problem, ahead, after, calls.as_slice(), wanting)? {
+        if lacks_takers_for(
+            hints.alloc(),
+            problem,
+            ahead,
+            after,
+            calls.as_slice(),
+            wanting,
+        )? {
             return Ok(true);
         }
     }
@@ -297,7 +293,14 @@ pub(crate) fn lacks_takers(
         if is_left(after, call) {
             calls.push(call)?;
             if let Some(wanting) = hints.wanting_behind(call) {
-                if lacks_takers_for(hints.alloc(), problem, ahead, after, calls.as_slice(), wanting)? {
+                if lacks_takers_for(
+                    hints.alloc(),
+                    problem,
+                    ahead,
+                    after,
+                    calls.as_slice(),
+                    wanting,
+                )? {
                     return Ok(true);
                 }
             }

@@ -10,7 +10,7 @@ leave-requires-clause-last c = lifted_last _ _ _ _ _ _ c.requires.lifted
 pub returns-then-has-clause-progress : goal.returns-then-has-clause-progress
 returns-then-has-clause-progress c =
     let k = c.requires.lifted in
-    let refuted = refuted_among k.progress.alike _ _ _ k.progress.refuted (rw c.config-3.ensures at (c.has.ensures c.if-has.true)) in
+    let refuted = refuted_among k.progress.alike _ _ _ k.progress.refuted (rw c.config-4.ensures at (c.has.ensures c.if-has.true)) in
     rw (c.leave.ensures.frames, c.leave.ensures.refuted, c.leave.ensures.lifts) (first_hit _ _ _ _ _ _ k _ _ _ c.leave.ensures.last c.in_ok-next.ensures.lifted c.in_ok-next.ensures.state refuted c.in_ok-next.ensures.candidate)
 
 pub descend-requires : goal.descend-requires
