@@ -411,7 +411,7 @@ FAMILIES = {
         f"stopped_{stops}": Family(
             f"the same with 64 items, and {stops} more that stop within a dequeue", "calls", BACKLOG_CALLS, 0, backlog(FilledQueue, 64, stops=stops)
         )
-        for stops in (1, 2, 4)
+        for stops in (1, 2, 4, 8, 16)
     },
     "stack": Family("a stack, 6 processes", "calls", CALLS, 0, buffer(Stack)),
     "stack_no": Family("the same, two results swapped", "calls", CALLS, 1, buffer_swapped(Stack)),
@@ -420,6 +420,16 @@ FAMILIES = {
             f"a stack filled to {most} items and emptied, {processes} processes", "calls", BACKLOG_CALLS, 0, backlog(FilledStack, most, processes)
         )
         for most, processes in ((16, 6), (64, 16), (128, 32))
+    },
+    **{
+        f"stack_stopped_{stops}": Family(
+            f"a stack filled to 64 items and emptied, 6 processes, and {stops} more that stop within a pop",
+            "calls",
+            BACKLOG_CALLS,
+            0,
+            backlog(FilledStack, 64, stops=stops),
+        )
+        for stops in (1, 2, 4)
     },
     "map": Family("a map of 16 keys, 6 processes", "calls", CALLS, 0, maps),
     **{

@@ -13,7 +13,9 @@ use Rattle.lin_history.specs.Problems.ProblemParts.{ProblemParts, AreTimed}
 use Rattle.lin_history.specs.Problems.Problem.{Problem}
 use Rattle.lin_ahead.specs.declared.item_calls.ItemCalls.{ItemCalls}
 use Rattle.lin_ahead.specs.AnyProblem.{any_problem}
-use Rattle.lin_ahead.specs.ItemCalls.{goes_in_once, nothing_told, told, least_pending}
+use Rattle.std.specs.Ordering.{int_eq}
+use Rattle.indexmap.specs.IndexMap.{get}
+use Rattle.lin_ahead.specs.ItemCalls.{goes_in_once, nothing_told, told, told_in, least_pending}
 use Rattle.lin_ahead.specs.Owed.{HasReply, IsOwed, AreOwed}
 use Rattle.lin_ahead.specs.Behind.{AreNeedsBehind, IsRightAhead, NeedsBehind}
 use Rattle.lin_ahead.specs.CallNumbers.{by_row, from_row}
@@ -130,7 +132,7 @@ takers_are p i c e =
     let op = taker_op k.1.op k.1.returned k.4 in
     (k.1, subst (λ (n : ℕ). slice_get p.calls n ≡ Some k.1) same k.3, op.0, op.1)
 
-every_taker : (p : Problem ObjState Op Reply) (c : ℕ) → IsTaker p c → (i : ℕ) × (slice_get (takers_from 0 p.calls) i ≡ Some c)
+pub every_taker : (p : Problem ObjState Op Reply) (c : ℕ) → IsTaker p c → (i : ℕ) × (slice_get (takers_from 0 p.calls) i ≡ Some c)
 every_taker p c (x, there, op, back) =
     let k = every_listed 0 p.calls c x there (rw (op, back) refl) in
     (k.0, k.1 ∙ ap Some (omega arith))
@@ -210,12 +212,13 @@ module _ {Object : Type 0} (p : ProblemParts Object ObjState Op Reply) where
       go x is (Lookup k) e f = absurd (omega (arith, below, f))
       go x is (Delete k) e f = absurd (omega (arith, below, f))
 
-  pub is_right : p.start ≡ Queue [] → AreTimed p.calls → (ahead : KnownAhead) → ahead.needs.by ≡ by_row (told p.calls) p.calls → ahead.needs.from ≡ from_row (told p.calls) (least_pending p.calls) p.calls → ahead.taken.items ≡ taken_row (told p.calls) p.calls → ahead.takers.items ≡ takers_from 0 p.calls → ahead.owed.items ≡ once_row (told p.calls) p.calls → ahead.held.items ≡ [] → ahead.in_vain ≡ false → ahead.late.from.items ≡ [] → IsRightAhead (any_problem p) ahead
-  is_right start timed ahead bys froms taken takers owed held in_vain late = record {
+  pub is_right : p.start ≡ Queue [] → AreTimed p.calls → (ahead : KnownAhead) → ahead.needs.by ≡ by_row (told p.calls) p.calls → ahead.needs.from ≡ from_row (told p.calls) (least_pending p.calls) p.calls → ahead.taken.items ≡ taken_row (told p.calls) p.calls → ahead.takers.items ≡ takers_from 0 p.calls → ahead.owed.items ≡ once_row (told p.calls) p.calls → ahead.held.items ≡ [] → ahead.in_vain ≡ false → ahead.late.from.items ≡ [] → ((v : ℤ) → told_in (get int_eq ahead.items) v ≡ told p.calls v) → IsRightAhead (any_problem p) ahead
+  is_right start timed ahead bys froms taken takers owed held in_vain late items = record {
     needs = (let k = known p ahead.needs start timed bys froms in record { each_by = k.each_by; each_from = k.each_from; needed = λ a b m n there here below other. k.needed a b m n there here below });
     behind = rw (bys, taken, takers) (are_behind start timed);
     owed = rw owed (are_owed start);
     held = rw held (λ g e. absurd (cc));
     in_vain = λ e. absurd (cc);
     late = nothing_late (any_problem p) ahead.late late;
+    queue = λ e. (items, takers);
   }

@@ -340,6 +340,7 @@ module _ (law : MapLaw after state_eq.it) where
       held = λ g there. held_on_map g (right.held g there);
       in_vain = λ is l whole. right.in_vain is l (of_value l whole);
       late = nothing_late P ahead.late late;
+      queue = λ e. absurd (let f = start in cc);
     }
 
 -- the calls are on a key

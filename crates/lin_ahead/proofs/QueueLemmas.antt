@@ -23,15 +23,15 @@ use Rattle.lin_ahead.proofs.NeedsLemmas.{place_split}
 
 -- ---- items
 
-Item_early : (v : ℤ) (xs ys : List ℤ) → Item v xs → Item v (xs ++ ys)
+pub Item_early : (v : ℤ) (xs ys : List ℤ) → Item v xs → Item v (xs ++ ys)
 Item_early v [] ys h = absurd h
 Item_early v (x ∷ xs) ys h = elim h [ inl e ↦ inl e | inr more ↦ inr (Item_early v xs ys more) ]
 
-Item_late : (v : ℤ) (xs ys : List ℤ) → Item v ys → Item v (xs ++ ys)
+pub Item_late : (v : ℤ) (xs ys : List ℤ) → Item v ys → Item v (xs ++ ys)
 Item_late v [] ys h = h
 Item_late v (x ∷ xs) ys h = inr (Item_late v xs ys h)
 
-Item_either : (v : ℤ) (xs ys : List ℤ) → Item v (xs ++ ys) → Item v xs ⊎ Item v ys
+pub Item_either : (v : ℤ) (xs ys : List ℤ) → Item v (xs ++ ys) → Item v xs ⊎ Item v ys
 Item_either v [] ys h = inr h
 Item_either v (x ∷ xs) ys h = elim h [ inl e ↦ inl (inl e) | inr more ↦ elim (Item_either v xs ys more) [ inl k ↦ inl (inr k) | inr k ↦ inr k ] ]
 
@@ -44,7 +44,7 @@ Item_place v (x ∷ xs) h = elim h [
 ]
 
 -- a place in items of two parts: in the first, or in the second
-item_split : (xs ys front : List ℤ) (w : ℤ) (rest : List ℤ) → xs ++ ys ≡ front ++ w ∷ rest → Item w xs ⊎ ((more : List ℤ) × (front ≡ xs ++ more) × (ys ≡ more ++ w ∷ rest))
+pub item_split : (xs ys front : List ℤ) (w : ℤ) (rest : List ℤ) → xs ++ ys ≡ front ++ w ∷ rest → Item w xs ⊎ ((more : List ℤ) × (front ≡ xs ++ more) × (ys ≡ more ++ w ∷ rest))
 item_split [] ys front w rest e = inr (front, refl, e)
 item_split (x ∷ xs) ys [] w rest e = inl (inl (let h : x ≡ w = cc in sym h))
 item_split (x ∷ xs) ys (z ∷ front) w rest e =
@@ -67,11 +67,11 @@ has_none zero c = refl
 has_none (suc n) zero = refl
 has_none (suc n) (suc c) = has_none n c
 
-In_early : (c : ℕ) (xs ys : List ℕ) → In c xs → In c (xs ++ ys)
+pub In_early : (c : ℕ) (xs ys : List ℕ) → In c xs → In c (xs ++ ys)
 In_early c [] ys h = absurd h
 In_early c (x ∷ xs) ys h = elim h [ inl e ↦ inl e | inr more ↦ inr (In_early c xs ys more) ]
 
-In_late : (c : ℕ) (xs ys : List ℕ) → In c ys → In c (xs ++ ys)
+pub In_late : (c : ℕ) (xs ys : List ℕ) → In c ys → In c (xs ++ ys)
 In_late c [] ys h = h
 In_late c (x ∷ xs) ys h = inr (In_late c xs ys h)
 
@@ -79,7 +79,7 @@ In_either : (c : ℕ) (xs ys : List ℕ) → In c (xs ++ ys) → In c xs ⊎ In 
 In_either c [] ys h = inr h
 In_either c (x ∷ xs) ys h = elim h [ inl e ↦ inl (inl e) | inr more ↦ elim (In_either c xs ys more) [ inl p ↦ inl (inr p) | inr p ↦ inr p ] ]
 
-In_place : (c : ℕ) (l : List ℕ) → In c l → (early : List ℕ) × (late : List ℕ) × (l ≡ early ++ c ∷ late)
+pub In_place : (c : ℕ) (l : List ℕ) → In c l → (early : List ℕ) × (late : List ℕ) × (l ≡ early ++ c ∷ late)
 In_place c [] h = absurd h
 In_place c (d ∷ l) h = elim h [
   | inl e ↦ ([], l, ap (λ (y : ℕ). y ∷ l) (sym e))
@@ -102,7 +102,7 @@ either_first (x ∷ xs) a ys (z ∷ front) b rest e ne =
 -- ---- one step of a queue
 
 -- the answer is this state and this reply
-abbrev Is : Option (ObjState × Reply) → ObjState → Reply → Type 0
+abbrev pub Is : Option (ObjState × Reply) → ObjState → Reply → Type 0
 Is answer m r = answer ≡ Some (m, r)
 
 inside : {x y : ObjState × Reply} → ◌≡◌ {A = Option (ObjState × Reply)} (Some x) (Some y) → x ≡ y
@@ -121,7 +121,7 @@ pub record QueueStep (items : List ℤ) (op : Op) (m : ObjState) (r : Reply) : T
   pub same : items ++ put_in_by op ≡ taken_out_by op r ++ rest
   pub took : (v : ℤ) → Item v (taken_out_by op r) → (op ≡ Dequeue) × (r ≡ Int v)
 
-queue_leaves : (items : List ℤ) (op : Op) (m : ObjState) (r : Reply) → Is (queue_step items op) m r → QueueStep items op m r
+pub queue_leaves : (items : List ℤ) (op : Op) (m : ObjState) (r : Reply) → Is (queue_step items op) m r → QueueStep items op m r
 queue_leaves items (Enqueue w) m r e = record { rest = items ++ w ∷ []; ends = sym (state_of e); same = refl; took = λ v h. absurd h }
 queue_leaves [] Dequeue m r e = record {
   rest = [];
@@ -153,16 +153,16 @@ queue_leaves items (Lookup k) m r e = absurd (cc)
 queue_leaves items (Delete k) m r e = absurd (cc)
 
 -- what a dequeue tells of the queue by its reply
-queue_answered : (items : List ℤ) (m : ObjState) (w : ℤ) → Is (queue_step items Dequeue) m (Int w) → (rest : List ℤ) × (items ≡ w ∷ rest) × (m ≡ Queue rest)
+pub queue_answered : (items : List ℤ) (m : ObjState) (w : ℤ) → Is (queue_step items Dequeue) m (Int w) → (rest : List ℤ) × (items ≡ w ∷ rest) × (m ≡ Queue rest)
 queue_answered [] m w e = absurd (let f = reply_of e in cc)
 queue_answered (u ∷ items) m w e = (items, (let f = reply_of e in let g : u ≡ w = cc in ap (λ (y : ℤ). y ∷ items) g), sym (state_of e))
 
-queue_empty : (items : List ℤ) (m : ObjState) → Is (queue_step items Dequeue) m Empty → (items ≡ []) × (m ≡ Queue [])
+pub queue_empty : (items : List ℤ) (m : ObjState) → Is (queue_step items Dequeue) m Empty → (items ≡ []) × (m ≡ Queue [])
 queue_empty [] m e = (refl, sym (state_of e))
 queue_empty (u ∷ items) m e = absurd (let f = reply_of e in cc)
 
 -- only a dequeue answers with an item
-only_dequeues : (items : List ℤ) (op : Op) (m : ObjState) (v : ℤ) → Is (queue_step items op) m (Int v) → op ≡ Dequeue
+pub only_dequeues : (items : List ℤ) (op : Op) (m : ObjState) (v : ℤ) → Is (queue_step items op) m (Int v) → op ≡ Dequeue
 only_dequeues items (Enqueue w) m v e = absurd (let f = reply_of e in cc)
 only_dequeues items Dequeue m v e = refl
 only_dequeues items (Write w) m v e = absurd (cc)
@@ -192,30 +192,30 @@ module _ {p : Problem ObjState Op Reply} {start : List ℤ} (of_queue : IsOfQueu
       go false f g = absurd (cc)
 
   -- a step of a call at a queue
-  stepped : (items : List ℤ) (m : ObjState) (c : ℕ) (x : ProblemCall Op Reply) → slice_get p.calls c ≡ Some x → next p (Queue items) c ≡ Some m → (r : Reply) × Is (queue_step items x.op) m r × (fits p.same_reply r x.returned ≡ true)
+  pub stepped : (items : List ℤ) (m : ObjState) (c : ℕ) (x : ProblemCall Op Reply) → slice_get p.calls c ≡ Some x → next p (Queue items) c ≡ Some m → (r : Reply) × Is (queue_step items x.op) m r × (fits p.same_reply r x.returned ≡ true)
   stepped items m c x e step =
       let step' : state_if_fits p.same_reply x.returned (p.after (Queue items) x.process x.op) ≡ Some m = rw e at step in
       let k = fits_some (p.after (Queue items) x.process x.op) x.returned m step' in
       (k.0, sym (of_queue.after_is (Queue items) x.process x.op) ∙ k.1, k.2)
 
-  has_call : (s m : ObjState) (c : ℕ) → next p s c ≡ Some m → (x : ProblemCall Op Reply) × (slice_get p.calls c ≡ Some x)
+  pub has_call : (s m : ObjState) (c : ℕ) → next p s c ≡ Some m → (x : ProblemCall Op Reply) × (slice_get p.calls c ≡ Some x)
   has_call s m c step = go (slice_get p.calls c) refl
     where
       go : (o : Option (ProblemCall Op Reply)) → slice_get p.calls c ≡ o → (x : ProblemCall Op Reply) × (slice_get p.calls c ≡ Some x)
       go (Some x) e = (x, e)
       go None e = absurd (let f = rw e at step in cc)
 
-  fits_recorded : (r : Reply) (recorded : Option (ℕ × Reply)) → fits p.same_reply r recorded ≡ true → IfSome recorded (λ q. q.1 ≡ r)
+  pub fits_recorded : (r : Reply) (recorded : Option (ℕ × Reply)) → fits p.same_reply r recorded ≡ true → IfSome recorded (λ q. q.1 ≡ r)
   fits_recorded r None e = tt
   fits_recorded r (Some q) e = sym (of_queue.exact r q.1 e)
 
   -- ---- a run of calls
 
-  abbrev puts_by : Option (ProblemCall Op Reply) → List ℤ
+  abbrev pub puts_by : Option (ProblemCall Op Reply) → List ℤ
   puts_by None = []
   puts_by (Some x) = put_in_by x.op
 
-  abbrev puts : List ℕ → List ℤ
+  abbrev pub puts : List ℕ → List ℤ
   puts [] = []
   puts (c ∷ cs) = puts_by (slice_get p.calls c) ++ puts cs
 
@@ -227,7 +227,7 @@ module _ {p : Problem ObjState Op Reply} {start : List ℤ} (of_queue : IsOfQueu
     same : items ++ puts l ≡ took ++ rest
     taker : (v : ℤ) → Item v took → (j : ℕ) × In j l × MayTake p j v
 
-  chain : (items put puts taken takens rest more : List ℤ) → items ++ put ≡ taken ++ more → more ++ puts ≡ takens ++ rest → items ++ (put ++ puts) ≡ (taken ++ takens) ++ rest
+  pub chain : (items put puts taken takens rest more : List ℤ) → items ++ put ≡ taken ++ more → more ++ puts ≡ takens ++ rest → items ++ (put ++ puts) ≡ (taken ++ takens) ++ rest
   chain items put puts taken takens rest more one later =
       sym (append_assoc items put puts) ∙ ap (λ (l : List ℤ). l ++ puts) one ∙ append_assoc taken more puts ∙ ap (λ (l : List ℤ). taken ++ l) later ∙ sym (append_assoc taken takens rest)
 
@@ -282,14 +282,14 @@ module _ {p : Problem ObjState Op Reply} {start : List ℤ} (of_queue : IsOfQueu
         | inr q ↦ inr (q.0, (x, e, q.1), ap puts_by e ∙ q.2)
       ]
 
-  record PutAt (l : List ℕ) (front : List ℤ) (w : ℤ) (rest : List ℤ) : Type 0 where
-    early : List ℕ
-    call : ℕ
-    late : List ℕ
-    place : l ≡ early ++ call ∷ late
-    put : Puts p call w
-    before : puts early ≡ front
-    after_ : puts late ≡ rest
+  pub record PutAt (l : List ℕ) (front : List ℤ) (w : ℤ) (rest : List ℤ) : Type 0 where
+    pub early : List ℕ
+    pub call : ℕ
+    pub late : List ℕ
+    pub place : l ≡ early ++ call ∷ late
+    pub put : Puts p call w
+    pub before : puts early ≡ front
+    pub after_ : puts late ≡ rest
 
   put_later : (c : ℕ) (cs : List ℕ) (w : ℤ) (new front rest : List ℤ) → puts_by (slice_get p.calls c) ≡ new → PutAt cs front w rest → PutAt (c ∷ cs) (new ++ front) w rest
   put_later c cs w new front rest e k = record {
@@ -302,7 +302,7 @@ module _ {p : Problem ObjState Op Reply} {start : List ℤ} (of_queue : IsOfQueu
     after_ = k.after_;
   }
 
-  put_place : (l : List ℕ) (front : List ℤ) (w : ℤ) (rest : List ℤ) → puts l ≡ front ++ w ∷ rest → PutAt l front w rest
+  pub put_place : (l : List ℕ) (front : List ℤ) (w : ℤ) (rest : List ℤ) → puts l ≡ front ++ w ∷ rest → PutAt l front w rest
   put_place [] [] w rest e = absurd (cc)
   put_place [] (z ∷ front) w rest e = absurd (cc)
   put_place (c ∷ cs) front w rest e = elim (call_puts c) [
@@ -334,7 +334,7 @@ module _ {p : Problem ObjState Op Reply} {start : List ℤ} (of_queue : IsOfQueu
   put_by : (c : ℕ) (v : ℤ) → Puts p c v → puts_by (slice_get p.calls c) ≡ v ∷ []
   put_by c v k = ap puts_by k.1 ∙ ap put_in_by k.2
 
-  put_there : (l : List ℕ) (c : ℕ) (v : ℤ) → Puts p c v → In c l → Item v (puts l)
+  pub put_there : (l : List ℕ) (c : ℕ) (v : ℤ) → Puts p c v → In c l → Item v (puts l)
   put_there [] c v k h = absurd h
   put_there (d ∷ l) c v k h = elim h [
     | inl e ↦ Item_early v (puts_by (slice_get p.calls d)) (puts l) (subst (λ (xs : List ℤ). Item v xs) (sym (put_by d v (subst (λ (n : ℕ). Puts p n v) e k))) (inl refl))
@@ -349,7 +349,7 @@ module _ {p : Problem ObjState Op Reply} {start : List ℤ} (of_queue : IsOfQueu
   distinct_late [] ys d = d
   distinct_late (x ∷ xs) ys d = distinct_late xs ys d.1
 
-  distinct_early : (xs ys : List ℕ) → IsDistinct (xs ++ ys) → IsDistinct xs
+  pub distinct_early : (xs ys : List ℕ) → IsDistinct (xs ++ ys) → IsDistinct xs
   distinct_early [] ys d = tt
   distinct_early (x ∷ xs) ys d = ((λ h. d.0 (In_early x xs ys h)), distinct_early xs ys d.1)
 
@@ -370,7 +370,7 @@ module _ {p : Problem ObjState Op Reply} {start : List ℤ} (of_queue : IsOfQueu
 
   -- ---- a moment of a linearization
 
-  legal_split : (xs ys : List ℕ) (s u : ObjState) → Legal p s (xs ++ ys) u → (t : ObjState) × Legal p s xs t × Legal p t ys u
+  pub legal_split : (xs ys : List ℕ) (s u : ObjState) → Legal p s (xs ++ ys) u → (t : ObjState) × Legal p s xs t × Legal p t ys u
   legal_split [] ys s u k = (s, refl, k)
   legal_split (x ∷ xs) ys s u k = let r = legal_split xs ys k.0 u k.2 in (r.0, (k.0, k.1, r.1), r.2)
 
@@ -390,10 +390,10 @@ module _ {p : Problem ObjState Op Reply} {start : List ℤ} (of_queue : IsOfQueu
     | inr q ↦ apart i early (i ∷ late) run.distinct q (inl refl)
   ]
 
-  took_completed : (i : ℕ) (x : ProblemCall Op Reply) (n : ℕ) (r : Reply) → slice_get p.calls i ≡ Some x → x.returned ≡ Some (n, r) → IsCompleted p i
+  pub took_completed : (i : ℕ) (x : ProblemCall Op Reply) (n : ℕ) (r : Reply) → slice_get p.calls i ≡ Some x → x.returned ≡ Some (n, r) → IsCompleted p i
   took_completed i x n r e f = rw (e, f) refl
 
-  replied : (items : List ℤ) (m : ObjState) (i : ℕ) (x : ProblemCall Op Reply) (n : ℕ) (r : Reply) → slice_get p.calls i ≡ Some x → x.op ≡ Dequeue → x.returned ≡ Some (n, r) → next p (Queue items) i ≡ Some m → Is (queue_step items Dequeue) m r
+  pub replied : (items : List ℤ) (m : ObjState) (i : ℕ) (x : ProblemCall Op Reply) (n : ℕ) (r : Reply) → slice_get p.calls i ≡ Some x → x.op ≡ Dequeue → x.returned ≡ Some (n, r) → next p (Queue items) i ≡ Some m → Is (queue_step items Dequeue) m r
   replied items m i x n r e op f step =
       let k = stepped items m i x e step in
       let fit : p.same_reply k.0 r ≡ true = subst (λ (o : Option (ℕ × Reply)). fits p.same_reply k.0 o ≡ true) f k.2 in

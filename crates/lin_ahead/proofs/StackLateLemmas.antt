@@ -219,4 +219,5 @@ module _ {Object : Type 0} (p : ProblemParts Object ObjState Op Reply) where
     held = rw held (λ g e. absurd (cc));
     in_vain = λ e. absurd (cc);
     late = none_late (any_problem p) (exact_any p) start ahead.late late timed;
+    queue = λ e. absurd (let f = start in cc);
   }

@@ -238,6 +238,7 @@ module _ {Object : Type 0} (p : ProblemParts Object ObjState Op Reply) where
     held = rw held (are_held (any_problem p) start (of_any_register p start e));
     in_vain = λ is. in_vain (any_problem p) start (of_any_register p start e) (in_vain_is (any_problem p) start (sym vain ∙ is));
     late = nothing_late (any_problem p) ahead.late late;
+    queue = λ starts. absurd (let f = e in cc);
   }
 
   -- and all is told

@@ -1,14 +1,22 @@
 -- Calls that need others at the configuration that a search is at, and what is known ahead of a problem (this project's own).
-use Rattle.std.specs.Prelude.{◌≡◌, ◌≢◌, ℕ, ◌<◌, Bool, false, Some, List, ◌∷◌, ◌++◌, length, slice_get, IsSomeAnd, IsTrue}
+use Rattle.std.specs.Prelude.{◌≡◌, ◌≢◌, ℕ, ◌<◌, ℤ, Bool, false, Some, List, [], ◌∷◌, ◌++◌, length, slice_get, IsSomeAnd, IsTrue}
+use Rattle.std.specs.Ordering.{int_eq}
+use Rattle.indexmap.specs.IndexMap.{get}
+use Rattle.lin_object.specs.declared.op.Op.{Op}
+use Rattle.lin_object.specs.declared.reply.Reply.{Reply}
+use Rattle.lin_object.specs.declared.state.ObjState.{ObjState}
+use Rattle.lin_object.specs.declared.state.ObjState.TheVariants.{Queue}
 use Rattle.lin_history.specs.Problems.Lists.{In}
 use Rattle.lin_history.specs.Problems.Problem.{Problem}
 use Rattle.lin_history.specs.Problems.Continuations.{has}
 use Rattle.lin_history.specs.Problems.Linearizations.{IsLinearization}
 use Rattle.lin_history.specs.Problems.Needs.{NeedNumbers, Needs}
 use Rattle.lin_ahead.specs.declared.look_ahead.KnownAhead.{KnownAhead}
+use Rattle.lin_ahead.specs.ItemCalls.{told, told_in}
 use Rattle.lin_ahead.specs.Owed.{AreOwed}
 use Rattle.lin_ahead.specs.Held.{AreHeldUntil}
 use Rattle.lin_ahead.specs.Late.{NoneIsLate}
+use Rattle.lin_ahead.specs.ToldAhead.{takers_from}
 
 -- Call b needs call a behind the set: wherever b stands in a linearization, with no call of the set behind it, a stands before it.
 abbrev pub NeedsBehind : {State Op Reply : Type 0} → Problem State Op Reply → List Bool → ℕ → ℕ → Type 0
@@ -33,11 +41,16 @@ pub record AreOtherNeeds {State Op Reply : Type 0} (p : Problem State Op Reply) 
   pub each_from : length rows.from ≡ length p.calls
   pub needed : (a b m n : ℕ) → slice_get rows.by a ≡ Some m → slice_get rows.from b ≡ Some n → m < n → a ≢ b → Needs p a b
 
+-- What is told of each item is what the calls on a queue tell of it, and the takers are the dequeues that are pending.
+abbrev pub AreQueueCalls : Problem ObjState Op Reply → KnownAhead → Type 0
+AreQueueCalls p ahead = ((v : ℤ) → told_in (get int_eq ahead.items) v ≡ told p.calls v) × (ahead.takers.items ≡ takers_from 0 p.calls)
+
 -- What is known ahead is right for the problem.
-pub record IsRightAhead {State Op Reply : Type 0} (p : Problem State Op Reply) (ahead : KnownAhead) : Type 0 where
+pub record IsRightAhead (p : Problem ObjState Op Reply) (ahead : KnownAhead) : Type 0 where
   pub needs : AreOtherNeeds p ahead.needs
   pub behind : AreNeedsBehind p ahead.needs.by ahead.taken.items ahead.takers.items
   pub owed : AreOwed p ahead.owed.items
   pub held : AreHeldUntil p ahead.held.items
   pub late : NoneIsLate p ahead.late
+  pub queue : p.start ≡ Queue [] → AreQueueCalls p ahead
   pub in_vain : IsTrue ahead.in_vain → (l : List ℕ) → IsLinearization p l → ⊥

@@ -17,3 +17,4 @@ pub mod KeyValue
 pub mod Stack
 pub mod ToldOfStack
 pub mod Late
+pub mod Takers

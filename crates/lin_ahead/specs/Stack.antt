@@ -28,7 +28,3 @@ module _ (p : Problem ObjState Op Reply) where
   -- The call returned as it found the stack empty.
   abbrev pub FoundEmpty : ℕ → Type 0
   FoundEmpty c = (x : ProblemCall Op Reply) × (slice_get p.calls c ≡ Some x) × (x.op ≡ Pop) × ((n : ℕ) × (x.returned ≡ Some (n, Empty)))
-
-  -- Call z returned with the item of push a, which no other call pushes.
-  abbrev pub IsPopperOf : ℕ → ℕ → Type 0
-  IsPopperOf a z = (v : ℤ) × Pushes a v × OnlyPushes a v × Popped z v

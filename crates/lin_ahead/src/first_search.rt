@@ -1,6 +1,6 @@
 //! A first search: it passes over calls that are known to begin no completion, and tells nothing of longest runs.
 ghost use Rattle.std.specs.Prelude.{◌≡◌, ℕ, ◌+◌, ◌<◌, ◌^◌, ◌++◌, ◌∷◌, [], List, Option, Some, None, length, IfOk, IfSome, IfNone, IsTrue};
-ghost use Rattle.lin_history.specs.Problems.Problem.{problem_of};
+ghost use Rattle.lin_ahead.specs.AnyProblem.{any_problem};
 ghost use Rattle.lin_history.specs.Problems.Configurations.{IsReachable, IsRefuted};
 ghost use Rattle.lin_history.specs.Problems.Linearizations.{IsLinearization};
 ghost use Rattle.lin_history.specs.Problems.Lists.{IsLeast};
@@ -19,13 +19,15 @@ use crate::finders::Finders;
 use crate::first_answer::FirstAnswer;
 use crate::held_state::held_until;
 use crate::late_pushes::is_late;
-use crate::look_ahead::KnownAhead;
+use crate::look_ahead::{KnownAhead, is_empty};
 use crate::needed_calls::{left_out, needed_in_turn};
 use crate::owed_replies::{is_owed, owed_in_turn, pending_answer};
 use crate::refuted_set::RefutedSet;
 use crate::stack_hints::StackHints;
+use crate::taker_hints::TakerHints;
+use crate::takers::{After, lacks_takers};
 use lin_history::{Order, Problem};
-use lin_object::{SeqObject, lawful};
+use lin_object::{AnyObject, ObjState, lawful};
 use lin_search::{Config, Frame, Longest, Path};
 use std::alloc::{AllocError, Global};
 use std::ops::ControlFlow;
@@ -33,28 +35,29 @@ use std::ops::ControlFlow;
 // The state of a first search: its path, what it has refuted, the calls by how early they are needed, those that are owed
 // a reply, and how many lifts were made. Of longest continuations it tells nothing: those of its frames are left at none.
 #[derive(Drop)]
-struct FirstSearch<'p, O: SeqObject> {
+struct FirstSearch<'p> {
     alloc: Global,
-    path: Path<'p, O>,
-    refuted: RefutedSet<O>,
+    path: Path<'p, AnyObject>,
+    refuted: RefutedSet<AnyObject>,
     needed: CallsInTurn,
     owed: CallsInTurn,
     held: Finders,
     stack: StackHints,
+    takers: TakerHints,
     lifts: u64,
 }
 
-impl<'p, O: SeqObject> FirstSearch<'p, O> {
+impl<'p> FirstSearch<'p> {
     // Takes the frame's call, which was lifted last, back, and goes on after it. The state that the call led to comes into
     // the frame.
-    fn leave(&mut self, frame: &mut Frame<O>) -> Result<Option<usize>, AllocError>
-        requires lifted { lifted_set (problem_of O.after O.State.eq O.Reply.eq
+    fn leave(&mut self, frame: &mut Frame<AnyObject>) -> Result<Option<usize>, AllocError>
+        requires lifted { lifted_set (any_problem
             self.old.path.entries.problem) self.old.path.entries.lifted
             ≡ self.old.path.config.lifted }
         requires last { (before : List ℕ)
             × (self.old.path.entries.lifted ≡ before ++ frame.old.call ∷ [])
-            × IsMinimal (problem_of O.after O.State.eq O.Reply.eq self.old.path.entries.problem)
-            (lifted_set (problem_of O.after O.State.eq O.Reply.eq self.old.path.entries.problem)
+            × IsMinimal (any_problem self.old.path.entries.problem)
+            (lifted_set (any_problem self.old.path.entries.problem)
             before) frame.old.call }
         ensures problem { self.new.path.entries.problem ≡ self.old.path.entries.problem }
         ensures frames { self.new.path.frames ≡ self.old.path.frames }
@@ -64,12 +67,12 @@ impl<'p, O: SeqObject> FirstSearch<'p, O> {
             → self.old.path.entries.lifted ≡ before ++ frame.old.call ∷ []
             → self.new.path.entries.lifted ≡ before }
         ensures lifted { IfOk result (λ next. lifted_set
-            (problem_of O.after O.State.eq O.Reply.eq self.old.path.entries.problem)
+            (any_problem self.old.path.entries.problem)
             self.new.path.entries.lifted ≡ self.new.path.config.lifted) }
         ensures state { IfOk result (λ next. self.new.path.config.state ≡ frame.old.state) }
         ensures after { IfOk result (λ next. frame.new.state ≡ self.old.path.config.state) }
         ensures candidate { IfOk result (λ next. IsLeastMinimal
-            (problem_of O.after O.State.eq O.Reply.eq self.old.path.entries.problem)
+            (any_problem self.old.path.entries.problem)
             self.new.path.config.lifted (frame.old.call + 1) next) }
     {
         self.path.unlift(frame)?;
@@ -77,25 +80,27 @@ impl<'p, O: SeqObject> FirstSearch<'p, O> {
         self.owed.unlifted(frame.call());
         self.held.unlifted(frame.call());
         self.stack.unlifted(frame.call());
+        self.takers.unlifted(frame.call());
         Ok(self.path.after(frame.call(), Longest::none()).candidate)
     }
 
     // Goes on from the configuration that the frame's call, which was lifted last, led to: back where it is known to be
     // refuted, or else from there.
-    fn go_on(&mut self, frame: Frame<O>) -> Result<Option<usize>, AllocError>
-        requires lifted { IsFirstLifted (problem_of O.after O.State.eq O.Reply.eq
+    fn go_on(&mut self, frame: Frame<AnyObject>) -> Result<Option<usize>, AllocError>
+        requires lifted { IsFirstLifted (any_problem
             self.old.path.entries.problem) self.old.refuted self.old.lifts
             self.old.path.entries.lifted self.old.path.frames.items frame self.old.path.config }
-        requires incomplete { HasEveryCompleted (problem_of O.after O.State.eq O.Reply.eq
+        requires incomplete { HasEveryCompleted (any_problem
             self.old.path.entries.problem) self.old.path.config.lifted → ⊥ }
         ensures problem { self.new.path.entries.problem ≡ self.old.path.entries.problem }
         ensures lifts { self.new.lifts ≡ self.old.lifts }
-        ensures progress { IfOk result (IsFirstProgress (problem_of O.after O.State.eq O.Reply.eq
+        ensures progress { IfOk result (IsFirstProgress (any_problem
             self.old.path.entries.problem) self.new.refuted self.new.lifts
             self.new.path.entries.lifted self.new.path.frames.items self.new.path.config) }
     {
         self.held.lifted(self.path.config(), frame.call());
         self.stack.lifted(self.path.config(), frame.call());
+        self.takers.lifted(self.path.config(), frame.call())?;
         if self.refuted.has(self.path.config()) {
             let mut left = frame;
             let next = self.leave(&mut left)?;
@@ -116,14 +121,17 @@ impl<'p, O: SeqObject> FirstSearch<'p, O> {
 
     // Lifts the frame's call, which leads to the frame's state: that is a success where the configuration is complete then.
     // Else the search goes on from there.
-    fn visit(&mut self, next: Frame<O>) -> Result<ControlFlow<Order, Option<usize>>, AllocError>
+    fn visit(
+        &mut self,
+        next: Frame<AnyObject>,
+    ) -> Result<ControlFlow<Order, Option<usize>>, AllocError>
         requires room { self.old.lifts + 1 < 2 ^ 64 }
-        requires turn { IsFirstTurn (problem_of O.after O.State.eq O.Reply.eq
+        requires turn { IsFirstTurn (any_problem
             self.old.path.entries.problem) self.old.refuted self.old.lifts
             self.old.path.entries.lifted self.old.path.frames.items self.old.path.config next }
         ensures problem { self.new.path.entries.problem ≡ self.old.path.entries.problem }
         ensures lifts { IfOk result (λ visit. self.new.lifts ≡ self.old.lifts + 1) }
-        ensures visit { IfOk result (IsFirstVisit (problem_of O.after O.State.eq O.Reply.eq
+        ensures visit { IfOk result (IsFirstVisit (any_problem
             self.old.path.entries.problem) self.new.refuted self.new.lifts
             self.new.path.entries.lifted self.new.path.frames.items self.new.path.config) }
     {
@@ -138,15 +146,15 @@ impl<'p, O: SeqObject> FirstSearch<'p, O> {
 
     // Whether the call is pending, and would get a reply that is owed to another call.
     fn takes_what_is_owed(&self, ahead: &KnownAhead, call: usize) -> Result<bool, AllocError>
-        requires ahead { IsRightAhead (problem_of O.after O.State.eq O.Reply.eq
+        requires ahead { IsRightAhead (any_problem
             self.now.path.entries.problem) ahead.now }
-        requires reachable { IsReachable (problem_of O.after O.State.eq O.Reply.eq
+        requires reachable { IsReachable (any_problem
             self.now.path.entries.problem) self.now.path.config.lifted self.now.path.config.state }
         ensures { IfOk result (λ takes. IsTrue takes → BeginsNone
-            (problem_of O.after O.State.eq O.Reply.eq self.now.path.entries.problem)
+            (any_problem self.now.path.entries.problem)
             self.now.path.config.lifted self.now.path.config.state call) }
     {
-        lawful::<O>();
+        lawful::<AnyObject>();
         let problem = self.path.problem();
         match pending_answer(self.alloc, problem, self.path.config(), call)? {
             Some(reply) => Ok(is_owed(problem, ahead.owed.as_slice(), &self.owed, &reply)),
@@ -156,15 +164,15 @@ impl<'p, O: SeqObject> FirstSearch<'p, O> {
 
     // Whether the call is known to be a push that is too late.
     fn comes_too_late(&self, ahead: &KnownAhead, call: usize) -> bool
-        requires ahead { IsRightAhead (problem_of O.after O.State.eq O.Reply.eq
+        requires ahead { IsRightAhead (any_problem
             self.now.path.entries.problem) ahead.now }
-        requires reachable { IsReachable (problem_of O.after O.State.eq O.Reply.eq
+        requires reachable { IsReachable (any_problem
             self.now.path.entries.problem) self.now.path.config.lifted self.now.path.config.state }
         ensures { IsTrue result → BeginsNone
-            (problem_of O.after O.State.eq O.Reply.eq self.now.path.entries.problem)
+            (any_problem self.now.path.entries.problem)
             self.now.path.config.lifted self.now.path.config.state call }
     {
-        lawful::<O>();
+        lawful::<AnyObject>();
         let problem = self.path.problem();
         is_late(problem, &ahead.late, &self.stack, self.path.config(), call)
     }
@@ -172,15 +180,15 @@ impl<'p, O: SeqObject> FirstSearch<'p, O> {
     // Whether the call, which is minimal, is known to begin no completion: it needs one that is not lifted, is a push that is
     // too late, or would take a reply that is owed to another.
     fn begins_none(&self, ahead: &KnownAhead, call: usize) -> Result<bool, AllocError>
-        requires ahead { IsRightAhead (problem_of O.after O.State.eq O.Reply.eq
+        requires ahead { IsRightAhead (any_problem
             self.now.path.entries.problem) ahead.now }
-        requires reachable { IsReachable (problem_of O.after O.State.eq O.Reply.eq
+        requires reachable { IsReachable (any_problem
             self.now.path.entries.problem) self.now.path.config.lifted self.now.path.config.state }
         ensures { IfOk result (λ known. IsTrue known → BeginsNone
-            (problem_of O.after O.State.eq O.Reply.eq self.now.path.entries.problem)
+            (any_problem self.now.path.entries.problem)
             self.now.path.config.lifted self.now.path.config.state call) }
     {
-        lawful::<O>();
+        lawful::<AnyObject>();
         let config = self.path.config();
         if left_out(self.path.problem(), ahead, &self.needed, config, call).is_some() {
             return Ok(true);
@@ -197,20 +205,20 @@ impl<'p, O: SeqObject> FirstSearch<'p, O> {
         &self,
         ahead: &KnownAhead,
         call: usize,
-        state: &O::State,
+        state: &ObjState,
     ) -> Result<bool, AllocError>
-        requires ahead { IsRightAhead (problem_of O.after O.State.eq O.Reply.eq
+        requires ahead { IsRightAhead (any_problem
             self.now.path.entries.problem) ahead.now }
-        requires reachable { IsReachable (problem_of O.after O.State.eq O.Reply.eq
+        requires reachable { IsReachable (any_problem
             self.now.path.entries.problem) self.now.path.config.lifted self.now.path.config.state }
-        requires next { IsNext (problem_of O.after O.State.eq O.Reply.eq
+        requires next { IsNext (any_problem
             self.now.path.entries.problem) self.now.path.config.lifted self.now.path.config.state
             call state.now }
         ensures { IfOk result (λ known. IsTrue known → BeginsNone
-            (problem_of O.after O.State.eq O.Reply.eq self.now.path.entries.problem)
+            (any_problem self.now.path.entries.problem)
             self.now.path.config.lifted self.now.path.config.state call) }
     {
-        lawful::<O>();
+        lawful::<AnyObject>();
         let config = self.path.config();
         if *state == *config.state() {
             return Ok(false);
@@ -229,23 +237,55 @@ impl<'p, O: SeqObject> FirstSearch<'p, O> {
         }
     }
 
+    // Whether the call, which leads to the state, is known to begin no completion: it leaves too few dequeues that are pending
+    // for what must be taken out of the queue.
+    fn leaves_few_takers(
+        &self,
+        ahead: &KnownAhead,
+        call: usize,
+        state: &ObjState,
+    ) -> Result<bool, AllocError>
+        requires ahead { IsRightAhead (any_problem self.now.path.entries.problem) ahead.now }
+        requires next { IsNext (any_problem self.now.path.entries.problem)
+            self.now.path.config.lifted self.now.path.config.state call state.now }
+        ensures { IfOk result (λ known. IsTrue known → BeginsNone
+            (any_problem self.now.path.entries.problem) self.now.path.config.lifted
+            self.now.path.config.state call) }
+    {
+        if !self.takers.concerns(call) {
+            return Ok(false);
+        }
+        let problem = self.path.problem();
+        match (problem.start(), state) {
+            (ObjState::Queue(start), ObjState::Queue(items)) if is_empty(start) => {
+                let after = After {
+                    config: self.path.config(),
+                    call,
+                    items,
+                };
+                lacks_takers(problem, ahead, &self.takers, &after, self.needed.ahead(0))
+            }
+            _ => Ok(false),
+        }
+    }
+
     // The state that the call, which is minimal, leads to. `None` where no completion begins with the call: where that is
     // known ahead, or it can't follow.
-    fn follow(&self, ahead: &KnownAhead, call: usize) -> Result<Option<O::State>, AllocError>
-        requires ahead { IsRightAhead (problem_of O.after O.State.eq O.Reply.eq
+    fn follow(&self, ahead: &KnownAhead, call: usize) -> Result<Option<ObjState>, AllocError>
+        requires ahead { IsRightAhead (any_problem
             self.now.path.entries.problem) ahead.now }
-        requires reachable { IsReachable (problem_of O.after O.State.eq O.Reply.eq
+        requires reachable { IsReachable (any_problem
             self.now.path.entries.problem) self.now.path.config.lifted self.now.path.config.state }
-        requires minimal { IsMinimal (problem_of O.after O.State.eq O.Reply.eq
+        requires minimal { IsMinimal (any_problem
             self.now.path.entries.problem) self.now.path.config.lifted call }
         ensures next { IfOk result (λ answer. IfSome answer
-            (λ t. IsNext (problem_of O.after O.State.eq O.Reply.eq self.now.path.entries.problem)
+            (λ t. IsNext (any_problem self.now.path.entries.problem)
             self.now.path.config.lifted self.now.path.config.state call t)) }
         ensures reachable { IfOk result (λ answer. IfSome answer (λ t. IsReachable
-            (problem_of O.after O.State.eq O.Reply.eq self.now.path.entries.problem)
+            (any_problem self.now.path.entries.problem)
             (with_call self.now.path.config.lifted call) t)) }
         ensures none { IfOk result (λ answer. IfNone answer (BeginsNone
-            (problem_of O.after O.State.eq O.Reply.eq self.now.path.entries.problem)
+            (any_problem self.now.path.entries.problem)
             self.now.path.config.lifted self.now.path.config.state call)) }
     {
         if self.begins_none(ahead, call)? {
@@ -257,6 +297,9 @@ impl<'p, O: SeqObject> FirstSearch<'p, O> {
         if self.leaves_what_is_held(ahead, call, &state)? {
             return Ok(None);
         }
+        if self.leaves_few_takers(ahead, call, &state)? {
+            return Ok(None);
+        }
         Ok(Some(state))
     }
 
@@ -265,15 +308,15 @@ impl<'p, O: SeqObject> FirstSearch<'p, O> {
         &mut self,
         ahead: &KnownAhead,
         call: usize,
-    ) -> Result<ControlFlow<Option<Frame<O>>, Option<usize>>, AllocError>
-        requires ahead { IsRightAhead (problem_of O.after O.State.eq O.Reply.eq
+    ) -> Result<ControlFlow<Option<Frame<AnyObject>>, Option<usize>>, AllocError>
+        requires ahead { IsRightAhead (any_problem
             self.old.path.entries.problem) ahead.now }
-        requires progress { IsFirstProgress (problem_of O.after O.State.eq O.Reply.eq
+        requires progress { IsFirstProgress (any_problem
             self.old.path.entries.problem) self.old.refuted self.old.lifts
             self.old.path.entries.lifted self.old.path.frames.items self.old.path.config
             (Some call) }
         ensures same { self.new ≡ self.old }
-        ensures step { IfOk result (IsFirstStep (problem_of O.after O.State.eq O.Reply.eq
+        ensures step { IfOk result (IsFirstStep (any_problem
             self.old.path.entries.problem) self.old.refuted self.old.lifts
             self.old.path.entries.lifted self.old.path.frames.items self.old.path.config
             (left_to_try (length self.old.path.entries.problem.calls) self.old.path.frames.items
@@ -293,13 +336,15 @@ impl<'p, O: SeqObject> FirstSearch<'p, O> {
 
     // Goes back from a configuration all of whose calls were tried, and which is so refuted: keeps it, and goes on after the
     // last frame's call. Where there is no frame, the root is refuted.
-    fn go_back(&mut self) -> Result<ControlFlow<Option<Frame<O>>, Option<usize>>, AllocError>
-        requires progress { IsFirstProgress (problem_of O.after O.State.eq O.Reply.eq
+    fn go_back(
+        &mut self,
+    ) -> Result<ControlFlow<Option<Frame<AnyObject>>, Option<usize>>, AllocError>
+        requires progress { IsFirstProgress (any_problem
             self.old.path.entries.problem) self.old.refuted self.old.lifts
             self.old.path.entries.lifted self.old.path.frames.items self.old.path.config None }
         ensures problem { self.new.path.entries.problem ≡ self.old.path.entries.problem }
         ensures lifts { self.new.lifts ≡ self.old.lifts }
-        ensures step { IfOk result (IsFirstStep (problem_of O.after O.State.eq O.Reply.eq
+        ensures step { IfOk result (IsFirstStep (any_problem
             self.old.path.entries.problem) self.new.refuted self.new.lifts
             self.new.path.entries.lifted self.new.path.frames.items self.new.path.config
             (left_to_try (length self.old.path.entries.problem.calls) self.old.path.frames.items
@@ -321,20 +366,20 @@ impl<'p, O: SeqObject> FirstSearch<'p, O> {
         &mut self,
         ahead: &KnownAhead,
         candidate: Option<usize>,
-    ) -> Result<ControlFlow<Option<Frame<O>>, Option<usize>>, AllocError>
-        requires ahead { IsRightAhead (problem_of O.after O.State.eq O.Reply.eq
+    ) -> Result<ControlFlow<Option<Frame<AnyObject>>, Option<usize>>, AllocError>
+        requires ahead { IsRightAhead (any_problem
             self.old.path.entries.problem) ahead.now }
-        requires progress { IsFirstProgress (problem_of O.after O.State.eq O.Reply.eq
+        requires progress { IsFirstProgress (any_problem
             self.old.path.entries.problem) self.old.refuted self.old.lifts
             self.old.path.entries.lifted self.old.path.frames.items self.old.path.config
             candidate }
         ensures problem { self.new.path.entries.problem ≡ self.old.path.entries.problem }
         ensures lifts { self.new.lifts ≡ self.old.lifts }
-        ensures step { IfOk result (IsFirstStep (problem_of O.after O.State.eq O.Reply.eq
+        ensures step { IfOk result (IsFirstStep (any_problem
             self.old.path.entries.problem) self.new.refuted self.new.lifts
             self.new.path.entries.lifted self.new.path.frames.items self.new.path.config
             (left_to_try (length self.old.path.entries.problem.calls) self.old.path.frames.items
-            (bound (problem_of O.after O.State.eq O.Reply.eq self.old.path.entries.problem)
+            (bound (any_problem self.old.path.entries.problem)
             candidate))) }
     {
         match candidate {
@@ -348,21 +393,21 @@ impl<'p, O: SeqObject> FirstSearch<'p, O> {
         &mut self,
         ahead: &KnownAhead,
         candidate: Option<usize>,
-    ) -> Result<Option<Frame<O>>, AllocError>
-        requires ahead { IsRightAhead (problem_of O.after O.State.eq O.Reply.eq
+    ) -> Result<Option<Frame<AnyObject>>, AllocError>
+        requires ahead { IsRightAhead (any_problem
             self.old.path.entries.problem) ahead.now }
-        requires progress { IsFirstProgress (problem_of O.after O.State.eq O.Reply.eq
+        requires progress { IsFirstProgress (any_problem
             self.old.path.entries.problem) self.old.refuted self.old.lifts
             self.old.path.entries.lifted self.old.path.frames.items self.old.path.config
             candidate }
         ensures problem { self.new.path.entries.problem ≡ self.old.path.entries.problem }
         ensures lifts { self.new.lifts ≡ self.old.lifts }
         ensures turn { IfOk result (λ answer. IfSome answer (IsFirstTurn
-            (problem_of O.after O.State.eq O.Reply.eq self.old.path.entries.problem)
+            (any_problem self.old.path.entries.problem)
             self.new.refuted self.new.lifts self.new.path.entries.lifted
             self.new.path.frames.items self.new.path.config)) }
         ensures none { IfOk result (λ answer. IfNone answer ((l : List ℕ)
-            → IsLinearization (problem_of O.after O.State.eq O.Reply.eq
+            → IsLinearization (any_problem
             self.old.path.entries.problem) l → ⊥)) }
     {
         let mut at = candidate;
@@ -376,19 +421,19 @@ impl<'p, O: SeqObject> FirstSearch<'p, O> {
 
     // Searches on from the root, which is not complete, with so many lifts at most.
     fn go(&mut self, ahead: &KnownAhead, lifts: u64) -> Result<FirstAnswer, AllocError>
-        requires ahead { IsRightAhead (problem_of O.after O.State.eq O.Reply.eq
+        requires ahead { IsRightAhead (any_problem
             self.old.path.entries.problem) ahead.now }
         requires progress { (candidate : Option ℕ)
-            → IsLeastMinimal (problem_of O.after O.State.eq O.Reply.eq
+            → IsLeastMinimal (any_problem
             self.old.path.entries.problem) self.old.path.config.lifted 0 candidate
-            → IsFirstProgress (problem_of O.after O.State.eq O.Reply.eq
+            → IsFirstProgress (any_problem
             self.old.path.entries.problem) self.old.refuted self.old.lifts
             self.old.path.entries.lifted self.old.path.frames.items self.old.path.config
             candidate }
-        requires lifted { lifted_set (problem_of O.after O.State.eq O.Reply.eq
+        requires lifted { lifted_set (any_problem
             self.old.path.entries.problem) self.old.path.entries.lifted
             ≡ self.old.path.config.lifted }
-        ensures { IfOk result (IsFirstAnswer (problem_of O.after O.State.eq O.Reply.eq
+        ensures { IfOk result (IsFirstAnswer (any_problem
             self.old.path.entries.problem) lifts) }
     {
         let mut candidate = self.path.enter().candidate;
@@ -410,24 +455,25 @@ impl<'p, O: SeqObject> FirstSearch<'p, O> {
 
 /// The search from the root that only asks whether there is a linearization, and for the least one (this project's
 /// own). It makes at most so many lifts. It passes over each call that needs one that is not lifted, before a state is made,
-/// each push that is known to be too late, and each pending call that would get a reply which is owed to another; and it keeps of a refuted configuration only that
-/// it is refuted. So it may meet far fewer configurations than `search`, and what it keeps is of no use to that one.
+/// each push that is known to be too late, each pending call that would get a reply which is owed to another, and each call that
+/// leaves too few dequeues for what must be taken out of a queue; and it keeps of a refuted configuration only that it is
+/// refuted. So it may meet far fewer configurations than `search`, and what it keeps is of no use to that one.
 ///
 /// `Found` with the least linearization; `Refuted` where there is none; `Exhausted` where as many lifts were made and
 /// another was to be made. `AllocError` where memory was refused.
 ///
 /// Condition: what is known ahead is right for the problem.
-pub fn search_first<O: SeqObject>(
+pub fn search_first(
     alloc: Global,
-    problem: &Problem<O>,
+    problem: &Problem<AnyObject>,
     ahead: &KnownAhead,
     lifts: u64,
 ) -> Result<FirstAnswer, AllocError>
-    requires { IsRightAhead (problem_of O.after O.State.eq O.Reply.eq problem.now) ahead.now }
-    ensures { IfOk result (IsFirstAnswer (problem_of O.after O.State.eq O.Reply.eq problem.now)
+    requires { IsRightAhead (any_problem problem.now) ahead.now }
+    ensures { IfOk result (IsFirstAnswer (any_problem problem.now)
         lifts) }
 {
-    lawful::<O>();
+    lawful::<AnyObject>();
     if ahead.in_vain {
         return Ok(FirstAnswer::Refuted);
     }
@@ -443,6 +489,7 @@ pub fn search_first<O: SeqObject>(
         owed: owed_in_turn(alloc, ahead.owed.as_slice())?,
         held: Finders::new(alloc, &ahead.values)?,
         stack: StackHints::new(alloc, problem, &ahead.late)?,
+        takers: TakerHints::new(alloc, problem, ahead)?,
         lifts: 0,
     };
     search.go(ahead, lifts)

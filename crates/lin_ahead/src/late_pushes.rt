@@ -37,7 +37,7 @@ impl LateRows {
 }
 
 // The event at which the call returned, where the configuration does not have it.
-fn returned_outside<O: SeqObject>(
+pub(crate) fn returned_outside<O: SeqObject>(
     problem: &Problem<O>,
     config: &Config<O>,
     call: usize,

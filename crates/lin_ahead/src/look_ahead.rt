@@ -28,8 +28,8 @@ use lin_history::{NeedRows, Problem, ProblemCall};
 use lin_object::{AnyObject, Items, Kind, ObjState, Op, Reply, map_law, start_state};
 use std::alloc::{AllocError, Global};
 
-// Whether there is no item.
-fn is_empty(items: &Items) -> bool
+/// Whether there is no item.
+pub(crate) fn is_empty(items: &Items) -> bool
     ensures { IsTrue result ↔ (items.now ≡ []) }
 {
     items.first().is_none()
@@ -124,6 +124,8 @@ pub struct KnownAhead {
     pub taken: Vec<u64>,
     /// The pending calls that may take what a call puts in, whatever it is.
     pub takers: Vec<usize>,
+    /// Of a queue that starts empty, what its calls tell of each item.
+    pub(crate) items: IndexMap<i64, ItemCalls>,
     /// For each call, whether it returned with a reply that no pending call can be answered with.
     pub owed: Vec<bool>,
     /// For each call, whether the state may not change where it could follow, until it stands.
@@ -149,6 +151,8 @@ fn told_of_queue(alloc: Global, calls: &[ProblemCall<Op, Reply>]) -> Result<Know
     ensures held { IfOk result (λ ahead. ahead.held.items ≡ []) }
     ensures in_vain { IfOk result (λ ahead. ahead.in_vain ≡ false) }
     ensures late { IfOk result (λ ahead. ahead.late.from.items ≡ []) }
+    ensures items { IfOk result (λ ahead. (v : ℤ)
+        → told_in (get int_eq ahead.items) v ≡ told calls.now v) }
 {
     let items = told_by_calls(alloc, calls)?;
     let by = by_row(alloc, &items, calls)?;
@@ -158,6 +162,7 @@ fn told_of_queue(alloc: Global, calls: &[ProblemCall<Op, Reply>]) -> Result<Know
         taken: taken_row(alloc, &items, calls)?,
         takers: takers_of(alloc, calls)?,
         owed: once_row(alloc, &items, calls)?,
+        items,
         held: Vec::new(alloc),
         in_vain: false,
         values: ValueNumbers::none(alloc),

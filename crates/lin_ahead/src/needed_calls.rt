@@ -2,13 +2,14 @@
 ghost use Rattle.std.specs.Prelude.{◌≡◌, ◌≢◌, false, IfSome, IsTrue};
 ghost use Rattle.lin_history.specs.Problems.Problem.{problem_of};
 ghost use Rattle.lin_history.specs.Problems.Continuations.{has};
+ghost use Rattle.lin_ahead.specs.AnyProblem.{any_problem};
 ghost use Rattle.lin_ahead.specs.Behind.{NeedsBehind, CalledAfter, OthersCalledAfter, IsRightAhead};
 
 use crate::calls_in_turn::CallsInTurn;
 use crate::item_calls::BEYOND;
 use crate::look_ahead::KnownAhead;
 use lin_history::{NeedRows, Problem};
-use lin_object::SeqObject;
+use lin_object::{AnyObject, SeqObject};
 use lin_search::Config;
 use std::alloc::{AllocError, Global};
 
@@ -70,17 +71,17 @@ fn others_called_after<O: SeqObject>(
 }
 
 // Whether it is known that the call needs the other one at the configuration. `None` where one of them is no call.
-fn needs<O: SeqObject>(
-    problem: &Problem<O>,
+fn needs(
+    problem: &Problem<AnyObject>,
     ahead: &KnownAhead,
-    config: &Config<O>,
+    config: &Config<AnyObject>,
     other: usize,
     call: usize,
 ) -> Option<bool>
     requires other { other ≢ call }
-    requires ahead { IsRightAhead (problem_of O.after O.State.eq O.Reply.eq problem.now) ahead.now }
+    requires ahead { IsRightAhead (any_problem problem.now) ahead.now }
     ensures { IfSome result (λ needs. IsTrue needs → NeedsBehind
-        (problem_of O.after O.State.eq O.Reply.eq problem.now) config.now.lifted other call) }
+        (any_problem problem.now) config.now.lifted other call) }
 {
     let by = *ahead.needs.by().get(other)?;
     let from = *ahead.needs.from().get(call)?;
@@ -109,16 +110,16 @@ fn first_other<O: SeqObject>(needed: &CallsInTurn, config: &Config<O>, call: usi
 
 // A call that this call needs and that the configuration does not have, where one is known. It looks at the first in
 // turn.
-pub(crate) fn left_out<O: SeqObject>(
-    problem: &Problem<O>,
+pub(crate) fn left_out(
+    problem: &Problem<AnyObject>,
     ahead: &KnownAhead,
     needed: &CallsInTurn,
-    config: &Config<O>,
+    config: &Config<AnyObject>,
     call: usize,
 ) -> Option<usize>
-    requires { IsRightAhead (problem_of O.after O.State.eq O.Reply.eq problem.now) ahead.now }
+    requires { IsRightAhead (any_problem problem.now) ahead.now }
     ensures { IfSome result (λ other. NeedsBehind
-        (problem_of O.after O.State.eq O.Reply.eq problem.now) config.now.lifted other call
+        (any_problem problem.now) config.now.lifted other call
         × (has config.now.lifted other ≡ false)) }
 {
     let other = first_other(needed, config, call)?;

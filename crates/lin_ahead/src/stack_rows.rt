@@ -196,6 +196,7 @@ pub(crate) fn told_of_stack(
         needs: NeedRows::new(by, from),
         taken: Vec::new(alloc),
         takers: Vec::new(alloc),
+        items: IndexMap::new(alloc),
         owed: once_row(alloc, &items, exchanged.as_slice())?,
         held: Vec::new(alloc),
         in_vain: false,

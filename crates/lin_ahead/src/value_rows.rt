@@ -249,6 +249,7 @@ pub(crate) fn told_of_register(
         needs: NeedRows::new(by, from),
         taken: Vec::new(alloc),
         takers: Vec::new(alloc),
+        items: IndexMap::new(alloc),
         owed: Vec::new(alloc),
         held: found_single_row(alloc, &values, calls)?,
         in_vain,

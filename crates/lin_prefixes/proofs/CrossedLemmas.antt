@@ -2,13 +2,13 @@
 use Rattle.std.proofs.Common.{◌≡◌, ◌≢◌, ℕ, zero, suc, ◌<◌, Some, List, [], ◌∷◌, ◌++◌, length, get_or, inl, inr, refl, sym, ◌∙◌, ap, subst, append_assoc, arith}
 use Rattle.std.specs.List.{slice_get}
 use Rattle.lin_history.specs.Problems.Lists.{In, IsDistinct}
+use Rattle.lin_history.specs.Problems.ListLemmas.{has_none, in_early, in_place, apart}
 use Rattle.lin_history.specs.Problems.Problem.{Problem}
 use Rattle.lin_history.specs.Problems.Precedence.{Before, IsCompleted}
 use Rattle.lin_history.specs.Problems.Linearizations.{IsLinearization}
 use Rattle.lin_history.specs.Problems.Needs.{NeedNumbers, Needs}
 use Rattle.lin_ahead.specs.Behind.{AreOtherNeeds}
-use Rattle.lin_prefixes.proofs.PartLemmas.{has_none}
-use Rattle.lin_prefixes.proofs.RunLemmas.{In_front, split_at, run_before, apart}
+use Rattle.lin_prefixes.proofs.RunLemmas.{run_before}
 
 some_at : (xs : List ℕ) (i : ℕ) → i < length xs → slice_get xs i ≡ Some (get_or xs i 0)
 some_at [] i h = absurd (omega (arith, h))
@@ -19,11 +19,11 @@ module _ {State Op Reply : Type 0} (p : Problem State Op Reply) where
   -- b precedes a, is there, and needs a
   crossed : (a b : ℕ) → Needs p a b → Before p b a → IsCompleted p b → (l : List ℕ) → IsLinearization p l → ⊥
   crossed a b needs before done l lin =
-      let s = split_at b l (elim (lin.complete b done) [ inl h ↦ absurd (let none = has_none (length p.calls) b in cc) | inr h ↦ h ]) in
-      let t = split_at a s.0 (needs l lin s.0 s.1 s.2) in
+      let s = in_place b l (elim (lin.complete b done) [ inl h ↦ absurd (let none = has_none (length p.calls) b in cc) | inr h ↦ h ]) in
+      let t = in_place a s.0 (needs l lin s.0 s.1 s.2) in
       let e : l ≡ t.0 ++ a ∷ (t.1 ++ b ∷ s.1) = s.2 ∙ ap (λ (x : List ℕ). x ++ b ∷ s.1) t.2 ∙ append_assoc t.0 (a ∷ t.1) (b ∷ s.1) in
       let there : In b t.0 = run_before p l lin.continuation t.0 a (t.1 ++ b ∷ s.1) e b before in
-      apart b s.0 (b ∷ s.1) (subst (λ (x : List ℕ). IsDistinct x) s.2 lin.continuation.distinct) (subst (In b) (sym t.2) (In_front b t.0 (a ∷ t.1) there)) (inl refl)
+      apart b s.0 (b ∷ s.1) (subst (λ (x : List ℕ). IsDistinct x) s.2 lin.continuation.distinct) (subst (In b) (sym t.2) (in_early b t.0 (a ∷ t.1) there)) (inl refl)
 
   pub crossed_none : (rows : NeedNumbers) → AreOtherNeeds p rows → (by from : List ℕ) → by ≡ rows.by → from ≡ rows.from → (a b : ℕ) → a < length p.calls → b < length p.calls → b ≢ a → get_or by a 0 < get_or from b 0 → Before p b a → IsCompleted p b
       → (l : List ℕ) → IsLinearization p l → ⊥

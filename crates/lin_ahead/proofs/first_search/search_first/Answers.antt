@@ -5,17 +5,17 @@ use Rattle.lin_ahead.proofs.FirstLemmas.{first_start}
 use Rattle.lin_ahead.proofs.first_search.search_first.Goals as goal
 
 pub returns-then-is_complete : goal.returns-then-is_complete
-returns-then-is_complete g c =
+returns-then-is_complete c =
     rw (c.new-then-is_complete.ensures, c.new.ensures.items) (none_completes _ _ _ (rw c.in_ok-root.ensures.lifted at (c.is_complete.ensures.0 c.if-is_complete.true)), λ m h. tt)
 
 pub go-requires-clause-progress : goal.go-requires-clause-progress
-go-requires-clause-progress g c =
+go-requires-clause-progress c =
     rw (c.in_ok-new.ensures.problem, c.in_ok-new.ensures.config)
     (λ candidate least.
     first_start (alike_itself c.lawful.ensures c.args.problem.now) _ _ _ _ _ candidate c.new-3.ensures refl c.in_ok-new.ensures.frames c.in_ok-root.ensures.lifted c.in_ok-root.ensures.state c.in_ok-new.ensures.lifted c.in_ok-root.ensures.reachable (λ h. true≢false (sym (c.is_complete.ensures.1 h) ∙ c.if-is_complete.false)) least)
 
 pub go-requires-clause-ahead : goal.go-requires-clause-ahead
-go-requires-clause-ahead g c = rw c.in_ok-new.ensures.problem c.requires
+go-requires-clause-ahead c = rw c.in_ok-new.ensures.problem c.requires
 
 pub returns : goal.returns
-returns g c = rw c.in_ok-new.ensures.problem at c.go.ensures
+returns c = rw c.in_ok-new.ensures.problem at c.go.ensures

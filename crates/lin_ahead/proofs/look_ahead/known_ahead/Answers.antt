@@ -13,7 +13,7 @@ pub returns-in_ok-told_of_queue-in-Queue-clause-right :
 returns-in_ok-told_of_queue-in-Queue-clause-right c =
     let start : c.args.problem.now.start ≡ Queue [] = search rules in
     let tells = c.in_ok-told_of_queue-in-Queue.ensures in
-    is_right c.args.problem.now start c.calls-calls.ensures.timed _ (rw c.calls-calls.ensures.calls at tells.by) (rw c.calls-calls.ensures.calls at tells.from) (rw c.calls-calls.ensures.calls at tells.taken) (rw c.calls-calls.ensures.calls at tells.takers) (rw c.calls-calls.ensures.calls at tells.owed) tells.held tells.in_vain tells.late
+    is_right c.args.problem.now start c.calls-calls.ensures.timed _ (rw c.calls-calls.ensures.calls at tells.by) (rw c.calls-calls.ensures.calls at tells.from) (rw c.calls-calls.ensures.calls at tells.taken) (rw c.calls-calls.ensures.calls at tells.takers) (rw c.calls-calls.ensures.calls at tells.owed) tells.held tells.in_vain tells.late (rw c.calls-calls.ensures.calls at tells.items)
 
 pub returns-in_ok-told_of_queue-in-Queue-clause-told :
     goal.returns-in_ok-told_of_queue-in-Queue-clause-told

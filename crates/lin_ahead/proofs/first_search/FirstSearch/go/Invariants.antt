@@ -1,13 +1,13 @@
 use Rattle.std.proofs.Common.{◌≡◌, ◌-◌}
-use Rattle.lin_history.specs.Problems.Problem.{problem_of}
+use Rattle.lin_ahead.specs.AnyProblem.{any_problem}
 use Rattle.lin_ahead.specs.FirstProgress.{IsFirstProgress}
 use Rattle.lin_ahead.proofs.first_search.FirstSearch.go.Given as goal
 
 abbrev pub decreases-loop-self : goal.decreases-loop-self
-decreases-loop-self g l = l.lifts - l.self.lifts
+decreases-loop-self l = l.lifts - l.self.lifts
 
 abbrev pub invariant-loop-self : goal.invariant-loop-self
-invariant-loop-self g l = record {
+invariant-loop-self l = record {
   problem : l.self.path.entries.problem ≡ l.fn.self.path.entries.problem;
-  progress : IsFirstProgress (problem_of g.O.SeqObject.after g.O.State.PartialEq.eq g.O.Reply.PartialEq.eq l.self.path.entries.problem) l.self.refuted l.self.lifts l.self.path.entries.lifted l.self.path.frames.items l.self.path.config l.candidate;
+  progress : IsFirstProgress (any_problem l.self.path.entries.problem) l.self.refuted l.self.lifts l.self.path.entries.lifted l.self.path.frames.items l.self.path.config l.candidate;
 }

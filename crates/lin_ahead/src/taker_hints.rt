@@ -1,0 +1,347 @@
+//! What a search of a queue goes by to find that too few dequeues are left: the calls that put in what no completed call
+//! returned with, and which calls find that gone. All of it is a hint.
+
+use crate::calls_in_turn::CallsInTurn;
+use crate::each_item::told_of;
+use crate::item_calls::BEYOND;
+use crate::look_ahead::KnownAhead;
+use crate::takers::{After, Wanting, item_put};
+use indexmap::IndexMap;
+use lin_history::{Problem, ProblemCall};
+use lin_object::{AnyObject, Op, Reply};
+use lin_search::Config;
+use std::alloc::{AllocError, Global};
+
+// How many calls more than takers are looked at.
+const MORE_CALLS_IN_SIGHT: usize = 64;
+
+/// Calls that put in lost items, those that no completed call returned with.
+#[derive(Drop)]
+pub(crate) struct TakerHints {
+    alloc: Global,
+    // How many calls are looked at; none where there are no takers.
+    in_sight: usize,
+    // Of a call that puts an item in, the call that returned with it; of one that found the queue empty, itself.
+    takers: Vec<Option<usize>>,
+    // Of a call that puts a lost item in, the first that is needed of those that were called after it returned.
+    behind: Vec<Option<usize>>,
+    // The calls that put lost items in, and have one that is needed behind them, in the order of their returns.
+    lost: CallsInTurn,
+    // Whether the call puts a lost item in.
+    is_lost: Vec<bool>,
+    // Whether the call is a taker.
+    is_taker: Vec<bool>,
+    // Those of the lifted calls that put lost items in, in the order in which they were lifted.
+    lifted: Vec<usize>,
+}
+
+// A call, and when it returned.
+#[derive(Clone, Copy, Drop)]
+struct Returned {
+    event: u64,
+    call: usize,
+}
+
+// For each item a call that returned with it.
+fn takers_by_item(
+    alloc: Global,
+    calls: &[ProblemCall<Op, Reply>],
+) -> Result<IndexMap<i64, usize>, AllocError> {
+    let mut takers = IndexMap::new(alloc);
+    for call in 0..calls.len() {
+        if let (Op::Dequeue, Some((_, Reply::Int(item)))) = (
+            &calls[call].op,
+            &calls[call].returned,
+        ) {
+            takers.insert(*item, call)?;
+        }
+    }
+    Ok(takers)
+}
+
+// The call that returned with what the call puts in; the call itself, where it found the queue empty.
+fn taker_of(
+    takers: &IndexMap<i64, usize>,
+    calls: &[ProblemCall<Op, Reply>],
+    call: usize,
+) -> Option<usize> {
+    let made = calls.get(call)?;
+    match (&made.op, &made.returned) {
+        (Op::Enqueue(item), _) => takers.get(item).copied(),
+        (Op::Dequeue, Some((_, Reply::Empty))) => Some(call),
+        _ => None,
+    }
+}
+
+// That of each call.
+fn taker_row(
+    alloc: Global,
+    calls: &[ProblemCall<Op, Reply>],
+) -> Result<Vec<Option<usize>>, AllocError> {
+    let takers = takers_by_item(alloc, calls)?;
+    let mut row = Vec::with_capacity(alloc, calls.len())?;
+    for call in 0..calls.len() {
+        row.push(taker_of(&takers, calls, call))?;
+    }
+    Ok(row)
+}
+
+// The number from which on the call is needed.
+fn needed_by(by: &[u64], call: Option<usize>) -> u64 {
+    match call {
+        Some(call) => by.get(call).copied().unwrap_or(BEYOND),
+        None => BEYOND,
+    }
+}
+
+// The one of the two calls that is needed first.
+fn first_needed(by: &[u64], call: usize, other: Option<usize>) -> Option<usize> {
+    if needed_by(by, Some(call)) < needed_by(by, other) {
+        Some(call)
+    } else {
+        other
+    }
+}
+
+// For each call the first that is needed of it and those called after it.
+fn needed_from(alloc: Global, by: &[u64]) -> Result<Vec<Option<usize>>, AllocError> {
+    let mut row = vec![in alloc; None; by.len()]?;
+    let mut needed = None;
+    for call in (0..by.len()).rev() {
+        needed = first_needed(by, call, needed);
+        if let Some(slot) = row.get_mut(call) {
+            *slot = needed;
+        }
+    }
+    Ok(row)
+}
+
+// The call that stands there in the row.
+fn at(row: &[Option<usize>], place: usize) -> Option<usize> {
+    *row.get(place)?
+}
+
+// How often 16,384 calls can be halved, and once more.
+const HALVES: usize = 15;
+
+// The first call that was called after the event; beyond all calls where none was.
+fn first_called_after(calls: &[ProblemCall<Op, Reply>], event: u64) -> usize {
+    let mut low = 0;
+    let mut high = calls.len();
+    for _ in 0..HALVES {
+        let half = low / 2 + high / 2;
+        match calls.get(half) {
+            Some(call) if low < high && u64::from(call.called) <= event => low =
+                half.saturating_add(1),
+            _ => high = half,
+        }
+    }
+    low
+}
+
+// When the call returned.
+fn returned_at(calls: &[ProblemCall<Op, Reply>], call: usize) -> Option<u64> {
+    match &calls.get(call)?.returned {
+        Some((number, _)) => Some(u64::from(*number)),
+        None => None,
+    }
+}
+
+// Whether the call puts an item in with which no completed call is told to have returned.
+fn is_told_lost(problem: &Problem<AnyObject>, ahead: &KnownAhead, call: usize) -> bool {
+    match item_put(problem, call) {
+        Some(item) => !told_of(&ahead.items, item).taken,
+        None => false,
+    }
+}
+
+// Whether each call puts a lost item in.
+fn lost_flags(
+    alloc: Global,
+    problem: &Problem<AnyObject>,
+    ahead: &KnownAhead,
+) -> Result<Vec<bool>, AllocError> {
+    let mut flags = Vec::with_capacity(alloc, problem.len())?;
+    for call in 0..problem.len() {
+        flags.push(is_told_lost(problem, ahead, call))?;
+    }
+    Ok(flags)
+}
+
+// Whether each of so many calls is one of the takers.
+fn taker_flags(alloc: Global, calls: usize, takers: &[usize]) -> Result<Vec<bool>, AllocError> {
+    let mut flags = vec![in alloc; false; calls]?;
+    for taker in takers {
+        if let Some(flag) = flags.get_mut(*taker) {
+            *flag = true;
+        }
+    }
+    Ok(flags)
+}
+
+// Of each call that puts a lost item in, the first that is needed of those that were called after it returned.
+fn behind_row(
+    alloc: Global,
+    problem: &Problem<AnyObject>,
+    ahead: &KnownAhead,
+    lost: &[bool],
+) -> Result<Vec<Option<usize>>, AllocError> {
+    let calls = problem.calls();
+    let needed = needed_from(alloc, ahead.needs.by())?;
+    let mut row = Vec::with_capacity(alloc, lost.len())?;
+    for call in 0..lost.len() {
+        let first = match returned_at(calls, call) {
+            Some(event) if lost[call] => at(needed.as_slice(), first_called_after(calls, event)),
+            _ => None,
+        };
+        row.push(first)?;
+    }
+    Ok(row)
+}
+
+// A number beyond all events, where there is none.
+fn or_beyond(event: Option<u64>) -> u64 {
+    event.unwrap_or(BEYOND)
+}
+
+// The calls that have one that is needed behind them, in the order of their returns.
+fn by_returns(
+    alloc: Global,
+    calls: &[ProblemCall<Op, Reply>],
+    behind: &[Option<usize>],
+) -> Result<CallsInTurn, AllocError> {
+    let mut returned = Vec::new(alloc);
+    for call in 0..behind.len() {
+        if behind[call].is_some() {
+            let event = or_beyond(returned_at(calls, call));
+            returned.push(Returned { event, call })?;
+        }
+    }
+    returned.sort_by_key(|one| one.event)?;
+    let mut order = Vec::with_capacity(alloc, returned.len())?;
+    for one in &returned {
+        order.push(one.call)?;
+    }
+    CallsInTurn::new(alloc, order, behind.len())
+}
+
+impl TakerHints {
+    // Those of a problem with no takers.
+    fn none(alloc: Global) -> Result<Self, AllocError> {
+        Ok(TakerHints {
+            alloc,
+            in_sight: 0,
+            takers: Vec::new(alloc),
+            behind: Vec::new(alloc),
+            lost: CallsInTurn::new(alloc, Vec::new(alloc), 0)?,
+            is_lost: Vec::new(alloc),
+            is_taker: Vec::new(alloc),
+            lifted: Vec::new(alloc),
+        })
+    }
+
+    // Those of a problem none of whose calls is lifted.
+    pub(crate) fn new(
+        alloc: Global,
+        problem: &Problem<AnyObject>,
+        ahead: &KnownAhead,
+    ) -> Result<Self, AllocError> {
+        if ahead.takers.is_empty() {
+            return TakerHints::none(alloc);
+        }
+        let is_lost = lost_flags(alloc, problem, ahead)?;
+        let behind = behind_row(alloc, problem, ahead, is_lost.as_slice())?;
+        Ok(TakerHints {
+            alloc,
+            in_sight: ahead.takers.len().saturating_add(MORE_CALLS_IN_SIGHT),
+            takers: taker_row(alloc, problem.calls())?,
+            lost: by_returns(alloc, problem.calls(), behind.as_slice())?,
+            behind,
+            is_lost,
+            is_taker: taker_flags(alloc, problem.len(), ahead.takers.as_slice())?,
+            lifted: Vec::new(alloc),
+        })
+    }
+
+    // Where memory is asked for.
+    pub(crate) fn alloc(&self) -> Global {
+        self.alloc
+    }
+
+    // How many calls are looked at.
+    pub(crate) fn in_sight(&self) -> usize {
+        self.in_sight
+    }
+
+    // Whether the call puts a lost item in.
+    fn puts_lost(&self, call: usize) -> bool {
+        matches!(self.is_lost.get(call), Some(true))
+    }
+
+    // Whether the call may leave too few takers.
+    pub(crate) fn concerns(&self, call: usize) -> bool {
+        self.puts_lost(call) || matches!(self.is_taker.get(call), Some(true))
+    }
+
+    // The call that is so many behind the first that puts a lost item in and is not lifted.
+    pub(crate) fn lost_ahead(&self, count: usize) -> Option<usize> {
+        self.lost.ahead(count)
+    }
+
+    // The call that finds all gone which goes before the one that is needed.
+    pub(crate) fn wanting(&self, needed: Option<usize>) -> Option<Wanting> {
+        let put = needed?;
+        let taker = at(self.takers.as_slice(), put)?;
+        Some(Wanting { put, taker })
+    }
+
+    // The same for the first that is needed behind the call.
+    pub(crate) fn wanting_behind(&self, call: usize) -> Option<Wanting> {
+        self.wanting(at(self.behind.as_slice(), call))
+    }
+
+    // The last of the calls whose lost items lie in the queue after the call.
+    pub(crate) fn lying(
+        &self,
+        problem: &Problem<AnyObject>,
+        after: &After,
+    ) -> Result<Vec<usize>, AllocError> {
+        let mut lying = Vec::new(self.alloc);
+        if let Some(item) = item_put(problem, after.call) {
+            if after.items.has(item) {
+                lying.push(after.call)?;
+            }
+        }
+        for place in (0..self.lifted.len()).rev() {
+            let call = self.lifted[place];
+            match item_put(problem, call) {
+                Some(item) if after.items.has(item) && lying.len() < self.in_sight => lying.push(
+                    call,
+                )?,
+                _ => return Ok(lying),
+            }
+        }
+        Ok(lying)
+    }
+
+    // Goes on after the call, which is lifted now.
+    pub(crate) fn lifted(
+        &mut self,
+        config: &Config<AnyObject>,
+        call: usize,
+    ) -> Result<(), AllocError> {
+        self.lost.lifted(config);
+        if self.puts_lost(call) {
+            self.lifted.push(call)?;
+        }
+        Ok(())
+    }
+
+    // Goes back to before the call, which was taken out again.
+    pub(crate) fn unlifted(&mut self, call: usize) {
+        self.lost.unlifted(call);
+        if self.lifted.last() == Some(&call) {
+            self.lifted.pop();
+        }
+    }
+}
