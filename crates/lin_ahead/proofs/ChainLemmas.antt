@@ -11,6 +11,7 @@ use Rattle.lin_history.specs.declared.problems.problem.ProblemCall.{ProblemCall}
 use Rattle.lin_history.specs.OptionLemmas.{some_and, and_some}
 use Rattle.lin_history.specs.Problems.Problem.{Problem}
 use Rattle.lin_history.specs.Problems.Lists.{In, IsDistinct}
+use Rattle.lin_history.specs.Problems.ListLemmas.{in_early, in_late, in_place}
 use Rattle.lin_history.specs.Problems.LegalLists.{next, Legal}
 use Rattle.lin_history.specs.Problems.Precedence.{Before, IsCompleted}
 use Rattle.lin_history.specs.Problems.Continuations.{has, IsCompletion}
@@ -19,7 +20,7 @@ use Rattle.lin_ahead.specs.Numbers.{ReturnsAt, CalledFrom}
 use Rattle.lin_ahead.specs.Queue.{Item}
 use Rattle.lin_ahead.specs.Stack.{Pushes, Popped, FoundEmpty}
 use Rattle.lin_ahead.proofs.AboveLemmas.{LiesStill, lies_or_popped, pushed_above, aboves}
-use Rattle.lin_ahead.proofs.PlaceLemmas.{in_early, in_late, in_place, not_in_front, not_empty}
+use Rattle.lin_ahead.proofs.PlaceLemmas.{not_in_front, not_empty}
 use Rattle.lin_ahead.proofs.StackLemmas.{IsExact, MayPop, LeavesBelow, IsPopped, IsPoppedBy, call_moves, push_is_no_pop, one_item, after_push, one_popper}
 
 module _ (p : Problem ObjState Op Reply) (set : List Bool) where

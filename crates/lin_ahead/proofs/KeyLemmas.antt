@@ -24,6 +24,7 @@ use Rattle.lin_history.specs.declared.problems.problem.ProblemCall.{ProblemCall}
 use Rattle.lin_history.specs.Problems.ProblemParts.{ProblemParts}
 use Rattle.lin_history.specs.Problems.Problem.{Problem}
 use Rattle.lin_history.specs.Problems.Lists.{In}
+use Rattle.lin_history.specs.Problems.ListLemmas.{has_none}
 use Rattle.lin_history.specs.Problems.LegalLists.{fits, state_if_fits, next, Legal}
 use Rattle.lin_history.specs.Problems.Precedence.{Before, IsCompleted}
 use Rattle.lin_history.specs.Problems.Continuations.{has}
@@ -39,7 +40,6 @@ use Rattle.lin_ahead.specs.KeyValue.{key_at, is_on, are_on, on_this_key, of_one_
 use Rattle.lin_ahead.proofs.LateLemmas.{nothing_late}
 use Rattle.lin_ahead.proofs.AnyLemmas.{reply_same}
 use Rattle.lin_ahead.proofs.RowLemmas.{through, seen_through}
-use Rattle.lin_ahead.proofs.RegisterLemmas.{has_none}
 use Rattle.lin_ahead.proofs.VainLemmas.{register_right, register_told}
 
 -- ---- one step

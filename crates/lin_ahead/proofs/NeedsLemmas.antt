@@ -3,6 +3,7 @@ use Rattle.std.proofs.Common.{◌≡◌, ◌≢◌, ℕ, Bool, true, false, Some
 use Rattle.std.specs.Prelude.{Option, None, is_some, IfSome}
 use Rattle.lin_history.specs.Problems.Problem.{Problem}
 use Rattle.lin_history.specs.Problems.Lists.{In, IsDistinct}
+use Rattle.lin_history.specs.Problems.ListLemmas.{in_early, in_late, in_either}
 use Rattle.lin_history.specs.Problems.LegalLists.{next, Legal}
 use Rattle.lin_history.specs.Problems.Precedence.{Before}
 use Rattle.lin_history.specs.Problems.Continuations.{has, no_calls, IsCompletion}
@@ -16,18 +17,6 @@ use Rattle.lin_ahead.specs.FirstProgress.{BeginsNone}
 use Rattle.lin_ahead.specs.Behind.{NeedsBehind}
 use Rattle.lin_ahead.specs.Held.{Changes, CanFollow, IsHeldUntil, HoldsAt}
 use Rattle.lin_ahead.specs.Owed.{IsPendingAnswer, IsOwed}
-
-in_early : (c : ℕ) (xs ys : List ℕ) → In c xs → In c (xs ++ ys)
-in_early c [] ys h = absurd h
-in_early c (x ∷ xs) ys h = elim h [ inl e ↦ inl e | inr more ↦ inr (in_early c xs ys more) ]
-
-in_late : (c : ℕ) (xs ys : List ℕ) → In c ys → In c (xs ++ ys)
-in_late c [] ys h = h
-in_late c (x ∷ xs) ys h = inr (in_late c xs ys h)
-
-in_either : (c : ℕ) (xs ys : List ℕ) → In c (xs ++ ys) → In c xs ⊎ In c ys
-in_either c [] ys h = inr h
-in_either c (x ∷ xs) ys h = elim h [ inl e ↦ inl (inl e) | inr more ↦ elim (in_either c xs ys more) [ inl p ↦ inl (inr p) | inr p ↦ inr p ] ]
 
 distinct_joined : (xs ys : List ℕ) → IsDistinct xs → IsDistinct ys → ((c : ℕ) → In c xs → In c ys → ⊥) → IsDistinct (xs ++ ys)
 distinct_joined [] ys d e apart = e

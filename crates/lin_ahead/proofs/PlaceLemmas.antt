@@ -1,27 +1,9 @@
 -- Places in lists of calls and of items.
-use Rattle.std.proofs.Common.{◌≡◌, ℕ, suc, ◌+◌, List, [], ◌∷◌, ◌++◌, length, ◌⊎◌, inl, inr, refl, sym, ◌∙◌, ap, subst, arith}
+use Rattle.std.proofs.Common.{◌≡◌, ℕ, suc, ◌+◌, List, [], ◌∷◌, ◌++◌, length, inl, inr, refl, sym, ◌∙◌, ap, subst, arith}
 use Rattle.std.proofs.lemmas.List.{length-append, append_cancel_right}
 use Rattle.std.specs.Prelude.{ℤ}
 use Rattle.lin_history.specs.Problems.Lists.{In, IsDistinct}
-
-pub in_early : (c : ℕ) (xs ys : List ℕ) → In c xs → In c (xs ++ ys)
-in_early c [] ys h = absurd h
-in_early c (x ∷ xs) ys h = elim h [ inl e ↦ inl e | inr more ↦ inr (in_early c xs ys more) ]
-
-pub in_late : (c : ℕ) (xs ys : List ℕ) → In c ys → In c (xs ++ ys)
-in_late c [] ys h = h
-in_late c (x ∷ xs) ys h = inr (in_late c xs ys h)
-
-pub in_either : (c : ℕ) (xs ys : List ℕ) → In c (xs ++ ys) → In c xs ⊎ In c ys
-in_either c [] ys h = inr h
-in_either c (x ∷ xs) ys h = elim h [ inl e ↦ inl (inl e) | inr more ↦ elim (in_either c xs ys more) [ inl p ↦ inl (inr p) | inr p ↦ inr p ] ]
-
-pub in_place : (c : ℕ) (l : List ℕ) → In c l → (early : List ℕ) × (late : List ℕ) × (l ≡ early ++ c ∷ late)
-in_place c [] h = absurd h
-in_place c (d ∷ l) h = elim h [
-  | inl e ↦ ([], l, ap (λ (y : ℕ). y ∷ l) (sym e))
-  | inr more ↦ (let r = in_place c l more in (d ∷ r.0, r.1, ap (λ (k : List ℕ). d ∷ k) r.2))
-]
+use Rattle.lin_history.specs.Problems.ListLemmas.{in_late}
 
 -- a call at a place of a list of distinct calls does not stand in front of it
 pub not_in_front : (xs : List ℕ) (c : ℕ) (ys : List ℕ) → IsDistinct (xs ++ c ∷ ys) → In c xs → ⊥
@@ -30,11 +12,6 @@ not_in_front (x ∷ xs) c ys d h = elim h [
   | inl e ↦ d.0 (subst (λ (n : ℕ). In n (xs ++ c ∷ ys)) e (in_late c xs (c ∷ ys) (inl refl)))
   | inr more ↦ not_in_front xs c ys d.1 more
 ]
-
--- a call of a list of distinct calls does not stand in both parts of it
-pub apart : (c : ℕ) (xs ys : List ℕ) → IsDistinct (xs ++ ys) → In c xs → In c ys → ⊥
-apart c [] ys d h k = h
-apart c (x ∷ xs) ys d h k = elim h [ inl e ↦ d.0 (subst (λ (n : ℕ). In n (xs ++ ys)) e (in_late c xs ys k)) | inr more ↦ apart c xs ys d.1 more k ]
 
 -- items are not these with others before them
 pub not_within : (xs : List ℤ) (w : ℤ) (ys zs : List ℤ) → zs ≡ xs ++ w ∷ (ys ++ zs) → ⊥

@@ -1,5 +1,5 @@
 -- What the order of dequeues tells of the order of enqueues, and that no two of them take an item that goes in once.
-use Rattle.std.proofs.Common.{◌≡◌, ◌≢◌, ℕ, zero, suc, Bool, true, false, Option, Some, None, List, [], ◌∷◌, ◌++◌, length, ◌⊎◌, inl, inr, refl, sym, ◌∙◌, ap, subst, append_assoc, append-nil, replicate}
+use Rattle.std.proofs.Common.{◌≡◌, ◌≢◌, ℕ, Bool, true, false, Option, Some, None, List, [], ◌∷◌, ◌++◌, length, ◌⊎◌, inl, inr, refl, sym, ◌∙◌, ap, subst, append_assoc, append-nil}
 use Rattle.std.specs.Prelude.{ℤ, slice_get, IfSome, if◌then◌else◌}
 use Rattle.lin_object.specs.declared.op.Op.{Op}
 use Rattle.lin_object.specs.declared.op.Op.TheVariants.{Write, Read, Cas, Add, Get, Enqueue, Dequeue, Push, Pop, Insert, Remove, Contains, Lock, Unlock, TryLock, Put, Lookup, Delete}
@@ -11,9 +11,9 @@ use Rattle.lin_object.specs.Kinds.Queue.{queue_step, put_in_by, taken_out_by}
 use Rattle.lin_history.specs.declared.problems.problem.ProblemCall.{ProblemCall}
 use Rattle.lin_history.specs.Problems.Problem.{Problem}
 use Rattle.lin_history.specs.Problems.Lists.{In, IsDistinct}
+use Rattle.lin_history.specs.Problems.ListLemmas.{has_none, in_early, in_late, in_either, in_place, apart}
 use Rattle.lin_history.specs.Problems.LegalLists.{fits, state_if_fits, next, Legal}
 use Rattle.lin_history.specs.Problems.Precedence.{Before, IsCompleted}
-use Rattle.lin_history.specs.Problems.Continuations.{has}
 use Rattle.lin_history.specs.Problems.Linearizations.{IsRun, IsLinearization}
 use Rattle.lin_history.specs.Problems.Needs.{Needs}
 use Rattle.lin_ahead.specs.Queue.{Item, IsOfQueue, Puts, Took, FoundEmpty, MayTake, OnlyPuts, IsTakenAfter}
@@ -61,34 +61,6 @@ one_more_or_out xs v w ys took [] rest e f = inl (cc)
 one_more_or_out xs v w ys took (u ∷ more) rest e f = inr (subst (λ (l : List ℤ). Item v l) (sym e) (Item_late v xs (u ∷ more) (inl (cc))))
 
 -- ---- calls
-
-has_none : (n c : ℕ) → has (replicate n false) c ≡ false
-has_none zero c = refl
-has_none (suc n) zero = refl
-has_none (suc n) (suc c) = has_none n c
-
-pub In_early : (c : ℕ) (xs ys : List ℕ) → In c xs → In c (xs ++ ys)
-In_early c [] ys h = absurd h
-In_early c (x ∷ xs) ys h = elim h [ inl e ↦ inl e | inr more ↦ inr (In_early c xs ys more) ]
-
-pub In_late : (c : ℕ) (xs ys : List ℕ) → In c ys → In c (xs ++ ys)
-In_late c [] ys h = h
-In_late c (x ∷ xs) ys h = inr (In_late c xs ys h)
-
-In_either : (c : ℕ) (xs ys : List ℕ) → In c (xs ++ ys) → In c xs ⊎ In c ys
-In_either c [] ys h = inr h
-In_either c (x ∷ xs) ys h = elim h [ inl e ↦ inl (inl e) | inr more ↦ elim (In_either c xs ys more) [ inl p ↦ inl (inr p) | inr p ↦ inr p ] ]
-
-pub In_place : (c : ℕ) (l : List ℕ) → In c l → (early : List ℕ) × (late : List ℕ) × (l ≡ early ++ c ∷ late)
-In_place c [] h = absurd h
-In_place c (d ∷ l) h = elim h [
-  | inl e ↦ ([], l, ap (λ (y : ℕ). y ∷ l) (sym e))
-  | inr more ↦ (let r = In_place c l more in (d ∷ r.0, r.1, ap (λ (k : List ℕ). d ∷ k) r.2))
-]
-
-apart : (c : ℕ) (xs ys : List ℕ) → IsDistinct (xs ++ ys) → In c xs → In c ys → ⊥
-apart c [] ys d h k = h
-apart c (x ∷ xs) ys d h k = elim h [ inl e ↦ d.0 (subst (λ (n : ℕ). In n (xs ++ ys)) e (In_late c xs ys k)) | inr more ↦ apart c xs ys d.1 more k ]
 
 -- two places in one list: a before b, or b before a
 either_first : (xs : List ℕ) (a : ℕ) (ys front : List ℕ) (b : ℕ) (rest : List ℕ) → xs ++ a ∷ ys ≡ front ++ b ∷ rest → a ≢ b → In a front ⊎ In b xs
@@ -329,7 +301,7 @@ module _ {p : Problem ObjState Op Reply} {start : List ℤ} (of_queue : IsOfQueu
   putter l v h =
       let at = Item_place v (puts l) h in
       let k = put_place l at.0 v at.1 at.2 in
-      (k.call, subst (λ (m : List ℕ). In k.call m) (sym k.place) (In_late k.call k.early (k.call ∷ k.late) (inl refl)), k.put)
+      (k.call, subst (λ (m : List ℕ). In k.call m) (sym k.place) (in_late k.call k.early (k.call ∷ k.late) (inl refl)), k.put)
 
   put_by : (c : ℕ) (v : ℤ) → Puts p c v → puts_by (slice_get p.calls c) ≡ v ∷ []
   put_by c v k = ap puts_by k.1 ∙ ap put_in_by k.2
@@ -351,7 +323,7 @@ module _ {p : Problem ObjState Op Reply} {start : List ℤ} (of_queue : IsOfQueu
 
   pub distinct_early : (xs ys : List ℕ) → IsDistinct (xs ++ ys) → IsDistinct xs
   distinct_early [] ys d = tt
-  distinct_early (x ∷ xs) ys d = ((λ h. d.0 (In_early x xs ys h)), distinct_early xs ys d.1)
+  distinct_early (x ∷ xs) ys d = ((λ h. d.0 (in_early x xs ys h)), distinct_early xs ys d.1)
 
   -- an item that goes in once is not both among what came out and among what is left
   once : (k : List ℕ) (b : ℕ) (v : ℤ) (front rest : List ℤ) → IsDistinct k → OnlyPuts p b v → (Item v start → ⊥) → start ++ puts k ≡ front ++ rest → Item v front → Item v rest → ⊥
@@ -377,11 +349,11 @@ module _ {p : Problem ObjState Op Reply} {start : List ℤ} (of_queue : IsOfQueu
   -- what returned before a call was called does not stand after it, or is it
   not_before : (early : List ℕ) (i : ℕ) (late : List ℕ) → IsRun p (early ++ i ∷ late) → (j : ℕ) → Before p i j → In j early → ⊥
   not_before early i late run j before h =
-      let at = In_place j early h in
+      let at = in_place j early h in
       let eq : early ++ i ∷ late ≡ at.0 ++ j ∷ (at.1 ++ i ∷ late) = ap (λ (l : List ℕ). l ++ i ∷ late) at.2 ∙ append_assoc at.0 (j ∷ at.1) (i ∷ late) in
       elim (run.ordered at.0 j (at.1 ++ i ∷ late) eq i before) [
         | inl q ↦ (let x = has_none (length p.calls) i in cc)
-        | inr q ↦ apart i early (i ∷ late) run.distinct (subst (λ (l : List ℕ). In i l) (sym at.2) (In_early i at.0 (j ∷ at.1) q)) (inl refl)
+        | inr q ↦ apart i early (i ∷ late) run.distinct (subst (λ (l : List ℕ). In i l) (sym at.2) (in_early i at.0 (j ∷ at.1) q)) (inl refl)
       ]
 
   not_itself : (early : List ℕ) (i : ℕ) (late : List ℕ) → IsRun p (early ++ i ∷ late) → Before p i i → ⊥
@@ -427,7 +399,7 @@ module _ {p : Problem ObjState Op Reply} {start : List ℤ} (of_queue : IsOfQueu
       place : (j : ℕ) → Took p j v → Before p i j → In j late
       place j took before = elim (whole.complete j (took_completed j took.0 took.3.0 (Int v) took.1 took.3.1)) [
         | inl q ↦ absurd (let x = has_none (length p.calls) j in cc)
-        | inr q ↦ elim (In_either j early (i ∷ late) q) [
+        | inr q ↦ elim (in_either j early (i ∷ late) q) [
           | inl r ↦ absurd (not_before early i late run j before r)
           | inr (inl r) ↦ absurd (not_itself early i late run (subst (λ (n : ℕ). Before p i n) r before))
           | inr (inr r) ↦ r
@@ -436,7 +408,7 @@ module _ {p : Problem ObjState Op Reply} {start : List ℤ} (of_queue : IsOfQueu
 
       taken_once : OnlyPuts p b v → (Item v start → ⊥) → (j : ℕ) → Took p j v → Before p i j → In j late → ⊥
       taken_once only fresh j took before there =
-          let at = In_place j late there in
+          let at = in_place j late there in
           let goes : Legal p (Queue k.so_far.rest) ((i ∷ at.0) ++ j ∷ at.1) k.end = subst (λ (l : List ℕ). Legal p (Queue k.so_far.rest) (i ∷ l) k.end) at.2 k.goes_on in
           let two = legal_split (i ∷ at.0) (j ∷ at.1) (Queue k.so_far.rest) k.end goes in
           let more = fifo (i ∷ at.0) k.so_far.rest two.0 two.1 in
@@ -459,7 +431,7 @@ module _ {p : Problem ObjState Op Reply} {start : List ℤ} (of_queue : IsOfQueu
   stands : (l : List ℕ) (i : ℕ) → IsLinearization p l → IsCompleted p i → WithIn i l
   stands l i whole done = elim (whole.complete i done) [
     | inl q ↦ absurd (let x = has_none (length p.calls) i in cc)
-    | inr q ↦ In_place i l q
+    | inr q ↦ in_place i l q
   ]
 
   -- what was taken before another item could be went in before it
@@ -648,7 +620,7 @@ module _ {p : Problem ObjState Op Reply} {start : List ℤ} (of_queue : IsOfQueu
       let t = k.between.taker v h in
       elim t.1 [
         | inl e ↦ not_taker b t.0 v put t.2 e
-        | inr more ↦ not_before (early ++ b ∷ mid) i late run t.0 (after_it t.0 more t.2) (In_late t.0 early (b ∷ mid) (inr more))
+        | inr more ↦ not_before (early ++ b ∷ mid) i late run t.0 (after_it t.0 more t.2) (in_late t.0 early (b ∷ mid) (inr more))
       ]
 
   same_behind : (b : ℕ) (mid : List ℕ) (v : ℤ) (items took rest : List ℤ) → Puts p b v → items ++ puts (b ∷ mid) ≡ took ++ rest → items ++ (v ∷ puts mid) ≡ took ++ rest
@@ -679,7 +651,7 @@ module _ {p : Problem ObjState Op Reply} {start : List ℤ} (of_queue : IsOfQueu
           let k = moment at.0 i at.1 run in
           let front = queue_answered k.so_far.rest k.goes_on.0 w (replied k.so_far.rest k.goes_on.0 i took.0 took.3.0 (Int w) took.1 took.2 took.3.1 k.goes_on.1) in
           let there : Item w (start ++ puts at.0) = subst (λ (m : List ℤ). Item w m) (sym k.so_far.same) (Item_late w k.so_far.took k.so_far.rest (subst (λ (m : List ℤ). Item w m) (sym front.1) (inl refl))) in
-          subst (λ (m : List ℕ). In a m) (sym e) (In_early a at.0 (i ∷ rest) (put_in at.0 there))
+          subst (λ (m : List ℕ). In a m) (sym e) (in_early a at.0 (i ∷ rest) (put_in at.0 there))
 
       taken_after : (front : List ℕ) → at.0 ≡ early ++ front → b ∷ late ≡ front ++ i ∷ at.1 → In a early
       taken_after [] e split = absurd (
@@ -700,7 +672,7 @@ module _ {p : Problem ObjState Op Reply} {start : List ℤ} (of_queue : IsOfQueu
             | inl q ↦ put_in early (subst (λ (m : List ℤ). Item w m) (sym k.before.same) (Item_late w k.before.took k.before.rest q))
             | inr q ↦ elim (one_more_or_out k.before.rest v w (puts mid) k.between.took q.0 front.0 q.1 q.2) [
               | inl same ↦ absurd (other (sym (only b (subst (λ (u : ℤ). Puts p b u) same put))))
-              | inr out ↦ absurd (stays early b mid i at.1 v run' k put (λ j h t. after_it j (subst (λ (m : List ℕ). In j m) (sym rest) (In_early j mid (i ∷ at.1) h)) t) out)
+              | inr out ↦ absurd (stays early b mid i at.1 v run' k put (λ j h t. after_it j (subst (λ (m : List ℕ). In j m) (sym rest) (in_early j mid (i ∷ at.1) h)) t) out)
             ]
           ]
 
@@ -708,7 +680,7 @@ module _ {p : Problem ObjState Op Reply} {start : List ℤ} (of_queue : IsOfQueu
   pub behind_empty : (a b : ℕ) (v : ℤ) → FoundEmpty p a → Puts p b v → (l early late : List ℕ) → IsLinearization p l → l ≡ early ++ b ∷ late → ((j : ℕ) → In j late → MayTake p j v → Before p a j) → In a early
   behind_empty a b v found put l early late whole eq after_it =
       elim (place_split early (b ∷ late) at.0 a at.1 (sym eq ∙ at.2)) [
-        | inl q ↦ subst (λ (m : List ℕ). In a m) (sym q.1) (In_late a at.0 (a ∷ q.0) (inl refl))
+        | inl q ↦ subst (λ (m : List ℕ). In a m) (sym q.1) (in_late a at.0 (a ∷ q.0) (inl refl))
         | inr q ↦ found_after q.0 q.1 q.2
       ]
     where
@@ -729,4 +701,4 @@ module _ {p : Problem ObjState Op Reply} {start : List ℤ} (of_queue : IsOfQueu
           let none = queue_empty k.between.rest k.goes_on.0 (replied k.between.rest k.goes_on.0 a found.0 found.3.0 Empty found.1 found.2 found.3.1 k.goes_on.1) in
           let all = same_behind b mid v k.before.rest k.between.took k.between.rest put k.between.same ∙ ap (λ (m : List ℤ). k.between.took ++ m) none.0 ∙ append-nil k.between.took in
           let out : Item v k.between.took = subst (λ (m : List ℤ). Item v m) all (Item_late v k.before.rest (v ∷ puts mid) (inl refl)) in
-          absurd (stays early b mid a at.1 v run' k put (λ j h t. after_it j (subst (λ (m : List ℕ). In j m) (sym rest) (In_early j mid (a ∷ at.1) h)) t) out)
+          absurd (stays early b mid a at.1 v run' k put (λ j h t. after_it j (subst (λ (m : List ℕ). In j m) (sym rest) (in_early j mid (a ∷ at.1) h)) t) out)

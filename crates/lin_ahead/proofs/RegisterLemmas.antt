@@ -1,5 +1,5 @@
 -- What a register holds stays until all that found it are there, and the calls that write and find two values stand apart.
-use Rattle.std.proofs.Common.{◌≡◌, ◌≢◌, ℕ, zero, suc, ◌<◌, ◌≤◌, Bool, true, false, Option, Some, None, IsSome, List, [], ◌∷◌, ◌++◌, length, ◌⊎◌, inl, inr, refl, sym, ◌∙◌, ap, subst, arith, append_assoc, replicate}
+use Rattle.std.proofs.Common.{◌≡◌, ◌≢◌, ℕ, ◌<◌, ◌≤◌, Bool, true, false, Option, Some, None, IsSome, List, [], ◌∷◌, ◌++◌, length, ◌⊎◌, inl, inr, refl, sym, ◌∙◌, ap, subst, arith, append_assoc}
 use Rattle.std.specs.Prelude.{ℤ, slice_get, IfSome, IsSomeAnd, if◌then◌else◌}
 use Rattle.std.specs.Ordering.{int_eq}
 use Rattle.std.specs.Cmp.{signed_Decides}
@@ -13,9 +13,9 @@ use Rattle.lin_object.specs.Kinds.Register.{register_step}
 use Rattle.lin_history.specs.declared.problems.problem.ProblemCall.{ProblemCall}
 use Rattle.lin_history.specs.Problems.Problem.{Problem}
 use Rattle.lin_history.specs.Problems.Lists.{In, IsDistinct}
+use Rattle.lin_history.specs.Problems.ListLemmas.{has_none, in_early, in_late, in_either, in_place, apart}
 use Rattle.lin_history.specs.Problems.LegalLists.{fits, state_if_fits, next, Legal}
 use Rattle.lin_history.specs.Problems.Precedence.{Before, IsCompleted}
-use Rattle.lin_history.specs.Problems.Continuations.{has}
 use Rattle.lin_history.specs.Problems.Linearizations.{IsRun, IsLinearization}
 use Rattle.lin_history.specs.Problems.Needs.{Needs, NeedNumbers}
 use Rattle.lin_ahead.specs.Numbers.{ReturnsAt, CalledFrom}
@@ -90,34 +90,6 @@ step_tells w op back m r step k = absurd (no_step step)
 
 -- ---- lists of calls
 
-pub has_none : (n c : ℕ) → has (replicate n false) c ≡ false
-has_none zero c = refl
-has_none (suc n) zero = refl
-has_none (suc n) (suc c) = has_none n c
-
-In_early : (c : ℕ) (xs ys : List ℕ) → In c xs → In c (xs ++ ys)
-In_early c [] ys h = absurd h
-In_early c (x ∷ xs) ys h = elim h [ inl e ↦ inl e | inr more ↦ inr (In_early c xs ys more) ]
-
-In_late : (c : ℕ) (xs ys : List ℕ) → In c ys → In c (xs ++ ys)
-In_late c [] ys h = h
-In_late c (x ∷ xs) ys h = inr (In_late c xs ys h)
-
-In_either : (c : ℕ) (xs ys : List ℕ) → In c (xs ++ ys) → In c xs ⊎ In c ys
-In_either c [] ys h = inr h
-In_either c (x ∷ xs) ys h = elim h [ inl e ↦ inl (inl e) | inr more ↦ elim (In_either c xs ys more) [ inl p ↦ inl (inr p) | inr p ↦ inr p ] ]
-
-In_place : (c : ℕ) (l : List ℕ) → In c l → (early : List ℕ) × (late : List ℕ) × (l ≡ early ++ c ∷ late)
-In_place c [] h = absurd h
-In_place c (d ∷ l) h = elim h [
-  | inl e ↦ ([], l, ap (λ (y : ℕ). y ∷ l) (sym e))
-  | inr more ↦ (let r = In_place c l more in (d ∷ r.0, r.1, ap (λ (k : List ℕ). d ∷ k) r.2))
-]
-
-apart : (c : ℕ) (xs ys : List ℕ) → IsDistinct (xs ++ ys) → In c xs → In c ys → ⊥
-apart c [] ys d h k = h
-apart c (x ∷ xs) ys d h k = elim h [ inl e ↦ d.0 (subst (λ (n : ℕ). In n (xs ++ ys)) e (In_late c xs ys k)) | inr more ↦ apart c xs ys d.1 more k ]
-
 -- ---- runs of a register
 
 module _ {p : Problem ObjState Op Reply} {start : ℤ} (of : IsOfRegister p start) where
@@ -186,14 +158,14 @@ module _ {p : Problem ObjState Op Reply} {start : ℤ} (of : IsOfRegister p star
   -- another value is there, and no call to come may write this one: so none to come found it
   never_again : (post : List ℕ) (w v : ℤ) (end : ObjState) (g : ℕ) → Legal p (Register w) post end → ((b : ℕ) → In b post → MayWrite p b v → ⊥) → In g post → Finds p g v → w ≢ v → ⊥
   never_again post w v end g legal none there found other =
-      let at = In_place g post there in
+      let at = in_place g post there in
       let two = legal_split at.0 (g ∷ at.1) (Register w) end (subst (λ (l : List ℕ). Legal p (Register w) l end) at.2 legal) in
       let k = left at.0 w two.0 two.1 in
       let goes : Legal p (Register k.0) (g ∷ at.1) end = subst (λ (s : ObjState). Legal p s (g ∷ at.1) end) k.1 two.2 in
       let same : k.0 ≡ v = finds_held k.0 v goes.0 g found goes.1 in
       elim k.2 [
         | inl e ↦ other (sym e ∙ same)
-        | inr q ↦ none q.0 (subst (λ (l : List ℕ). In q.0 l) (sym at.2) (In_early q.0 at.0 (g ∷ at.1) q.1)) (subst (λ (u : ℤ). MayWrite p q.0 u) same q.2)
+        | inr q ↦ none q.0 (subst (λ (l : List ℕ). In q.0 l) (sym at.2) (in_early q.0 at.0 (g ∷ at.1) q.1)) (subst (λ (u : ℤ). MayWrite p q.0 u) same q.2)
       ]
 
   found_returned : (op : Op) (back : Option (ℕ × Reply)) (v : ℤ) → value_found op back ≡ Some v → IsSome back
@@ -224,7 +196,7 @@ module _ {p : Problem ObjState Op Reply} {start : ℤ} (of : IsOfRegister p star
       end = whole.continuation.legal.0
 
       there : In g late
-      there = elim (In_either g early (c ∷ late) (stands (early ++ c ∷ late) g whole (finds_completed g u found))) [
+      there = elim (in_either g early (c ∷ late) (stands (early ++ c ∷ late) g whole (finds_completed g u found))) [
         | inl h ↦ absurd (not_there h)
         | inr (inl e) ↦ absurd (other e)
         | inr (inr h) ↦ h
@@ -253,11 +225,11 @@ module _ {p : Problem ObjState Op Reply} {start : ℤ} (of : IsOfRegister p star
 
   not_before : (early : List ℕ) (i : ℕ) (late : List ℕ) → IsRun p (early ++ i ∷ late) → (j : ℕ) → Before p i j → In j early → ⊥
   not_before early i late run j before h =
-      let at = In_place j early h in
+      let at = in_place j early h in
       let eq : early ++ i ∷ late ≡ at.0 ++ j ∷ (at.1 ++ i ∷ late) = ap (λ (l : List ℕ). l ++ i ∷ late) at.2 ∙ append_assoc at.0 (j ∷ at.1) (i ∷ late) in
       elim (run.ordered at.0 j (at.1 ++ i ∷ late) eq i before) [
         | inl q ↦ (let x = has_none (length p.calls) i in cc)
-        | inr q ↦ apart i early (i ∷ late) run.distinct (subst (λ (l : List ℕ). In i l) (sym at.2) (In_early i at.0 (j ∷ at.1) q)) (inl refl)
+        | inr q ↦ apart i early (i ∷ late) run.distinct (subst (λ (l : List ℕ). In i l) (sym at.2) (in_early i at.0 (j ∷ at.1) q)) (inl refl)
       ]
 
   not_itself : (early : List ℕ) (i : ℕ) (late : List ℕ) → IsRun p (early ++ i ∷ late) → (j : ℕ) → Before p i j → j ≡ i → ⊥
@@ -312,8 +284,8 @@ module _ {p : Problem ObjState Op Reply} {start : ℤ} (of : IsOfRegister p star
         end = run.legal.0;
         place = sym (append_assoc early (i ∷ []) late);
         goes_on = subst (λ (s : ObjState). Legal p s late run.legal.0) same goes.2;
-        there = In_late i early (i ∷ []) (inl refl);
-        later = λ j before h. elim (In_either j early (i ∷ []) h) [
+        there = in_late i early (i ∷ []) (inl refl);
+        later = λ j before h. elim (in_either j early (i ∷ []) h) [
           | inl q ↦ not_before early i late run j before q
           | inr (inl e) ↦ not_itself early i late run j before e
           | inr (inr q) ↦ q
@@ -328,15 +300,15 @@ module _ {p : Problem ObjState Op Reply} {start : ℤ} (of : IsOfRegister p star
   needed_at : (l : List ℕ) (u v : ℤ) (a b i j : ℕ) → IsLinearization p l → Moment l u a i → u ≢ v → MayWrite p b v → IsSingle p start v → OfCluster p b v j → Before p i j → (early late : List ℕ) → l ≡ early ++ b ∷ late → In a early
   needed_at l u v a b i j whole k other write single of_b before early late eq =
       elim (place_split k.pre k.post early b late (sym k.place ∙ eq)) [
-        | inl q ↦ absurd (not_in_front of_b (subst (λ (m : List ℕ). In b m) (sym q.1) (In_late b early (b ∷ q.0) (inl refl))))
-        | inr q ↦ subst (λ (m : List ℕ). In a m) (sym q.1) (In_early a k.pre q.0 k.there)
+        | inl q ↦ absurd (not_in_front of_b (subst (λ (m : List ℕ). In b m) (sym q.1) (in_late b early (b ∷ q.0) (inl refl))))
+        | inr q ↦ subst (λ (m : List ℕ). In a m) (sym q.1) (in_early a k.pre q.0 k.there)
       ]
     where
       distinct : IsDistinct (k.pre ++ k.post)
       distinct = subst IsDistinct k.place whole.continuation.distinct
 
       behind : Finds p j v → In j k.post
-      behind found = elim (In_either j k.pre k.post (subst (λ (m : List ℕ). In j m) k.place (stands l j whole (finds_completed j v found)))) [
+      behind found = elim (in_either j k.pre k.post (subst (λ (m : List ℕ). In j m) k.place (stands l j whole (finds_completed j v found)))) [
         | inl h ↦ absurd (k.later j before h)
         | inr h ↦ h
       ]
@@ -348,7 +320,7 @@ module _ {p : Problem ObjState Op Reply} {start : ℤ} (of : IsOfRegister p star
   -- where a call of the one cluster returned before a call of another was called, what writes the one stands before what writes the other
   pub cluster_needs : (u v : ℤ) (a b i j : ℕ) → a ≢ b → MayWrite p a u → IsSingle p start u → OfCluster p a u i → IsCompleted p i → MayWrite p b v → IsSingle p start v → OfCluster p b v j → Before p i j → Needs p a b
   cluster_needs u v a b i j other write_a single_u of_a done write_b single_v of_b before l whole early late eq =
-      let at = In_place i l (stands l i whole done) in
+      let at = in_place i l (stands l i whole done) in
       let run : IsRun p (at.0 ++ i ∷ at.1) = subst (λ (m : List ℕ). IsRun p m) at.2 whole.continuation in
       let k : Moment l u a i = subst (λ (m : List ℕ). Moment m u a i) (sym at.2) (moment u a i single_u write_a of_a done at.0 at.1 run) in
       needed_at l u v a b i j whole k (λ e. other (single_u.one a b write_a (subst (λ (w : ℤ). MayWrite p b w) (sym e) write_b))) write_b single_v of_b before early late eq
@@ -364,29 +336,29 @@ module _ {p : Problem ObjState Op Reply} {start : ℤ} (of : IsOfRegister p star
   -- what writes a single value stands, where a call of its cluster returned
   writer_stands : (u : ℤ) (a i : ℕ) → MayWrite p a u → IsSingle p start u → OfCluster p a u i → IsCompleted p i → (l : List ℕ) → IsLinearization p l → Moment l u a i
   writer_stands u a i write single of_a done l whole =
-      let at = In_place i l (stands l i whole done) in
+      let at = in_place i l (stands l i whole done) in
       let run : IsRun p (at.0 ++ i ∷ at.1) = subst (λ (m : List ℕ). IsRun p m) at.2 whole.continuation in
       subst (λ (m : List ℕ). Moment m u a i) (sym at.2) (moment u a i single write of_a done at.0 at.1 run)
 
   needs_both : (a b : ℕ) → Needs p a b → Needs p b a → (l : List ℕ) → IsLinearization p l → In b l → ⊥
   needs_both a b one two l whole there =
-      let at = In_place b l there in
-      let before = In_place a at.0 (one l whole at.0 at.1 at.2) in
+      let at = in_place b l there in
+      let before = in_place a at.0 (one l whole at.0 at.1 at.2) in
       let eq : l ≡ before.0 ++ a ∷ (before.1 ++ b ∷ at.1) = at.2 ∙ ap (λ (m : List ℕ). m ++ b ∷ at.1) before.2 ∙ append_assoc before.0 (a ∷ before.1) (b ∷ at.1) in
-      apart b before.0 (a ∷ (before.1 ++ b ∷ at.1)) (subst IsDistinct eq whole.continuation.distinct) (two l whole before.0 (before.1 ++ b ∷ at.1) eq) (inr (In_late b before.1 (b ∷ at.1) (inl refl)))
+      apart b before.0 (a ∷ (before.1 ++ b ∷ at.1)) (subst IsDistinct eq whole.continuation.distinct) (two l whole before.0 (before.1 ++ b ∷ at.1) eq) (inr (in_late b before.1 (b ∷ at.1) (inl refl)))
 
   -- two clusters need each other, and a call of one of them returned
   pub clusters_in_vain : (v : ℤ) (a b j : ℕ) → Needs p a b → Needs p b a → MayWrite p b v → IsSingle p start v → OfCluster p b v j → IsCompleted p j → (l : List ℕ) → IsLinearization p l → ⊥
   clusters_in_vain v a b j one two write single of_b done l whole =
       let k = writer_stands v b j write single of_b done l whole in
-      needs_both a b one two l whole (subst (λ (m : List ℕ). In b m) (sym k.place) (In_early b k.pre k.post k.there))
+      needs_both a b one two l whole (subst (λ (m : List ℕ). In b m) (sym k.place) (in_early b k.pre k.post k.there))
 
   -- a call of a cluster returned before one was called that found what was there at the start, which no call may write
   pub start_in_vain : (u : ℤ) (a i g : ℕ) → MayWrite p a u → IsSingle p start u → OfCluster p a u i → IsCompleted p i → Finds p g start → IsSingle p start start → Before p i g → (l : List ℕ) → IsLinearization p l → ⊥
   start_in_vain u a i g write single of_a done found unwritten before l whole =
       let k = writer_stands u a i write single of_a done l whole in
       never_again k.post u start k.end g k.goes_on (λ b h writes. unwritten.fresh refl b writes)
-      (elim (In_either g k.pre k.post (subst (λ (m : List ℕ). In g m) k.place (stands l g whole (finds_completed g start found)))) [
+      (elim (in_either g k.pre k.post (subst (λ (m : List ℕ). In g m) k.place (stands l g whole (finds_completed g start found)))) [
         | inl h ↦ absurd (k.later g before h)
         | inr h ↦ h
       ])

@@ -12,6 +12,7 @@ use Rattle.lin_history.specs.OptionLemmas.{some_and, and_some}
 use Rattle.lin_history.specs.Problems.Problem.{Problem}
 use Rattle.lin_history.specs.Problems.ProblemParts.{ProblemParts, AreTimed}
 use Rattle.lin_history.specs.Problems.Lists.{In, IsDistinct}
+use Rattle.lin_history.specs.Problems.ListLemmas.{apart, in_either}
 use Rattle.lin_history.specs.Problems.LegalLists.{Legal}
 use Rattle.lin_history.specs.Problems.Precedence.{Before}
 use Rattle.lin_history.specs.Problems.Continuations.{has, IsCompletion}
@@ -29,7 +30,7 @@ use Rattle.lin_ahead.specs.ToldOfStack.{exchanged_op, exchanged_call, exchanged_
 use Rattle.lin_ahead.proofs.ChainLemmas.{IsPoppedFrom, IsDeadlineAt, IsHeldFrom, HeldRules, numbers, legal_split}
 use Rattle.lin_ahead.proofs.OnceLemmas.{there_once}
 use Rattle.lin_ahead.proofs.OwedStackLemmas.{still_stack}
-use Rattle.lin_ahead.proofs.PlaceLemmas.{in_either, apart, distinct_late}
+use Rattle.lin_ahead.proofs.PlaceLemmas.{distinct_late}
 use Rattle.lin_ahead.proofs.RowLemmas.{through, seen_through, from_row_is}
 use Rattle.lin_ahead.proofs.StackLemmas.{IsExact, MayPop}
 use Rattle.lin_ahead.proofs.StackRowLemmas.{as_queue, pushes_puts, puts_pushes, took_popped, stack_needs, exact_any, are_owed}

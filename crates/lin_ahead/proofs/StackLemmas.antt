@@ -12,10 +12,11 @@ use Rattle.lin_object.specs.Kinds.Stack.{stack_step}
 use Rattle.lin_history.specs.declared.problems.problem.ProblemCall.{ProblemCall}
 use Rattle.lin_history.specs.Problems.Problem.{Problem}
 use Rattle.lin_history.specs.Problems.Lists.{In, IsDistinct}
+use Rattle.lin_history.specs.Problems.ListLemmas.{in_early, in_either, in_late}
 use Rattle.lin_history.specs.Problems.LegalLists.{fits, state_if_fits, next, Legal}
 use Rattle.lin_ahead.specs.Queue.{Item}
 use Rattle.lin_ahead.specs.Stack.{Pushes, Popped}
-use Rattle.lin_ahead.proofs.PlaceLemmas.{in_early, in_late, in_either, not_in_front, distinct_late, not_within, not_empty, put_on, taken_off}
+use Rattle.lin_ahead.proofs.PlaceLemmas.{not_in_front, distinct_late, not_within, not_empty, put_on, taken_off}
 
 -- a problem under the tables of the kinds, whose replies are equal where its test says so
 pub record IsExact (p : Problem ObjState Op Reply) : Type 0 where

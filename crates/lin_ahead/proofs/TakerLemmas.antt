@@ -1,7 +1,7 @@
 -- Calls that leave a queue too few dequeues begin no completion: each of the items that must go before a call is made is taken by a
 -- pending dequeue of its own.
 use Rattle.std.proofs.Common.{◌≡◌, ◌≢◌, ℕ, zero, suc, ◌+◌, ◌<◌, ◌≤◌, Bool, true, false, Option, Some, None, Result, Ok, Err, List, [], ◌∷◌, ◌++◌, length, ◌⊎◌, inl, inr, refl, sym, ◌∙◌, ap, subst, append_assoc, append-nil, arith}
-use Rattle.std.specs.Prelude.{ℤ, slice_get, IfSome, IfOk, IsTrue, nat_eq, nat_le, nat_lt, not, ◌&&◌}
+use Rattle.std.specs.Prelude.{ℤ, slice_get, IfSome, IfOk, IsTrue, nat_lt, not, ◌&&◌}
 use Rattle.std.specs.Ordering.{int_eq}
 use Rattle.std.proofs.lemmas.Bool.{ltb-true}
 use Rattle.std.proofs.lemmas.Bool.Decides.{eqb_tells, leb_tells}
@@ -9,7 +9,6 @@ use Rattle.std.specs.Cmp.{signed_Decides}
 use Rattle.lin_object.specs.Items.{is_in}
 use Rattle.lin_object.specs.Kinds.Queue.{queue_step, put_in_by, taken_out_by}
 use Rattle.lin_object.specs.declared.op.Op.{Op}
-use Rattle.lin_object.specs.declared.op.Op.TheVariants.{Enqueue, Dequeue}
 use Rattle.lin_object.specs.declared.reply.Reply.{Reply}
 use Rattle.lin_object.specs.declared.reply.Reply.TheVariants.{Okay, Int, Flag, Empty}
 use Rattle.lin_object.specs.declared.state.ObjState.{ObjState}
@@ -17,19 +16,20 @@ use Rattle.lin_object.specs.declared.state.ObjState.TheVariants.{Queue}
 use Rattle.lin_history.specs.declared.problems.problem.ProblemCall.{ProblemCall}
 use Rattle.lin_history.specs.Problems.Problem.{Problem}
 use Rattle.lin_history.specs.Problems.Lists.{In, IsDistinct}
-use Rattle.lin_history.specs.Problems.LegalLists.{fits, next, Legal}
-use Rattle.lin_history.specs.Problems.Precedence.{Before, IsCompleted}
+use Rattle.lin_history.specs.Problems.ListLemmas.{in_early, in_late, in_place}
+use Rattle.lin_history.specs.Problems.LegalLists.{next, Legal}
+use Rattle.lin_history.specs.Problems.Precedence.{Before}
 use Rattle.lin_history.specs.Problems.Continuations.{has, IsCompletion}
 use Rattle.lin_search.specs.NextCall.{IsNext}
 use Rattle.lin_ahead.specs.FirstProgress.{BeginsNone}
 use Rattle.lin_ahead.specs.ItemCalls.{goes_in_once, nothing_told, told}
 use Rattle.lin_ahead.proofs.ToldLemmas.{one_alone, taken_by}
-use Rattle.lin_ahead.specs.Queue.{Item, IsOfQueue, Puts, Took, FoundEmpty, MayTake, OnlyPuts}
-use Rattle.lin_ahead.specs.Takers.{AreApart, is_left, called_by, counted, is_left_by, left_from, IsLost, IsTakerLeft, AreFewer, GoesBefore, AreLostBefore, FindsGone, LacksTakers}
+use Rattle.lin_ahead.specs.Queue.{Item, IsOfQueue, Puts, Took, OnlyPuts}
+use Rattle.lin_ahead.specs.Takers.{AreApart, is_left, counted, is_left_by, left_from, IsLost, IsTakerLeft, AreFewer, GoesBefore, AreLostBefore, FindsGone, LacksTakers}
 use Rattle.lin_ahead.specs.ToldAhead.{takers_from, IsTaker}
 use Rattle.lin_ahead.specs.Late.{ReturnsOutside}
 use Rattle.lin_ahead.proofs.AheadLemmas.{every_taker}
-use Rattle.lin_ahead.proofs.QueueLemmas.{Item_early, Item_late, Item_either, item_split, In_early, In_late, In_place, QueueStep, queue_leaves, queue_answered, queue_empty, stepped, has_call, only_dequeues, Is, fits_recorded, puts_by, puts, chain, put_place, put_there, distinct_early, legal_split, replied, took_completed}
+use Rattle.lin_ahead.proofs.QueueLemmas.{Item_early, Item_late, Item_either, item_split, QueueStep, queue_leaves, queue_answered, queue_empty, stepped, has_call, only_dequeues, Is, fits_recorded, puts_by, puts, chain, put_place, put_there, distinct_early, legal_split, replied, took_completed}
 use Rattle.lin_ahead.proofs.PlaceLemmas.{not_in_front}
 
 -- ---- lists
@@ -321,7 +321,7 @@ module _ {p : Problem ObjState Op Reply} {start : List ℤ} (of_queue : IsOfQueu
 
     module _ (mid : List ℕ) (z : ℕ) (late : List ℕ) (m : ℕ) (place : cs ≡ mid ++ z ∷ late) (returns : ReturnsOutside p set z m) where
       z_there : In z cs
-      z_there = subst (λ (l : List ℕ). In z l) (sym place) (In_late z mid (z ∷ late) (inl refl))
+      z_there = subst (λ (l : List ℕ). In z l) (sym place) (in_late z mid (z ∷ late) (inl refl))
 
       distinct : IsDistinct (mid ++ z ∷ late)
       distinct = subst IsDistinct place h.continuation.distinct.1
@@ -329,17 +329,17 @@ module _ {p : Problem ObjState Op Reply} {start : List ℤ} (of_queue : IsOfQueu
       -- a call in front of it was not called after it returned
       not_after : (d : ℕ) → In d mid → Before p z d → ⊥
       not_after d there before =
-          let at = In_place d mid there in
+          let at = in_place d mid there in
           let shape : cs ≡ at.0 ++ d ∷ (at.1 ++ z ∷ late) = place ∙ ap (λ (l : List ℕ). l ++ z ∷ late) at.2 ∙ append_assoc at.0 (d ∷ at.1) (z ∷ late) in
           elim (h.continuation.ordered (c ∷ at.0) d (at.1 ++ z ∷ late) (ap (λ (l : List ℕ). c ∷ l) shape) z before) [
             | inl q ↦ (let e = returns.0 in cc)
             | inr (inl e) ↦ h.continuation.distinct.0 (subst (λ (n : ℕ). In n cs) e z_there)
-            | inr (inr q) ↦ not_in_front mid z late distinct (subst (λ (l : List ℕ). In z l) (sym at.2) (In_early z at.0 (d ∷ at.1) q))
+            | inr (inr q) ↦ not_in_front mid z late distinct (subst (λ (l : List ℕ). In z l) (sym at.2) (in_early z at.0 (d ∷ at.1) q))
           ]
 
       outside : (d : ℕ) → In d mid → is_left set c d ≡ true
       outside d there =
-          let d_there : In d cs = subst (λ (l : List ℕ). In d l) (sym place) (In_early d mid (z ∷ late) there) in
+          let d_there : In d cs = subst (λ (l : List ℕ). In d l) (sym place) (in_early d mid (z ∷ late) there) in
           left_is set c d (h.continuation.outside d (inr d_there)) (λ e. h.continuation.distinct.0 (subst (λ (n : ℕ). In n cs) e d_there))
 
       -- a call in front of it is left, and was called by its return
@@ -393,7 +393,7 @@ module _ {p : Problem ObjState Op Reply} {start : List ℤ} (of_queue : IsOfQueu
       elim (h.complete z (took_completed of_queue z returns.1.0 m returns.1.2.0 returns.1.1 returns.1.2.1)) [
         | inl q ↦ (let e = returns.0 in cc)
         | inr (inl e) ↦ other e
-        | inr (inr there) ↦ (let at = In_place z cs there in too_few set s c items is_next cs h at.0 z at.1 m at.2 returns a finds rest.0 rest.1 rest.2)
+        | inr (inr there) ↦ (let at = in_place z cs there in too_few set s c items is_next cs h at.0 z at.1 m at.2 returns a finds rest.0 rest.1 rest.2)
       ]
 
   -- so it is, where it is known
