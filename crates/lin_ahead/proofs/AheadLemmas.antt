@@ -22,7 +22,8 @@ use Rattle.lin_ahead.specs.CallNumbers.{by_row, from_row}
 use Rattle.lin_ahead.specs.ToldAhead.{took_once, once_row, taken_number, taken_row, is_taker, takers_from, PutOnce, IsTaker, IsToldAhead}
 use Rattle.lin_ahead.specs.declared.look_ahead.KnownAhead.{KnownAhead}
 use Rattle.lin_ahead.specs.Queue.{Puts, Took, OnlyPuts}
-use Rattle.lin_ahead.proofs.AnyLemmas.{of_any, reply_same, known}
+use Rattle.lin_history.specs.ReplyLemmas.{reply_same}
+use Rattle.lin_ahead.proofs.AnyLemmas.{of_any, known}
 use Rattle.lin_ahead.proofs.ExactLemmas.{alone, below_takers, are_numbers}
 use Rattle.lin_ahead.proofs.LateLemmas.{nothing_late}
 use Rattle.lin_ahead.proofs.NumberLemmas.{taken_need}

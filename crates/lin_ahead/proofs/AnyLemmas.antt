@@ -1,13 +1,11 @@
 -- The object that histories are judged by, as an object of queues.
-use Rattle.std.proofs.Common.{◌≡◌, ℕ, true, Some, List, length, [], ◌∙◌, refl, ap}
-use Rattle.std.specs.Prelude.{ℤ, Bool, false, slice_get}
-use Rattle.std.specs.Cmp.{signed_Decides}
+use Rattle.std.proofs.Common.{◌≡◌, ℕ, Some, List, length, [], ◌∙◌, refl, ap}
+use Rattle.std.specs.Prelude.{ℤ, slice_get}
 use Rattle.lin_object.specs.declared.op.Op.{Op}
 use Rattle.lin_object.specs.declared.reply.Reply.{Reply}
-use Rattle.lin_object.specs.declared.reply.Reply.TheVariants.{Okay, Int, Flag, Empty}
 use Rattle.lin_object.specs.declared.state.ObjState.{ObjState}
 use Rattle.lin_object.specs.declared.state.ObjState.TheVariants.{Queue}
-use Rattle.lin_object.specs.contracts.reply.ReplyPartialEq.TheImpl.{eq-value as reply_eq}
+use Rattle.lin_history.specs.ReplyLemmas.{reply_same}
 use Rattle.lin_history.specs.Problems.ProblemParts.{ProblemParts, AreTimed}
 use Rattle.lin_history.specs.Problems.Needs.{NeedNumbers, AreNeeds}
 use Rattle.lin_ahead.specs.AnyProblem.{any_problem}
@@ -18,19 +16,6 @@ use Rattle.lin_ahead.specs.CallNumbers.{by_row, from_row}
 use Rattle.lin_ahead.proofs.RowLemmas.{by_row_is, from_row_is}
 use Rattle.std.proofs.lemmas.List.{length-map}
 use Rattle.lin_ahead.proofs.NumberLemmas.{numbers_need}
-
-flag_same : (a b : Bool) → reply_eq.it (Flag a) (Flag b) ≡ true → a ≡ b
-flag_same true true e = refl
-flag_same false false e = refl
-flag_same true false e = absurd (cc)
-flag_same false true e = absurd (cc)
-
-pub reply_same : (a b : Reply) → reply_eq.it a b ≡ true → a ≡ b
-reply_same Okay Okay e = refl
-reply_same (Int v) (Int w) e = ap Int ((signed_Decides v w).0 e)
-reply_same (Flag a) (Flag b) e = ap Flag (flag_same a b e)
-reply_same Empty Empty e = refl
-reply_same a b e = absurd (cc)
 
 module _ {Object : Type 0} (p : ProblemParts Object ObjState Op Reply) where
   pub of_any : (items : List ℤ) → p.start ≡ Queue items → IsOfQueue (any_problem p) items

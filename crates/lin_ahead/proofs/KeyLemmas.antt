@@ -38,7 +38,7 @@ use Rattle.lin_ahead.specs.Held.{IsHeldUntil}
 use Rattle.lin_ahead.specs.ToldOfRegister.{IsToldOfRegister}
 use Rattle.lin_ahead.specs.KeyValue.{key_at, is_on, are_on, on_this_key, of_one_key, AreRowsOf, op_on_value, reply_on_value, returned_on_value, call_on_value, on_value}
 use Rattle.lin_ahead.proofs.LateLemmas.{nothing_late}
-use Rattle.lin_ahead.proofs.AnyLemmas.{reply_same}
+use Rattle.lin_history.specs.ReplyLemmas.{reply_same}
 use Rattle.lin_ahead.proofs.RowLemmas.{through, seen_through}
 use Rattle.lin_ahead.proofs.VainLemmas.{register_right, register_told}
 

@@ -19,7 +19,7 @@ use Rattle.lin_ahead.specs.Queue.{Puts, Took}
 use Rattle.lin_ahead.specs.Stack.{Pushes, Popped, PushedOnce, OnlyPushes}
 use Rattle.lin_ahead.specs.ToldOfStack.{exchanged_op, exchanged_call, exchanged_calls, popped_once_row, AreLateRows, IsToldOfStack}
 use Rattle.lin_ahead.proofs.AheadLemmas.{flagged_took, took_flagged}
-use Rattle.lin_ahead.proofs.AnyLemmas.{reply_same}
+use Rattle.lin_history.specs.ReplyLemmas.{reply_same}
 use Rattle.lin_ahead.proofs.OwedStackLemmas.{owed_top}
 use Rattle.lin_ahead.proofs.RowLemmas.{through, seen_through}
 use Rattle.lin_ahead.proofs.StackLemmas.{IsExact}

@@ -23,7 +23,7 @@ use Rattle.lin_ahead.specs.Held.{AreHeldUntil}
 use Rattle.lin_ahead.specs.Numbers.{CalledFrom}
 use Rattle.lin_ahead.specs.Register.{IsOfRegister, value_written, value_found, MayWrite, Finds, IsSingle, OfCluster, IsClusterBy, IsClusterFrom, AreClusterNumbers}
 use Rattle.lin_ahead.specs.ValueCalls.{no_value_told, least_return, written_next, found_next, value_next, value_from, value_told, is_single, single_by, cluster_by, cluster_from, found_single, cluster_numbers_row, cluster_by_row, cluster_from_row, found_single_row}
-use Rattle.lin_ahead.proofs.AnyLemmas.{reply_same}
+use Rattle.lin_history.specs.ReplyLemmas.{reply_same}
 use Rattle.lin_ahead.proofs.RowLemmas.{through, seen_through}
 use Rattle.lin_ahead.proofs.RegisterLemmas.{finds_held_until}
 
