@@ -1,7 +1,7 @@
 -- Calls that leave a queue too few dequeues begin no completion: each of the items that must go before a call is made is taken by a
 -- pending dequeue of its own.
 use Rattle.std.proofs.Common.{◌≡◌, ◌≢◌, ℕ, zero, suc, ◌+◌, ◌<◌, ◌≤◌, Bool, true, false, Option, Some, None, Result, Ok, Err, List, [], ◌∷◌, ◌++◌, length, ◌⊎◌, inl, inr, refl, sym, ◌∙◌, ap, subst, append_assoc, append-nil, arith}
-use Rattle.std.specs.Prelude.{ℤ, slice_get, IfSome, IfOk, IsTrue, nat_eq, nat_le, nat_lt, not, ◌&&◌}
+use Rattle.std.specs.Prelude.{ℤ, slice_get, IfSome, IfOk, IsTrue, nat_lt, not, ◌&&◌}
 use Rattle.std.specs.Ordering.{int_eq}
 use Rattle.std.proofs.lemmas.Bool.{ltb-true}
 use Rattle.std.proofs.lemmas.Bool.Decides.{eqb_tells, leb_tells}
@@ -9,7 +9,6 @@ use Rattle.std.specs.Cmp.{signed_Decides}
 use Rattle.lin_object.specs.Items.{is_in}
 use Rattle.lin_object.specs.Kinds.Queue.{queue_step, put_in_by, taken_out_by}
 use Rattle.lin_object.specs.declared.op.Op.{Op}
-use Rattle.lin_object.specs.declared.op.Op.TheVariants.{Enqueue, Dequeue}
 use Rattle.lin_object.specs.declared.reply.Reply.{Reply}
 use Rattle.lin_object.specs.declared.reply.Reply.TheVariants.{Okay, Int, Flag, Empty}
 use Rattle.lin_object.specs.declared.state.ObjState.{ObjState}
@@ -17,15 +16,15 @@ use Rattle.lin_object.specs.declared.state.ObjState.TheVariants.{Queue}
 use Rattle.lin_history.specs.declared.problems.problem.ProblemCall.{ProblemCall}
 use Rattle.lin_history.specs.Problems.Problem.{Problem}
 use Rattle.lin_history.specs.Problems.Lists.{In, IsDistinct}
-use Rattle.lin_history.specs.Problems.LegalLists.{fits, next, Legal}
-use Rattle.lin_history.specs.Problems.Precedence.{Before, IsCompleted}
+use Rattle.lin_history.specs.Problems.LegalLists.{next, Legal}
+use Rattle.lin_history.specs.Problems.Precedence.{Before}
 use Rattle.lin_history.specs.Problems.Continuations.{has, IsCompletion}
 use Rattle.lin_search.specs.NextCall.{IsNext}
 use Rattle.lin_ahead.specs.FirstProgress.{BeginsNone}
 use Rattle.lin_ahead.specs.ItemCalls.{goes_in_once, nothing_told, told}
 use Rattle.lin_ahead.proofs.ToldLemmas.{one_alone, taken_by}
-use Rattle.lin_ahead.specs.Queue.{Item, IsOfQueue, Puts, Took, FoundEmpty, MayTake, OnlyPuts}
-use Rattle.lin_ahead.specs.Takers.{AreApart, is_left, called_by, counted, is_left_by, left_from, IsLost, IsTakerLeft, AreFewer, GoesBefore, AreLostBefore, FindsGone, LacksTakers}
+use Rattle.lin_ahead.specs.Queue.{Item, IsOfQueue, Puts, Took, OnlyPuts}
+use Rattle.lin_ahead.specs.Takers.{AreApart, is_left, counted, is_left_by, left_from, IsLost, IsTakerLeft, AreFewer, GoesBefore, AreLostBefore, FindsGone, LacksTakers}
 use Rattle.lin_ahead.specs.ToldAhead.{takers_from, IsTaker}
 use Rattle.lin_ahead.specs.Late.{ReturnsOutside}
 use Rattle.lin_ahead.proofs.AheadLemmas.{every_taker}
