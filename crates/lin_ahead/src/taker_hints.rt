@@ -5,12 +5,15 @@ use crate::calls_in_turn::CallsInTurn;
 use crate::each_item::told_of;
 use crate::item_calls::BEYOND;
 use crate::look_ahead::KnownAhead;
-use crate::takers::{After, Wanting, item_put};
+use crate::takers::{After, Wanting, is_left, item_put};
 use indexmap::IndexMap;
 use lin_history::{Problem, ProblemCall};
 use lin_object::{AnyObject, Op, Reply};
 use lin_search::Config;
 use std::alloc::{AllocError, Global};
+
+// With how many takers at most they are counted: each that is tried counts the others.
+const MOST_TAKERS: usize = 256;
 
 // How many calls more than takers are looked at.
 const MORE_CALLS_IN_SIGHT: usize = 64;
@@ -33,6 +36,55 @@ pub(crate) struct TakerHints {
     is_taker: Vec<bool>,
     // Those of the lifted calls that put lost items in, in the order in which they were lifted.
     lifted: Vec<usize>,
+}
+
+/// A walk along the takers, in the order in which they were called.
+#[derive(Drop)]
+pub(crate) struct TakerWalk {
+    place: usize,
+    left: usize,
+}
+
+// Whether the call was called by this event.
+fn is_called_by(calls: &[ProblemCall<Op, Reply>], call: usize, event: u64) -> bool {
+    match calls.get(call) {
+        Some(made) => u64::from(made.called) <= event,
+        None => false,
+    }
+}
+
+impl TakerWalk {
+    // The walk at its beginning.
+    pub(crate) fn new() -> Self {
+        TakerWalk { place: 0, left: 0 }
+    }
+
+    // How many of the takers that were passed are left.
+    pub(crate) fn left(&self) -> usize {
+        self.left
+    }
+
+    // Goes on past those that were called by the return of the wanting call.
+    pub(crate) fn go_to(
+        &mut self,
+        problem: &Problem<AnyObject>,
+        takers: &[usize],
+        after: &After,
+        wanting: Wanting,
+    ) {
+        let calls = problem.calls();
+        let event = or_beyond(returned_at(calls, wanting.taker));
+        for place in self.place..takers.len() {
+            self.place = place;
+            if !is_called_by(calls, takers[place], event) {
+                return;
+            }
+            if is_left(after, takers[place]) {
+                self.left = self.left.saturating_add(1);
+            }
+        }
+        self.place = takers.len();
+    }
 }
 
 // A call, and when it returned.
@@ -246,14 +298,15 @@ impl TakerHints {
         problem: &Problem<AnyObject>,
         ahead: &KnownAhead,
     ) -> Result<Self, AllocError> {
-        if ahead.takers.is_empty() {
+        let takers = ahead.takers.len();
+        if takers == 0 || takers > MOST_TAKERS {
             return TakerHints::none(alloc);
         }
         let is_lost = lost_flags(alloc, problem, ahead)?;
         let behind = behind_row(alloc, problem, ahead, is_lost.as_slice())?;
         Ok(TakerHints {
             alloc,
-            in_sight: ahead.takers.len().saturating_add(MORE_CALLS_IN_SIGHT),
+            in_sight: takers.saturating_add(MORE_CALLS_IN_SIGHT),
             takers: taker_row(alloc, problem.calls())?,
             lost: by_returns(alloc, problem.calls(), behind.as_slice())?,
             behind,

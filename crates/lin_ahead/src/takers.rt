@@ -16,7 +16,7 @@ ghost use Rattle.lin_ahead.specs.Takers.{is_left, is_left_by, left_from, IsLost,
 use crate::each_item::told_of;
 use crate::late_pushes::returned_outside;
 use crate::look_ahead::KnownAhead;
-use crate::taker_hints::TakerHints;
+use crate::taker_hints::{TakerHints, TakerWalk};
 use lin_history::Problem;
 use lin_object::{AnyObject, Items, Op, Reply};
 use lin_search::Config;
@@ -42,8 +42,8 @@ pub(crate) struct Wanting {
     pub taker: usize,
 }
 
-// Whether the call is still left.
-fn is_left(after: &After, call: usize) -> bool
+/// Whether the call is still left.
+pub(crate) fn is_left(after: &After, call: usize) -> bool
     ensures { result ≡ is_left after.now.config.now.lifted after.now.call call }
 {
     call != after.call && !after.config.has(call)
@@ -274,35 +274,44 @@ pub(crate) fn lacks_takers(
         after.now.config.now.lifted after.now.call after.now.items.now) }
 {
     let mut calls = hints.lying(problem, after)?;
+    let mut walk = TakerWalk::new();
     if let Some(wanting) = hints.wanting(next_needed) {
-        if lacks_takers_for(
-            hints.alloc(),
-            problem,
-            ahead,
-            after,
-            calls.as_slice(),
-            wanting,
-        )? {
-            return Ok(true);
+        walk.go_to(problem, ahead.takers.as_slice(), after, wanting);
+        if walk.left() < calls.len() {
+            if lacks_takers_for(
+                hints.alloc(),
+                problem,
+                ahead,
+                after,
+                calls.as_slice(),
+                wanting,
+            )? {
+                return Ok(true);
+            }
         }
     }
     for count in 0..hints.in_sight() {
         let Some(call) = hints.lost_ahead(count) else {
             return Ok(false);
         };
-        if is_left(after, call) {
-            calls.push(call)?;
-            if let Some(wanting) = hints.wanting_behind(call) {
-                if lacks_takers_for(
-                    hints.alloc(),
-                    problem,
-                    ahead,
-                    after,
-                    calls.as_slice(),
-                    wanting,
-                )? {
-                    return Ok(true);
-                }
+        if !is_left(after, call) {
+            continue;
+        }
+        calls.push(call)?;
+        let Some(wanting) = hints.wanting_behind(call) else {
+            return Ok(false);
+        };
+        walk.go_to(problem, ahead.takers.as_slice(), after, wanting);
+        if walk.left() < calls.len() {
+            if lacks_takers_for(
+                hints.alloc(),
+                problem,
+                ahead,
+                after,
+                calls.as_slice(),
+                wanting,
+            )? {
+                return Ok(true);
             }
         }
     }

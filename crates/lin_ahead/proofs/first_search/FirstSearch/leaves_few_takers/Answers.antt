@@ -1,6 +1,5 @@
 use Rattle.std.proofs.Common.{◌≡◌, [], rules}
 use Rattle.lin_object.specs.declared.state.ObjState.TheVariants.{Queue}
-use Rattle.lin_ahead.specs.AnyProblem.{any_problem}
 use Rattle.lin_ahead.proofs.AnyLemmas.{of_any}
 use Rattle.lin_ahead.proofs.TakerLemmas.{known_few}
 use Rattle.lin_ahead.proofs.first_search.FirstSearch.leaves_few_takers.Goals as goal
