@@ -21,9 +21,14 @@ module _ {State Op Reply : Type 0} (p : Problem State Op Reply) where
   crossed a b needs before done l lin =
       let s = in_place b l (elim (lin.complete b done) [ inl h ↦ absurd (let none = has_none (length p.calls) b in cc) | inr h ↦ h ]) in
       let t = in_place a s.0 (needs l lin s.0 s.1 s.2) in
-      let e : l ≡ t.0 ++ a ∷ (t.1 ++ b ∷ s.1) = s.2 ∙ ap (λ (x : List ℕ). x ++ b ∷ s.1) t.2 ∙ append_assoc t.0 (a ∷ t.1) (b ∷ s.1) in
-      let there : In b t.0 = run_before p l lin.continuation t.0 a (t.1 ++ b ∷ s.1) e b before in
-      apart b s.0 (b ∷ s.1) (subst (λ (x : List ℕ). IsDistinct x) s.2 lin.continuation.distinct) (subst (In b) (sym t.2) (in_early b t.0 (a ∷ t.1) there)) (inl refl)
+      twice s.0 s.1 t.0 t.1 s.2 t.2
+    where
+      -- b stands behind a, and in front of it
+      twice : (early late first rest : List ℕ) → l ≡ early ++ b ∷ late → early ≡ first ++ a ∷ rest → ⊥
+      twice early late first rest e f =
+          apart b early (b ∷ late) (subst (λ (x : List ℕ). IsDistinct x) e lin.continuation.distinct)
+          (subst (In b) (sym f) (in_early b first (a ∷ rest) (run_before p l lin.continuation first a (rest ++ b ∷ late) (e ∙ ap (λ (x : List ℕ). x ++ b ∷ late) f ∙ append_assoc first (a ∷ rest) (b ∷ late)) b before)))
+          (inl refl)
 
   pub crossed_none : (rows : NeedNumbers) → AreOtherNeeds p rows → (by from : List ℕ) → by ≡ rows.by → from ≡ rows.from → (a b : ℕ) → a < length p.calls → b < length p.calls → b ≢ a → get_or by a 0 < get_or from b 0 → Before p b a → IsCompleted p b
       → (l : List ℕ) → IsLinearization p l → ⊥

@@ -19,13 +19,16 @@ use lin_object::{AnyObject, lawful};
 use lin_search::{Config, NoStop, Outcome, OwnMemo, search};
 use std::alloc::{AllocError, Global};
 
-// How many lifts for each call a search may make at first, how many times as many each time that it tells nothing, and how
-// often it is made.
+// How many lifts for each call a search may make at first, and how many times as many each time that it tells nothing.
 const FIRST_LIFTS: u64 = 2;
 
 const GROWTH: u64 = 4;
 
+// How often it is made at most. Where only a bound is asked for, seldom: without it more parts are searched, but each of those
+// tells more.
 const ROUNDS: usize = 16;
+
+const ROUNDS_FOR_A_BOUND: usize = 2;
 
 // What a first search tells, with what is known ahead.
 fn first_answer(
@@ -139,12 +142,13 @@ impl AnewSearch {
         alloc: Global,
         part: &Problem<AnyObject>,
         known: &Option<KnownAhead>,
+        rounds: usize,
     ) -> Result<PartAnswer, AllocError>
         requires { IfSome known.now (IsRightAhead (any_problem part.now)) }
         ensures { IfOk result (IsAnswerTo (any_problem part.now)) }
     {
         let mut wanted = FIRST_LIFTS.saturating_mul(part.len() as u64);
-        for _ in 0..ROUNDS {
+        for _ in 0..rounds {
             let lifts = self.take(wanted);
             match answer_within(alloc, part, known, lifts)? {
                 PartAnswer::Unknown if self.lifts > 0 => wanted = wanted.saturating_mul(GROWTH),
@@ -152,6 +156,22 @@ impl AnewSearch {
             }
         }
         Ok(PartAnswer::Unknown)
+    }
+
+    // What is told of the problem in so many rounds.
+    fn answer_within_rounds(
+        &mut self,
+        alloc: Global,
+        part: &Problem<AnyObject>,
+        rounds: usize,
+    ) -> Result<PartAnswer, AllocError>
+        ensures { IfOk result (IsAnswerTo (any_problem part.now)) }
+    {
+        let known = known_ahead(alloc, part)?;
+        if shows_none(alloc, part, &known)? {
+            return Ok(PartAnswer::Refuted);
+        }
+        self.answer_in_rounds(alloc, part, &known, rounds)
     }
 
     // What is told of the problem, which may be the whole.
@@ -162,11 +182,7 @@ impl AnewSearch {
     ) -> Result<PartAnswer, AllocError>
         ensures { IfOk result (IsAnswerTo (any_problem part.now)) }
     {
-        let known = known_ahead(alloc, part)?;
-        if shows_none(alloc, part, &known)? {
-            return Ok(PartAnswer::Refuted);
-        }
-        self.answer_in_rounds(alloc, part, &known)
+        self.answer_within_rounds(alloc, part, ROUNDS)
     }
 
     // What is told of the problem of these calls.
@@ -209,7 +225,7 @@ impl AnewSearch {
         if !is_loose_prefix(problem, call, &part) {
             return Ok(false);
         }
-        match self.answer_to(alloc, &part)? {
+        match self.answer_within_rounds(alloc, &part, ROUNDS_FOR_A_BOUND)? {
             PartAnswer::Refuted => Ok(true),
             PartAnswer::Found(_) => Ok(false),
             PartAnswer::Unknown => Ok(false),

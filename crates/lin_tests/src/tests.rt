@@ -11,6 +11,7 @@ mod first_searches;
 mod histories;
 mod meetings;
 mod objects;
+mod prefixes;
 mod random;
 mod refusals;
 mod reports;
