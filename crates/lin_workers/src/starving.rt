@@ -12,6 +12,7 @@ use lin_search::{CallSet, Config, Longest, Memo, Noted, Outcome, Stop, search};
 use std::alloc::{AllocError, Global};
 use std::sync::atomic::AtomicBool;
 use std::sync::atomic::Ordering::SeqCst;
+use std::thread::yield_now;
 
 // So many more notes than were stored since are refused memory before a search ends. (Not so many in a row: a shard may have
 // room where the others have none.) Each of them asks the system for memory, which takes some microseconds.
@@ -40,7 +41,7 @@ impl<'a, M> CountingMemo<'a, M> {
         }
     }
 
-    // A note was answered so.
+    // A note was answered so. A shard that was not got may be that of a worker that has no core: it is given one.
     fn count(&mut self, noted: Noted)
         ensures memo { self.new.memo.now ≡ self.old.memo.now }
         ensures same_reference { self.new.memo.ghost_name ≡ self.old.memo.ghost_name }
@@ -48,7 +49,8 @@ impl<'a, M> CountingMemo<'a, M> {
         match noted {
             Noted::New => self.refused = self.refused.saturating_sub(1),
             Noted::NoRoom => self.refused = self.refused.saturating_add(1),
-            Noted::Known | Noted::Busy | Noted::Stranger => {}
+            Noted::Busy => yield_now(),
+            Noted::Known | Noted::Stranger => {}
         }
         if self.refused >= PATIENCE {
             self.is_starved.store(true, SeqCst);
