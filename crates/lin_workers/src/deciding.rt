@@ -15,6 +15,38 @@ use lin_object::{SeqObject, lawful};
 use lin_search::{Memo, NoStop, Outcome, longest_run};
 use std::alloc::{AllocError, Global};
 
+/// The verdict by the tasks of a cut, in their order: the first that has a completion, or whose search met the limit, decides;
+/// where none does, the longest run is read off the memo. A task is searched over the memo where no outcome of it was brought.
+/// `AllocError` where memory was refused.
+pub(crate) fn verdict_of_tasks<O: SeqObject, M: Memo<O>>(
+    alloc: Global,
+    problem: &Problem<O>,
+    tasks: &[Task<O>],
+    outcomes: &mut [Option<Outcome>],
+    memo: &mut M,
+    limit: Option<u64>,
+) -> Result<ObjectVerdict, AllocError>
+    requires cut { (k : ℕ) × IsCut (problem_of O.after O.State.eq O.Reply.eq problem.now) k
+        tasks.now }
+    requires decides { DecideBy (problem_of O.after O.State.eq O.Reply.eq problem.now) tasks.now }
+    requires outcomes { AreOutcomes (problem_of O.after O.State.eq O.Reply.eq problem.now) tasks.now
+        limit outcomes.old }
+    ensures verdict { IfOk result (IsObjectVerdict
+        (problem_of O.after O.State.eq O.Reply.eq problem.now) limit) }
+    ensures memo { M.changes memo.old memo.new }
+{
+    lawful::<O>();
+    for i in 0..tasks.len() {
+        let task = &tasks[i];
+        let brought = outcomes[i].take();
+        let outcome = outcome_of(alloc, problem, task, brought, memo, limit)?;
+        if let Some(verdict) = verdict_of_task(alloc, problem, task, outcome, limit)? {
+            return Ok(verdict);
+        }
+    }
+    Ok(ObjectVerdict::No(longest_run(alloc, problem, memo)?))
+}
+
 // The outcome of the task: the one that was brought, or else that of a search over the memo.
 fn outcome_of<O: SeqObject, M: Memo<O>>(
     alloc: Global,
@@ -40,18 +72,8 @@ fn outcome_of<O: SeqObject, M: Memo<O>>(
     }
 }
 
-// The calls of the path, and then those of the completion.
-fn joined(alloc: Global, path: &Order, completion: &Order) -> Result<Order, AllocError>
-    ensures { IfOk result (λ order. order ≡ path.now ++ completion.now) }
-{
-    let mut calls = Vec::new(alloc);
-    calls.extend_from_slice(path.calls())?;
-    calls.extend_from_slice(completion.calls())?;
-    Ok(Order::new(calls))
-}
-
 // The verdict on the problem, where the task decides it: it has a completion, or its search met the limit.
-fn verdict_by<O: SeqObject>(
+fn verdict_of_task<O: SeqObject>(
     alloc: Global,
     problem: &Problem<O>,
     task: &Task<O>,
@@ -76,34 +98,12 @@ fn verdict_by<O: SeqObject>(
     }
 }
 
-/// The verdict by the tasks of a cut, in their order: the first that has a completion, or whose search met the limit, decides;
-/// where none does, the longest run is read off the memo. A task is searched over the memo where no outcome of it was brought.
-/// `AllocError` where memory was refused.
-pub(crate) fn decide<O: SeqObject, M: Memo<O>>(
-    alloc: Global,
-    problem: &Problem<O>,
-    tasks: &[Task<O>],
-    outcomes: &mut [Option<Outcome>],
-    memo: &mut M,
-    limit: Option<u64>,
-) -> Result<ObjectVerdict, AllocError>
-    requires cut { (k : ℕ) × IsCut (problem_of O.after O.State.eq O.Reply.eq problem.now) k
-        tasks.now }
-    requires decides { DecideBy (problem_of O.after O.State.eq O.Reply.eq problem.now) tasks.now }
-    requires outcomes { AreOutcomes (problem_of O.after O.State.eq O.Reply.eq problem.now) tasks.now
-        limit outcomes.old }
-    ensures verdict { IfOk result (IsObjectVerdict
-        (problem_of O.after O.State.eq O.Reply.eq problem.now) limit) }
-    ensures memo { M.changes memo.old memo.new }
+// The calls of the path, and then those of the completion.
+fn joined(alloc: Global, path: &Order, completion: &Order) -> Result<Order, AllocError>
+    ensures { IfOk result (λ order. order ≡ path.now ++ completion.now) }
 {
-    lawful::<O>();
-    for i in 0..tasks.len() {
-        let task = &tasks[i];
-        let brought = outcomes[i].take();
-        let outcome = outcome_of(alloc, problem, task, brought, memo, limit)?;
-        if let Some(verdict) = verdict_by(alloc, problem, task, outcome, limit)? {
-            return Ok(verdict);
-        }
-    }
-    Ok(ObjectVerdict::No(longest_run(alloc, problem, memo)?))
+    let mut calls = Vec::new(alloc);
+    calls.extend_from_slice(path.calls())?;
+    calls.extend_from_slice(completion.calls())?;
+    Ok(Order::new(calls))
 }

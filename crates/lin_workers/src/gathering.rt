@@ -6,7 +6,7 @@ ghost use Rattle.lin_workers.specs.Cut.{Task as TaskOf};
 ghost use Rattle.lin_workers.specs.Outcomes.{AreOutcomes, ArePlaced, WasNotStopped};
 ghost use Rattle.lin_workers.specs.Values.{AreValues};
 
-use crate::worker::Done;
+use crate::job::Done;
 use lin_object::SeqObject;
 use lin_search::Outcome;
 use lin_table::Hand;

@@ -1,13 +1,14 @@
 //! Workers that share the search of one object.
 //!
-//! - `check`: the check of one object, by the calling thread alone or with workers; `stalling`: when its own search ends;
-//!   `starving`: a search ends that is refused memory all the time; `verdict`: what it finds.
-//! - `cutting`: the search is cut into tasks; `level`: the levels of configurations that a cut is made of.
-//! - `worker`: a worker claims tasks and searches them; `scouting`: how each worker scouts; `scouts`: what a scout does;
-//!   `stop`: its search stops where a smaller task was found.
+//! - `check`: the check of one object, by the calling thread alone or with workers; `verdict`: what it finds.
+//! - `stalling`: the calling thread's own search ends where it comes no further; `starving`: a search or a scout ends that is
+//!   refused memory all the time; `watching`: how such an end is told to a search.
+//! - `cutting`: the search is cut into tasks; `level`: the levels of configurations that a cut is made of; `task`: a task.
+//! - `worker`: a worker claims tasks and searches them; `job`: what workers share, and what each brings; `stop`: a search stops
+//!   where a smaller task was found; `gate`: what a worker passes after each claim.
+//! - `scouting`: how each worker scouts; `scouts`: what a scout does; `signals`: what workers of a group tell one another.
 //! - `sharing`: workers in threads; `gathering`: what they brought is put together; `deciding`: the verdict by the tasks in
 //!   their order.
-//! - `gate`: what a worker passes after each claim.
 //! - `options`: by how many workers a check is run, with how many shards, and within which limit.
 #![tactic(auto)]
 
@@ -16,24 +17,27 @@ mod cutting;
 mod deciding;
 mod gate;
 mod gathering;
+mod job;
 mod level;
 mod options;
 mod scouting;
 mod scouts;
 mod sharing;
+mod signals;
 mod stalling;
 mod starving;
 mod stop;
 mod task;
 mod verdict;
-mod whereabouts;
+mod watching;
 mod worker;
 
 pub use check::check_object;
 pub use cutting::{LAST_LEVEL, cut};
 pub use gate::{FreeGate, Gate};
+pub use job::Done;
 pub use options::{MAX_LIMIT, MAX_SHARDS, MAX_WORKERS, OptionFault, Options};
 pub use scouts::{Scouting, scout};
 pub use task::Task;
 pub use verdict::{CheckFault, ObjectVerdict};
-pub use worker::{Done, work};
+pub use worker::work;

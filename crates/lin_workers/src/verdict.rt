@@ -1,6 +1,7 @@
 //! What a check of one object finds.
 
 use lin_history::Order;
+use std::alloc::AllocError;
 
 /// What a check found of one object.
 #[derive(Drop)]
@@ -18,4 +19,10 @@ pub enum ObjectVerdict {
 pub enum CheckFault {
     /// The calling thread was refused memory.
     Memory,
+}
+
+impl From<AllocError> for CheckFault {
+    fn from(_refused: AllocError) -> CheckFault {
+        CheckFault::Memory
+    }
 }

@@ -11,6 +11,6 @@ returns-clause-stored g c = record {
   reachable = subst (λ q. HasReachable (problem_of g.O.SeqObject.after g.O.State.PartialEq.eq g.O.Reply.PartialEq.eq q) c.in-Ok.stored) c.in_ok-table.ensures.table.0 c.in-Ok.ensures.reachable;
 }
 
-pub decide_by_all-verdict-requires-clause-hands : goal.decide_by_all-verdict-requires-clause-hands
-decide_by_all-verdict-requires-clause-hands g c κs within =
+pub verdict_by_hands-verdict-requires-clause-hands : goal.verdict_by_hands-verdict-requires-clause-hands
+verdict_by_hands-verdict-requires-clause-hands g c κs within =
     All-weaker (λ (h : HandFacts g.row.O.Denot g.row.O-State.Denot g.row.O-Op.Denot g.row.O-Reply.Denot). h ≡ new_hand c.in_ok-table.table) (IsHandOf c.in_ok-table.table) (λ h e. (ap (λ x. x.table) e, ap (λ x. x.problem) e)) _ c.in_ok-table.ensures.hands

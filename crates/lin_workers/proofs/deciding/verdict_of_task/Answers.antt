@@ -1,7 +1,7 @@
 use Rattle.std.proofs.Common.{ap, sym}
 use Rattle.lin_search.specs.SameLemmas.{alike_itself}
 use Rattle.lin_workers.proofs.VerdictLemmas.{least_found, more_runs}
-use Rattle.lin_workers.proofs.deciding.verdict_by.Goals as goal
+use Rattle.lin_workers.proofs.deciding.verdict_of_task.Goals as goal
 
 pub returns-in_ok-joined-in-Found-clause-verdict : goal.returns-in_ok-joined-in-Found-clause-verdict
 returns-in_ok-joined-in-Found-clause-verdict g c =

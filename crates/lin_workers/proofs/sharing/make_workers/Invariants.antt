@@ -2,7 +2,7 @@ use Rattle.std.proofs.Common.{◌≡◌, ◌+◌, ◌≤◌, [], vec_capacity, v
 use Rattle.lin_board.specs.Board.{IsSeatOf}
 use Rattle.lin_board.specs.Facts.{BoardFacts}
 use Rattle.lin_table.specs.Hand.{IsHandOf, TableFacts}
-use Rattle.lin_workers.proofs.sharing.employ.Given as goal
+use Rattle.lin_workers.proofs.sharing.make_workers.Given as goal
 
 abbrev pub decreases-loop-seat : goal.decreases-loop-seat
 decreases-loop-seat g l = vec_len l.seats

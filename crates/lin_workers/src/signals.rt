@@ -1,4 +1,4 @@
-//! Where the workers are, as they tell themselves. It is a hint: nothing is proved of it, and nothing that is proved hangs on it.
+//! What workers of a group tell one another. It is a hint: nothing is proved of it, and nothing that is proved hangs on it.
 ghost use Rattle.std.specs.Prelude.{◌≡◌};
 ghost use Rattle.lin_board.specs.Board.{IsSeatOf};
 ghost use Rattle.lin_workers.specs.Heard.{HasHeard};
@@ -18,19 +18,19 @@ const LIFTS_BETWEEN: u32 = 256;
 
 /// For each worker the number of the task that it is at, and the least task whose search did not decide it.
 #[derive(Drop)]
-pub(crate) struct Whereabouts {
+pub(crate) struct Signals {
     tasks: Vec<AtomicU64>,
     undecided: AtomicU64,
 }
 
-impl Whereabouts {
+impl Signals {
     // Of so many workers, none of which has a task yet.
-    pub(crate) fn new(alloc: Global, workers: usize) -> Result<Whereabouts, AllocError> {
+    pub(crate) fn new(alloc: Global, workers: usize) -> Result<Signals, AllocError> {
         let mut tasks = Vec::new(alloc);
         for _ in 0..workers {
             tasks.push(AtomicU64::new(NOWHERE))?;
         }
-        Ok(Whereabouts {
+        Ok(Signals {
             tasks,
             undecided: AtomicU64::new(NOWHERE),
         })
@@ -65,61 +65,56 @@ impl Whereabouts {
     }
 }
 
-/// What a worker does beside searching: how it scouts, and where it tells the others which task it is at.
+/// A worker as a member of a group: its number there, how it scouts, and what the others tell it.
 #[derive(Clone, Copy, Drop)]
-pub(crate) struct Role<'a> {
+pub(crate) struct Member<'a> {
+    pub(crate) number: usize,
     pub(crate) scouting: Scouting,
-    pub(crate) whereabouts: &'a Whereabouts,
-    pub(crate) worker: usize,
+    pub(crate) signals: &'a Signals,
 }
 
 // Tells the others, where there are some, that the worker is at this task.
-pub(crate) fn tell_begun(role: Option<Role<'_>>, task: u64) {
-    if let Some(role) = role {
-        role.whereabouts.tell(role.worker, task);
+pub(crate) fn tell_begun(member: Option<Member<'_>>, task: u64) {
+    if let Some(member) = member {
+        member.signals.tell(member.number, task);
     }
 }
 
 // Tells the others, where there are some, that the worker has no task any more.
-pub(crate) fn tell_ended(role: Option<Role<'_>>) {
-    tell_begun(role, NOWHERE);
+pub(crate) fn tell_ended(member: Option<Member<'_>>) {
+    tell_begun(member, NOWHERE);
 }
 
 // Whether the worker may leave this task: it, or one before it, was not decided.
-pub(crate) fn is_left(role: Option<Role<'_>>, task: u64) -> bool {
-    match role {
-        Some(role) => role.whereabouts.is_left(task),
+pub(crate) fn is_left(member: Option<Member<'_>>, task: u64) -> bool {
+    match member {
+        Some(member) => member.signals.is_left(task),
         None => false,
     }
 }
 
 // Tells the others, where there are some, that the search of this task did not decide it.
-pub(crate) fn tell_undecided(role: Option<Role<'_>>, task: u64) {
-    if let Some(role) = role {
-        role.whereabouts.tell_undecided(task);
+pub(crate) fn tell_undecided(member: Option<Member<'_>>, task: u64) {
+    if let Some(member) = member {
+        member.signals.tell_undecided(task);
     }
 }
 
-/// The stop of a scout from a task: it answers where the board has told of a smaller task that was found, or where no other
-/// worker is at a smaller task any more, so that this one leads. Contracts see the board, the seat and the task.
+/// The stop of a scout from a task: it answers where the board has told of a smaller task that was found, where no other
+/// worker is at a smaller task any more, so that this one leads, and where the task may be left. Contracts see the board, the seat and the task.
 #[derive(Drop)]
 pub(crate) struct UntilLeading<'a> {
     board: &'a Board,
     seat: &'a mut Seat,
     task: u64,
-    whereabouts: &'a Whereabouts,
+    signals: &'a Signals,
     lifts: u32,
     ghost came: { IsSeatOf board.now seat.now },
 }
 
 impl<'a> UntilLeading<'a> {
     // The stop of a scout from this task, which asks the board by this seat. Condition: the seat came with the board.
-    pub(crate) fn new(
-        board: &'a Board,
-        seat: &'a mut Seat,
-        task: u64,
-        whereabouts: &'a Whereabouts,
-    ) -> Self
+    pub(crate) fn new(board: &'a Board, seat: &'a mut Seat, task: u64, signals: &'a Signals) -> Self
         requires { IsSeatOf board.now seat.old }
         ensures board { result.board.now ≡ board.now }
         ensures seat { result.seat.now ≡ seat.old }
@@ -129,7 +124,7 @@ impl<'a> UntilLeading<'a> {
             board,
             seat,
             task,
-            whereabouts,
+            signals,
             lifts: 0,
         }
     }
@@ -142,7 +137,7 @@ impl<'a> UntilLeading<'a> {
     {
         let looks = self.lifts % LIFTS_BETWEEN == 0;
         self.lifts = self.lifts.wrapping_add(1);
-        looks && (self.whereabouts.is_lowest(self.task) || self.whereabouts.is_left(self.task))
+        looks && (self.signals.is_lowest(self.task) || self.signals.is_left(self.task))
     }
 }
 

@@ -2,7 +2,7 @@ use Rattle.std.proofs.Common.{◌≡◌, [], Some, arith}
 use Rattle.std.proofs.lemmas.List.Elements.{All-pop, All-push}
 use Rattle.lin_board.specs.Board.{IsSeatOf}
 use Rattle.lin_table.specs.Hand.{IsHandOf}
-use Rattle.lin_workers.proofs.sharing.employ.Goals as goal
+use Rattle.lin_workers.proofs.sharing.make_workers.Goals as goal
 
 pub loop-seat-preserved : goal.loop-seat-preserved
 loop-seat-preserved g c = record {

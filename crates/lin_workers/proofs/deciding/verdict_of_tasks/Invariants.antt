@@ -1,7 +1,7 @@
 use Rattle.lin_history.specs.Problems.Problem.{problem_of}
 use Rattle.lin_workers.specs.Cut.{HasNoneBefore}
 use Rattle.lin_workers.specs.Outcomes.{AreOutcomes}
-use Rattle.lin_workers.proofs.deciding.decide.Given as goal
+use Rattle.lin_workers.proofs.deciding.verdict_of_tasks.Given as goal
 
 abbrev pub invariant-loop-i : goal.invariant-loop-i
 invariant-loop-i g l = record {

@@ -3,7 +3,7 @@ use Rattle.lin_workers.proofs.RunLemmas.{leads_reachable}
 use Rattle.lin_workers.proofs.LevelLemmas.{item_at, task_at}
 use Rattle.lin_workers.proofs.OutcomeLemmas.{outcome_at, outcomes_left}
 use Rattle.lin_workers.proofs.VerdictLemmas.{none_up_to}
-use Rattle.lin_workers.proofs.deciding.decide.Goals as goal
+use Rattle.lin_workers.proofs.deciding.verdict_of_tasks.Goals as goal
 
 pub outcome_of-requires-clause-reachable : goal.outcome_of-requires-clause-reachable
 outcome_of-requires-clause-reachable g c =
@@ -17,8 +17,8 @@ outcome_of-requires-clause-brought g c =
     let there = item_at c.loop-i.outcomes c.loop-i.i c.index-outcomes-i.result (let e = c.loop-i.invariant.outcomes.places in omega (arith, below, e)) c.index-outcomes-i.is in
     outcome_at _ _ _ _ c.loop-i.invariant.outcomes c.loop-i.i _ c.take-brought.result at (there ∙ ap Some (c.index-outcomes-i.is ∙ sym c.take-brought.ensures.value))
 
-pub verdict_by-requires-clause-next : goal.verdict_by-requires-clause-next
-verdict_by-requires-clause-next g c = record {
+pub verdict_of_task-requires-clause-next : goal.verdict_of_task-requires-clause-next
+verdict_of_task-requires-clause-next g c = record {
   level = c.requires.cut.0;
   tasks = c.args.tasks.now;
   index = c.loop-i.i;
