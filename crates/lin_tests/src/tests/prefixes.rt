@@ -39,7 +39,13 @@ fn prefixes_agree_on(alloc: Global, kind: Kind, seed: u64) -> Result<bool, Alloc
 #[test]
 fn searches_of_prefixes_agree_with_the_full_search(rt: HostRuntime) {
     for seed in 0..50 {
-        for kind in &[Kind::Queue, Kind::Stack, Kind::Register, Kind::Set, Kind::Map] {
+        for kind in &[
+            Kind::Queue,
+            Kind::Stack,
+            Kind::Register,
+            Kind::Set,
+            Kind::Map,
+        ] {
             assert!(rt; matches!(prefixes_agree_on(rt.alloc(), *kind, seed), Ok(true)));
         }
     }
