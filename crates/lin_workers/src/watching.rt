@@ -165,11 +165,12 @@ impl<'a, 'b, S: Stop> Stop for UntilOver<'a, 'b, S> {
     ghost follows = { λ old new. (new.stop.ghost_name ≡ old.stop.ghost_name)
         × S.follows old.stop.now new.stop.now };
 
+    // Once the search is to end, it answers so however often it is asked: the lifts are counted no further.
     fn ask(&mut self) -> Option<u64> {
-        self.lifts = self.lifts.wrapping_add(1);
         if self.lifts % LIFTS_BETWEEN == 0 && self.is_over.load(SeqCst) {
             return Some(0);
         }
+        self.lifts = self.lifts.wrapping_add(1);
         self.stop.ask()
     }
 
