@@ -222,6 +222,14 @@ def with_swapped_results(events, op):
     return events
 
 
+def with_impossible_reply(events, op, tenths):
+    """The operation's result that stands after so many tenths of them, replaced by one that is impossible."""
+    places = [place for place, event in enumerate(events) if event.op == op and event.reply is not None]
+    place = places[min(len(places) * tenths // 10, len(places) - 1)]
+    events[place] = events[place]._replace(reply=NEVER)
+    return events
+
+
 def lines(name, kind, events):
     yield declared(name, kind)
     for event in events:
@@ -277,6 +285,10 @@ def many_keys(model, processes, keys, draw=even):
     return lambda calls: lines("m", model.kind, simulated(model(keys, draw), processes, calls))
 
 
+def many_keys_refuted(processes, keys, tenths):
+    return lambda calls: lines("m", "map", with_impossible_reply(simulated(Map(keys, even), processes, calls), "get", tenths))
+
+
 def own_keys(calls):
     """A put of a key of its own each, in turn."""
     yield declared("m", "map")
@@ -297,6 +309,10 @@ def buffer(model):
 
 def buffer_swapped(model):
     return lambda calls: lines("b", model.kind, with_swapped_results(simulated(model(), 6, calls), model.take))
+
+
+def backlog_swapped(model, most):
+    return lambda calls: lines("b", model.kind, with_swapped_results(simulated(model(most), 6, calls), model.take))
 
 
 def backlog(model, most, processes=6, stops=0):
@@ -447,6 +463,20 @@ FAMILIES = {
     },
     "map_64_10": Family("a map of 10 keys, 64 processes", "calls", MORE_CALLS[-1:], 0, many_keys(Map, 64, 10)),
     "own_keys": Family("a map, a put of a key of its own each, in turn", "calls", MORE_CALLS[-1:], 0, own_keys),
+    "backlog_32_no": Family("a queue filled to 32 items and emptied, two results swapped", "calls", BACKLOG_CALLS, 1, backlog_swapped(FilledQueue, 32)),
+    "stack_backlog_32_no": Family("the same of a stack", "calls", BACKLOG_CALLS, 1, backlog_swapped(FilledStack, 32)),
+    **{
+        f"map_{processes}_{keys}_no_{tenths}": Family(
+            f"a map of {keys:,} keys, {processes} processes, and an impossible get after {tenths} tenths of the gets",
+            "calls",
+            MORE_CALLS[-1:],
+            1,
+            many_keys_refuted(processes, keys, tenths),
+        )
+        for processes in (16, 32)
+        for keys in (100, 1000)
+        for tenths in (5, 10)
+    },
     "map_no": Family("the same, and an impossible get", "calls", CALLS, 1, maps_refuted),
     "crashed": Family("pending writes before 1,000 calls, and an impossible read", "pending", [1, 2, 4, 6], 1, crashed),
     "concurrent": Family("concurrent writes, and an impossible read", "writes", [8, 10, 12, 14, 16, 18], 1, concurrent),

@@ -1,11 +1,11 @@
 -- A completion of a reachable configuration, put behind its run, is a linearization: so none begins with a call that needs one that is left out, or with a pending one that would get a reply which is owed.
-use Rattle.std.proofs.Common.{◌≡◌, ◌≢◌, ℕ, Bool, true, false, Some, List, [], ◌∷◌, ◌++◌, length, ◌⊎◌, inl, inr, refl, sym, ◌∙◌, ap, subst}
+use Rattle.std.proofs.Common.{◌≡◌, ◌≢◌, ℕ, Bool, true, false, Some, List, [], ◌∷◌, ◌++◌, length, ◌⊎◌, inl, inr, refl, sym, ◌∙◌, ap, subst, append_assoc}
 use Rattle.std.specs.Prelude.{Option, None, is_some, IfSome}
 use Rattle.lin_history.specs.Problems.Problem.{Problem}
 use Rattle.lin_history.specs.Problems.Lists.{In, IsDistinct}
-use Rattle.lin_history.specs.Problems.ListLemmas.{in_early, in_late, in_either}
+use Rattle.lin_history.specs.Problems.ListLemmas.{apart, has_none, in_early, in_late, in_either, in_place}
 use Rattle.lin_history.specs.Problems.LegalLists.{next, Legal}
-use Rattle.lin_history.specs.Problems.Precedence.{Before}
+use Rattle.lin_history.specs.Problems.Precedence.{Before, IsCompleted}
 use Rattle.lin_history.specs.Problems.Continuations.{has, no_calls, IsCompletion}
 use Rattle.lin_history.specs.Problems.Linearizations.{IsRun, IsLinearization}
 use Rattle.lin_history.specs.Problems.Configurations.{IsReachable}
@@ -36,6 +36,24 @@ place_split (x ∷ xs) ys (d ∷ early) b late e =
       | inl q ↦ (let r = q.1 in inl (q.0, cc))
       | inr q ↦ (let r = q.1 in inr (q.0, cc, q.2))
     ]
+
+module _ {State Op Reply : Type 0} {p : Problem State Op Reply} where
+  -- what a call precedes does not stand in front of it
+  pub not_before : (early : List ℕ) (i : ℕ) (late : List ℕ) → IsRun p (early ++ i ∷ late) → (j : ℕ) → Before p i j → In j early → ⊥
+  not_before early i late run j before h =
+      let at = in_place j early h in
+      let eq : early ++ i ∷ late ≡ at.0 ++ j ∷ (at.1 ++ i ∷ late) = ap (λ (l : List ℕ). l ++ i ∷ late) at.2 ∙ append_assoc at.0 (j ∷ at.1) (i ∷ late) in
+      elim (run.ordered at.0 j (at.1 ++ i ∷ late) eq i before) [
+        | inl q ↦ (let x = has_none (length p.calls) i in cc)
+        | inr q ↦ apart i early (i ∷ late) run.distinct (subst (λ (l : List ℕ). In i l) (sym at.2) (in_early i at.0 (j ∷ at.1) q)) (inl refl)
+      ]
+
+  -- a completed call stands in a linearization
+  pub stands : (l : List ℕ) (i : ℕ) → IsLinearization p l → IsCompleted p i → (early : List ℕ) × (late : List ℕ) × (l ≡ early ++ i ∷ late)
+  stands l i whole done = elim (whole.complete i done) [
+    | inl q ↦ absurd (let x = has_none (length p.calls) i in cc)
+    | inr q ↦ in_place i l q
+  ]
 
 module _ {State Op Reply : Type 0} (p : Problem State Op Reply) where
   legal_joined : (xs ys : List ℕ) (s t u : State) → Legal p s xs t → Legal p t ys u → Legal p s (xs ++ ys) u

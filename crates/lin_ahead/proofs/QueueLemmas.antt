@@ -19,7 +19,7 @@ use Rattle.lin_history.specs.Problems.Needs.{Needs}
 use Rattle.lin_ahead.specs.Queue.{Item, IsOfQueue, Puts, Took, FoundEmpty, MayTake, OnlyPuts, IsTakenAfter}
 use Rattle.lin_ahead.specs.Owed.{IsOwed}
 use Rattle.lin_ahead.specs.ToldAhead.{PutOnce}
-use Rattle.lin_ahead.proofs.NeedsLemmas.{place_split}
+use Rattle.lin_ahead.proofs.NeedsLemmas.{not_before, place_split, stands}
 
 -- ---- items
 
@@ -192,12 +192,12 @@ module _ {p : Problem ObjState Op Reply} {start : List ℤ} (of_queue : IsOfQueu
   puts (c ∷ cs) = puts_by (slice_get p.calls c) ++ puts cs
 
   -- what came out and then what is left is what went in; and what came out was taken by some call
-  record Fifo (items : List ℤ) (l : List ℕ) (t : ObjState) : Type 0 where
-    took : List ℤ
-    rest : List ℤ
-    ends : t ≡ Queue rest
-    same : items ++ puts l ≡ took ++ rest
-    taker : (v : ℤ) → Item v took → (j : ℕ) × In j l × MayTake p j v
+  pub record Fifo (items : List ℤ) (l : List ℕ) (t : ObjState) : Type 0 where
+    pub took : List ℤ
+    pub rest : List ℤ
+    pub ends : t ≡ Queue rest
+    pub same : items ++ puts l ≡ took ++ rest
+    pub taker : (v : ℤ) → Item v took → (j : ℕ) × In j l × MayTake p j v
 
   pub chain : (items put puts taken takens rest more : List ℤ) → items ++ put ≡ taken ++ more → more ++ puts ≡ takens ++ rest → items ++ (put ++ puts) ≡ (taken ++ takens) ++ rest
   chain items put puts taken takens rest more one later =
@@ -347,15 +347,6 @@ module _ {p : Problem ObjState Op Reply} {start : List ℤ} (of_queue : IsOfQueu
   legal_split (x ∷ xs) ys s u k = let r = legal_split xs ys k.0 u k.2 in (r.0, (k.0, k.1, r.1), r.2)
 
   -- what returned before a call was called does not stand after it, or is it
-  not_before : (early : List ℕ) (i : ℕ) (late : List ℕ) → IsRun p (early ++ i ∷ late) → (j : ℕ) → Before p i j → In j early → ⊥
-  not_before early i late run j before h =
-      let at = in_place j early h in
-      let eq : early ++ i ∷ late ≡ at.0 ++ j ∷ (at.1 ++ i ∷ late) = ap (λ (l : List ℕ). l ++ i ∷ late) at.2 ∙ append_assoc at.0 (j ∷ at.1) (i ∷ late) in
-      elim (run.ordered at.0 j (at.1 ++ i ∷ late) eq i before) [
-        | inl q ↦ (let x = has_none (length p.calls) i in cc)
-        | inr q ↦ apart i early (i ∷ late) run.distinct (subst (λ (l : List ℕ). In i l) (sym at.2) (in_early i at.0 (j ∷ at.1) q)) (inl refl)
-      ]
-
   not_itself : (early : List ℕ) (i : ℕ) (late : List ℕ) → IsRun p (early ++ i ∷ late) → Before p i i → ⊥
   not_itself early i late run before = elim (run.ordered early i late refl i before) [
     | inl q ↦ (let x = has_none (length p.calls) i in cc)
@@ -373,13 +364,13 @@ module _ {p : Problem ObjState Op Reply} {start : List ℤ} (of_queue : IsOfQueu
       subst (λ (q : Reply). Is (queue_step items Dequeue) m q) same (subst (λ (o : Op). Is (queue_step items o) m k.0) op k.1)
 
   -- the calls before one of a linearization, as a run of the queue, and its step after them
-  record Moment (early : List ℕ) (i : ℕ) (late : List ℕ) : Type 0 where
-    mid : ObjState
-    end : ObjState
-    so_far : Fifo start early mid
-    goes_on : Legal p (Queue so_far.rest) (i ∷ late) end
+  pub record Moment (early : List ℕ) (i : ℕ) (late : List ℕ) : Type 0 where
+    pub mid : ObjState
+    pub end : ObjState
+    pub so_far : Fifo start early mid
+    pub goes_on : Legal p (Queue so_far.rest) (i ∷ late) end
 
-  moment : (early : List ℕ) (i : ℕ) (late : List ℕ) → IsRun p (early ++ i ∷ late) → Moment early i late
+  pub moment : (early : List ℕ) (i : ℕ) (late : List ℕ) → IsRun p (early ++ i ∷ late) → Moment early i late
   moment early i late run =
       let legal : Legal p (Queue start) (early ++ i ∷ late) run.legal.0 = subst (λ (s : ObjState). Legal p s (early ++ i ∷ late) run.legal.0) of_queue.start_is run.legal.1 in
       let k = legal_split early (i ∷ late) (Queue start) run.legal.0 legal in
@@ -424,15 +415,6 @@ module _ {p : Problem ObjState Op Reply} {start : List ℤ} (of_queue : IsOfQueu
           let shape : early ++ i ∷ late ≡ (early ++ i ∷ at.0) ++ j ∷ at.1 = ap (λ (l : List ℕ). early ++ i ∷ l) at.2 ∙ sym (append_assoc early (i ∷ at.0) (j ∷ at.1)) in
           let distinct : IsDistinct (early ++ i ∷ at.0) = distinct_early (early ++ i ∷ at.0) (j ∷ at.1) (subst IsDistinct shape run.distinct) in
           once (early ++ i ∷ at.0) b v k.so_far.took (k.so_far.rest ++ puts (i ∷ at.0)) distinct only fresh all h left
-
-  abbrev WithIn : ℕ → List ℕ → Type 0
-  WithIn i l = (early : List ℕ) × (late : List ℕ) × (l ≡ early ++ i ∷ late)
-
-  stands : (l : List ℕ) (i : ℕ) → IsLinearization p l → IsCompleted p i → WithIn i l
-  stands l i whole done = elim (whole.complete i done) [
-    | inl q ↦ absurd (let x = has_none (length p.calls) i in cc)
-    | inr q ↦ in_place i l q
-  ]
 
   -- what was taken before another item could be went in before it
   pub queue_needs_item : (a b i : ℕ) (v w : ℤ) → a ≢ b → OnlyPuts p a w → (Item w start → ⊥) → Took p i w → Puts p b v → IsTakenAfter p start i b v → Needs p a b
@@ -532,7 +514,7 @@ module _ {p : Problem ObjState Op Reply} {start : List ℤ} (of_queue : IsOfQueu
         | inr later ↦ taken_after later.0 later.1 later.2
       ]
     where
-      at : WithIn j l
+      at : (early : List ℕ) × (late : List ℕ) × (l ≡ early ++ j ∷ late)
       at = stands l j whole (took_completed j took.0 took.3.0 (Int v) took.1 took.3.1)
 
       x : ProblemCall Op Reply
@@ -634,7 +616,7 @@ module _ {p : Problem ObjState Op Reply} {start : List ℤ} (of_queue : IsOfQueu
         | inr q ↦ taken_after q.0 q.1 q.2
       ]
     where
-      at : WithIn i l
+      at : (early : List ℕ) × (late : List ℕ) × (l ≡ early ++ i ∷ late)
       at = stands l i whole (took_completed i took.0 took.3.0 (Int w) took.1 took.3.1)
 
       run : IsRun p (at.0 ++ i ∷ at.1)
@@ -684,7 +666,7 @@ module _ {p : Problem ObjState Op Reply} {start : List ℤ} (of_queue : IsOfQueu
         | inr q ↦ found_after q.0 q.1 q.2
       ]
     where
-      at : WithIn a l
+      at : (early : List ℕ) × (late : List ℕ) × (l ≡ early ++ a ∷ late)
       at = stands l a whole (took_completed a found.0 found.3.0 Empty found.1 found.3.1)
 
       run : IsRun p (at.0 ++ a ∷ at.1)

@@ -22,7 +22,7 @@ use Rattle.lin_ahead.specs.Numbers.{ReturnsAt, CalledFrom}
 use Rattle.lin_ahead.specs.Register.{IsOfRegister, value_written, value_found, MayWrite, Finds, IsSingle, OfCluster, IsClusterBy, IsClusterFrom, AreClusterNumbers}
 use Rattle.lin_ahead.specs.Behind.{AreOtherNeeds}
 use Rattle.lin_ahead.specs.Held.{Changes, IsHeldUntil}
-use Rattle.lin_ahead.proofs.NeedsLemmas.{place_split}
+use Rattle.lin_ahead.proofs.NeedsLemmas.{not_before, place_split}
 
 -- ---- one step of a register
 
@@ -222,15 +222,6 @@ module _ {p : Problem ObjState Op Reply} {start : ℤ} (of : IsOfRegister p star
       held u single early c late (subst (λ (m : List ℕ). IsLinearization p m) eq whole) (subst (λ (t : ObjState). Legal p p.start early t) state before) g found not_there other (subst (λ (t : ObjState). Changes p t c) state changes)
 
   -- ---- clusters
-
-  not_before : (early : List ℕ) (i : ℕ) (late : List ℕ) → IsRun p (early ++ i ∷ late) → (j : ℕ) → Before p i j → In j early → ⊥
-  not_before early i late run j before h =
-      let at = in_place j early h in
-      let eq : early ++ i ∷ late ≡ at.0 ++ j ∷ (at.1 ++ i ∷ late) = ap (λ (l : List ℕ). l ++ i ∷ late) at.2 ∙ append_assoc at.0 (j ∷ at.1) (i ∷ late) in
-      elim (run.ordered at.0 j (at.1 ++ i ∷ late) eq i before) [
-        | inl q ↦ (let x = has_none (length p.calls) i in cc)
-        | inr q ↦ apart i early (i ∷ late) run.distinct (subst (λ (l : List ℕ). In i l) (sym at.2) (in_early i at.0 (j ∷ at.1) q)) (inl refl)
-      ]
 
   not_itself : (early : List ℕ) (i : ℕ) (late : List ℕ) → IsRun p (early ++ i ∷ late) → (j : ℕ) → Before p i j → j ≡ i → ⊥
   not_itself early i late run j before e = elim (run.ordered early i late refl i (subst (λ (n : ℕ). Before p i n) e before)) [

@@ -1,6 +1,7 @@
 pub mod Queue
 pub mod Numbers
 pub mod AnyProblem
+pub mod Impossible
 pub mod ItemCalls
 pub mod CallNumbers
 pub mod FirstProgress

@@ -8,7 +8,8 @@
 //!   `needed_pairs`: two calls that need each other; `call_values`: the values of each call by numbers.
 //! - `key_value`: the calls of a map on one key, as calls of a register that holds the key's value.
 //! - `stack_rows`: the rows of a stack, whose calls are read as those on a queue.
-//! - `look_ahead`: what is known ahead of a whole problem.
+//! - `look_ahead`: what is known ahead of a whole problem; `impossible_items`: items that a call returned with before any call
+//!   put them there.
 //! - `first_search`: a search that passes over calls that need one left out, that would take a reply which is owed to
 //!   another, that are too late, that would change a state which is held, or that leave too few takers; `needed_calls`: the calls by how early they are needed;
 //!   `owed_replies`: the replies that are owed; `calls_in_turn`: calls in an order, and the first that is not lifted;
@@ -26,6 +27,7 @@ mod finders;
 mod first_answer;
 mod first_search;
 mod held_state;
+mod impossible_items;
 mod item_calls;
 mod key_value;
 mod late_pushes;
@@ -44,5 +46,6 @@ mod value_rows;
 
 pub use first_answer::FirstAnswer;
 pub use first_search::search_first;
+pub use impossible_items::some_came_too_early;
 pub use late_pushes::LateRows;
 pub use look_ahead::{KnownAhead, known_ahead};

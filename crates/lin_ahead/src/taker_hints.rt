@@ -36,6 +36,8 @@ pub(crate) struct TakerHints {
     is_taker: Vec<bool>,
     // Those of the lifted calls that put lost items in, in the order in which they were lifted.
     lifted: Vec<usize>,
+    // How many calls are lifted.
+    depth: usize,
 }
 
 /// A walk along the takers, in the order in which they were called.
@@ -289,6 +291,7 @@ impl TakerHints {
             is_lost: Vec::new(alloc),
             is_taker: Vec::new(alloc),
             lifted: Vec::new(alloc),
+            depth: 0,
         })
     }
 
@@ -313,6 +316,7 @@ impl TakerHints {
             is_lost,
             is_taker: taker_flags(alloc, problem.len(), ahead.takers.as_slice())?,
             lifted: Vec::new(alloc),
+            depth: 0,
         })
     }
 
@@ -331,9 +335,10 @@ impl TakerHints {
         matches!(self.is_lost.get(call), Some(true))
     }
 
-    // Whether the call may leave too few takers.
+    // Whether the call may leave too few takers. Before any call is lifted each is asked: where there are too few from the start
+    // the search ends at once, and does not find that out again behind every order of the calls in front.
     pub(crate) fn concerns(&self, call: usize) -> bool {
-        self.puts_lost(call) || matches!(self.is_taker.get(call), Some(true))
+        self.depth == 0 || self.puts_lost(call) || matches!(self.is_taker.get(call), Some(true))
     }
 
     // The call that is so many behind the first that puts a lost item in and is not lifted.
@@ -384,6 +389,7 @@ impl TakerHints {
         call: usize,
     ) -> Result<(), AllocError> {
         self.lost.lifted(config);
+        self.depth = self.depth.saturating_add(1);
         if self.puts_lost(call) {
             self.lifted.push(call)?;
         }
@@ -393,6 +399,7 @@ impl TakerHints {
     // Goes back to before the call, which was taken out again.
     pub(crate) fn unlifted(&mut self, call: usize) {
         self.lost.unlifted(call);
+        self.depth = self.depth.saturating_sub(1);
         if self.lifted.last() == Some(&call) {
             self.lifted.pop();
         }

@@ -85,7 +85,7 @@ pub(crate) fn item_put(problem: &Problem<AnyObject>, call: usize) -> Option<i64>
 }
 
 // The item that the call returned with.
-fn item_taken(problem: &Problem<AnyObject>, call: usize) -> Option<i64>
+pub(crate) fn item_taken(problem: &Problem<AnyObject>, call: usize) -> Option<i64>
     ensures { IfSome result (Took (any_problem problem.now) call) }
 {
     if call >= problem.len() {
@@ -113,7 +113,7 @@ fn found_empty(problem: &Problem<AnyObject>, call: usize) -> bool
 }
 
 // Whether the one call returned before the other was called.
-fn is_before(problem: &Problem<AnyObject>, call: usize, other: usize) -> bool
+pub(crate) fn is_before(problem: &Problem<AnyObject>, call: usize, other: usize) -> bool
     ensures { IsTrue result → Before (any_problem problem.now) call other }
 {
     if call >= problem.len() || other >= problem.len() {

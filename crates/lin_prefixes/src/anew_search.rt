@@ -13,9 +13,10 @@ use crate::crossed_calls::some_cross;
 use crate::part_answer::PartAnswer;
 use crate::part_search::PartSearch;
 use crate::parts_anew::{is_loose_prefix, is_part, made_anew};
-use lin_ahead::{FirstAnswer, KnownAhead, known_ahead, search_first};
+use lin_ahead::{FirstAnswer, KnownAhead, known_ahead, search_first, some_came_too_early};
 use lin_history::{Problem, ProblemEvent};
 use lin_object::{AnyObject, lawful};
+use lin_parts::{KeyAnswer, search_by_key};
 use lin_search::{Config, NoStop, Outcome, OwnMemo, search};
 use std::alloc::{AllocError, Global};
 
@@ -74,6 +75,21 @@ fn full_answer(
     Ok(told_by(outcome))
 }
 
+// What a search by key tells, of a map or a set; of another object what a search tells that keeps what it refuted.
+fn answer_by_key(
+    alloc: Global,
+    part: &Problem<AnyObject>,
+    lifts: u64,
+) -> Result<PartAnswer, AllocError>
+    ensures { IfOk result (IsAnswerTo (any_problem part.now)) }
+{
+    match search_by_key(alloc, part, Some(lifts))? {
+        Some(KeyAnswer::Found(order)) => Ok(PartAnswer::Found(order)),
+        Some(KeyAnswer::Refuted) => Ok(PartAnswer::Refuted),
+        None => full_answer(alloc, part, lifts),
+    }
+}
+
 // What a search of so many lifts tells: a first search where something is known ahead.
 fn answer_within(
     alloc: Global,
@@ -86,7 +102,7 @@ fn answer_within(
 {
     match known {
         Some(ahead) => first_answer(alloc, part, ahead, lifts),
-        None => full_answer(alloc, part, lifts),
+        None => answer_by_key(alloc, part, lifts),
     }
 }
 
@@ -100,25 +116,27 @@ fn shows_none(
     ensures { IfOk result (λ shown. IsTrue shown
         → (l : List ℕ) → IsLinearization (any_problem part.now) l → ⊥) }
 {
+    if some_came_too_early(alloc, part)? {
+        return Ok(true);
+    }
     match known {
         Some(ahead) => some_cross(alloc, part, &ahead.needs),
         None => Ok(false),
     }
 }
 
-/// Searches of parts of a problem of the seven kinds, each made anew: first searches where something is known ahead, and
-/// searches that keep what they refuted for other parts. All of them together make no more lifts than were given at the
-/// start; from then on they tell nothing.
+/// Searches of parts of a problem of the seven kinds, each made anew: first searches where something is known ahead, searches by
+/// key of maps and sets, and searches that keep what they refuted for other parts. Each makes no more lifts than are left of
+/// those that were given at the start, where a search by key counts the lifts for each key alone.
 #[derive(Drop)]
-pub struct AnewSearch {
+pub(crate) struct AnewSearch {
     events: Vec<ProblemEvent>,
     lifts: u64,
 }
 
 impl AnewSearch {
-    /// Searches of parts of this problem, with so many lifts for all of them. Of another problem they tell nothing.
-    /// `AllocError` where memory was refused.
-    pub fn new(
+    // Searches of parts of this problem, with so many lifts for all of them. Of another problem they tell nothing.
+    pub(crate) fn new(
         alloc: Global,
         problem: &Problem<AnyObject>,
         lifts: u64,

@@ -176,7 +176,7 @@ fn calls_with_runs<O: SeqObject, S: PartSearch<O>>(
 /// The first, in lexicographic order, of the longest runs of the problem, by searches of parts of it. `None` where a search
 /// that was needed told nothing; where so many calls overlap that it is not tried; or where the order of a part with its
 /// pending calls behind it is no run, as where one of these has no step. `AllocError` where memory was refused.
-pub fn longest_by_prefixes<O: SeqObject, S: PartSearch<O>>(
+pub(crate) fn longest_by_prefixes<O: SeqObject, S: PartSearch<O>>(
     alloc: Global,
     problem: &Problem<O>,
     search: &mut S,

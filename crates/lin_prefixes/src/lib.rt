@@ -25,9 +25,5 @@ mod parts_anew;
 mod whole_answer;
 mod whole_search;
 
-pub use anew_search::AnewSearch;
-pub use by_prefixes::longest_by_prefixes;
-pub use part_answer::PartAnswer;
-pub use part_search::PartSearch;
 pub use whole_answer::WholeAnswer;
 pub use whole_search::search_by_prefixes;

@@ -16,7 +16,7 @@ use Rattle.lin_search.specs.Refutation.{IsRefutedWith}
 use Rattle.lin_search.specs.FirstCallLemmas.{continuation_split, continuation_join, none_continues, complete_none, tail_continues, tail_completes}
 use Rattle.lin_workers.specs.Scouting.{ComesBefore, WasTried, IsThrough, BeginsIn, IsSearchedBy, IsNextTurn, IsWithTurn, IsTurnAt, Turn, IsTrail, IsTrailTo, IsScouted, IsTurnFrom, turned}
 use Rattle.lin_search.specs.Path.{Frame}
-use Rattle.lin_workers.specs.declared.scouts.Position.{Position}
+use Rattle.lin_workers.specs.declared.workers.scouts.Position.{Position}
 use Rattle.lin_search.proofs.ProgressLemmas.{room}
 use Rattle.lin_search.proofs.PathLemmas.{next_minimal, calls_more}
 

@@ -9,7 +9,7 @@ use Rattle.lin_search.specs.Count.{Among, AllApart}
 use Rattle.lin_search.specs.CountLemmas.{no_longer}
 use Rattle.lin_search.specs.AlikeLemmas.{AreAlike, turned}
 use Rattle.lin_workers.specs.Cut.{LeadsTo, IsAtLevel, Task, IsTask, AreTasks, IsBeforeEach, AreInOrder, configurations_of, AreLevel, HasNoComplete, IsCut, HasWidth, IsLastLevel, IsMade, IsWidestMade}
-use Rattle.lin_workers.specs.declared.cutting.TheConstants.{LAST_LEVEL}
+use Rattle.lin_workers.specs.declared.tasks.cutting.TheConstants.{LAST_LEVEL}
 use Rattle.lin_workers.specs.Levels.{AreLevels}
 use Rattle.lin_workers.proofs.RunLemmas.{leads_root, leads_equal}
 use Rattle.lin_workers.proofs.PathLemmas.{up_to_both}

@@ -1,7 +1,7 @@
 -- The levels that were made, one after another.
 use Rattle.std.specs.Prelude.{◌≡◌, ℕ, ◌<◌, ◌≤◌, List, [], ◌⊎◌, length}
 use Rattle.lin_history.specs.Problems.Problem.{Problem}
-use Rattle.lin_workers.specs.declared.cutting.TheConstants.{LAST_LEVEL}
+use Rattle.lin_workers.specs.declared.tasks.cutting.TheConstants.{LAST_LEVEL}
 use Rattle.lin_workers.specs.Cut.{Task, AreLevel, HasNoComplete, HasWidth, IsMade}
 
 -- Levels 0 to n were made: the last of them, and the widest of those below it, the lowest of these.

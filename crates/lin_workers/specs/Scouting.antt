@@ -11,7 +11,7 @@ use Rattle.lin_search.specs.CallSet.{lifted_set}
 use Rattle.lin_search.specs.NextCall.{IsNext}
 use Rattle.lin_search.specs.Entries.{IsMinimal}
 use Rattle.lin_search.specs.Path.{Frame}
-use Rattle.lin_workers.specs.declared.scouts.Position.{Position}
+use Rattle.lin_workers.specs.declared.workers.scouts.Position.{Position}
 
 -- Call d is tried before call c: upwards the smaller one, downwards the greater.
 abbrev pub ComesBefore : Bool → (c d : ℕ) → Type 0

@@ -5,12 +5,12 @@ ghost use Rattle.lin_table.specs.Hand.{IsHandOf};
 ghost use Rattle.lin_workers.specs.Verdict.{IsNumberStored, IsObjectVerdict};
 ghost use Rattle.lin_workers.specs.declared.options.TheConstants.{MAX_WORKERS};
 
-use crate::cutting::cut;
-use crate::deciding::verdict_of_tasks;
-use crate::gate::Gate;
+use crate::tasks::cutting::cut;
+use crate::searches::deciding::verdict_of_tasks;
+use crate::workers::gate::Gate;
 use crate::options::Options;
-use crate::sharing::share;
-use crate::stalling::outcomes_unless_stalled;
+use crate::workers::sharing::share;
+use crate::searches::stalling::{Patience, outcomes_unless_stalled};
 use crate::verdict::{CheckFault, ObjectVerdict};
 use lin_history::Problem;
 use lin_object::{SeqObject, SharedObject};
@@ -25,13 +25,11 @@ const TASKS_EACH: usize = 4;
 /// Checks one object: whether its calls have a linearization, and the least one, or the longest run where there is none; and
 /// how many configurations were stored.
 ///
-/// The calling thread begins alone, over a memo of its own. Where there is one worker, or the search comes further all the time,
-/// it goes on to the end. Where the last 500,000 lifts and the last third of all have come no further, the search is cut into
-/// tasks, which as many workers share as the options say, but not more than there are tasks; what the calling thread refuted
-/// is lent to all of them. A gate that wants workers has them at once.
-/// The tasks are then taken in their order, and the calling thread searches each that has no outcome. The verdict is the same
-/// for every number of workers and shards and on every schedule; with a limit, which bounds the search of each task, it may be
-/// `Undecided`, and that only where there are more runs than the limit.
+/// The calling thread begins alone (`check_alone`), over a memo of its own. Where there is one worker it goes on to the end. Where
+/// there are more and its search stalls, they share the search (`check_over_table`), over what the calling thread refuted. A gate
+/// that wants workers has them at once.
+/// The verdict is the same for every number of workers and shards and on every schedule; with a limit, which bounds the search
+/// of each task, it may be `Undecided`, and that only where there are more runs than the limit.
 ///
 /// The number stored is always told. It is below 2^54, and there are as many reachable configurations or more.
 /// `CheckFault::Memory` where the calling thread was refused memory: for its search itself, or for 100,000 configurations more
@@ -50,47 +48,71 @@ pub fn check_object<O: SharedObject, R: AllocGlobal + Threads + Sync, G: Gate>(
         (problem_of O.after O.State.eq O.Reply.eq problem.now))) }
 {
     let mut memo = OwnMemo::new(rt.alloc(), problem);
-    if let Some((verdict, stored)) = check_alone(rt.alloc(), problem, &mut memo, options, gate)? {
-        return Ok((verdict, Some(stored)));
+    if !gate.wants_workers() {
+        let patience = patience_of(options);
+        let alone = check_alone(rt.alloc(), problem, &mut memo, patience, options.limit())?;
+        if let Some((verdict, stored)) = alone {
+            return Ok((verdict, Some(stored)));
+        }
     }
     let (verdict, stored) = check_over_table(rt, &memo, options, gate)?;
     Ok((verdict, Some(stored)))
 }
 
-// The verdict by a search of the calling thread over the memo, which names the problem, where it is decided so; and how many
-// configurations the memo has then. `None` also where the gate wants workers at once.
-fn check_alone<O: SeqObject, G: Gate>(
+// How long the calling thread goes on before workers share its search: to the end where there is one.
+fn patience_of(options: &Options) -> Patience {
+    if options.workers() > 1 {
+        Patience::UntilStalled
+    } else {
+        Patience::ToTheEnd
+    }
+}
+
+/// The verdict by a search of the calling thread from the root, over a memo that may know refuted configurations, where it ends
+/// within the limit and the patience; and how many configurations the memo has then. The memo keeps what it has, and what this
+/// search refuted, also where there is no verdict.
+///
+/// Condition: the memo names the problem. `AllocError` where memory was refused, as in `check_object`.
+pub fn check_alone<O: SeqObject>(
     alloc: Global,
     problem: &Problem<O>,
     memo: &mut OwnMemo<'_, O>,
-    options: &Options,
-    gate: &G,
+    patience: Patience,
+    limit: Option<u64>,
 ) -> Result<Option<(ObjectVerdict, u64)>, AllocError>
     requires { memo.old.problem ≡ problem.now }
     ensures verdict { IfOk result (λ checked. IfSome checked (λ r. IsObjectVerdict
-        (problem_of O.after O.State.eq O.Reply.eq problem.now) options.now.limit r.0)) }
+        (problem_of O.after O.State.eq O.Reply.eq problem.now) limit r.0)) }
     ensures stored { IfOk result (λ checked. IfSome checked (λ r. IsNumberStored
         (problem_of O.after O.State.eq O.Reply.eq problem.now) r.1)) }
     ensures memo { memo.new.problem ≡ memo.old.problem }
 {
-    if gate.wants_workers() {
-        return Ok(None);
-    }
-    let decided = verdict_alone(alloc, problem, memo, options.workers(), options.limit())?;
-    let stored = memo.count();
-    match decided {
-        Some(verdict) if stored < STORED_BOUND => Ok(Some((verdict, stored))),
+    let decided = verdict_alone(alloc, problem, memo, patience, limit)?;
+    match (decided, number_stored(memo)) {
+        (Some(verdict), Some(stored)) => Ok(Some((verdict, stored))),
         _ => Ok(None),
     }
 }
 
-// The verdict by a search from the root over the memo, where it ends within the limit, and with more than one worker before it
-// stalls.
+/// How many configurations the memo has, as a number of those that a check stores: it is told where it is below 2^54.
+pub fn number_stored<O: SeqObject>(memo: &OwnMemo<'_, O>) -> Option<u64>
+    ensures stored { IfSome result (IsNumberStored
+        (problem_of O.after O.State.eq O.Reply.eq memo.now.problem)) }
+{
+    let stored = memo.count();
+    if stored < STORED_BOUND {
+        Some(stored)
+    } else {
+        None
+    }
+}
+
+// The verdict by a search from the root over the memo, where it ends within the limit and the patience.
 fn verdict_alone<O: SeqObject, M: Memo<O>>(
     alloc: Global,
     problem: &Problem<O>,
     memo: &mut M,
-    workers: u64,
+    patience: Patience,
     limit: Option<u64>,
 ) -> Result<Option<ObjectVerdict>, AllocError>
     ensures verdict { IfOk result (λ decided. IfSome decided (IsObjectVerdict
@@ -99,7 +121,7 @@ fn verdict_alone<O: SeqObject, M: Memo<O>>(
 {
     let whole = cut(alloc, problem, 1)?;
     let tasks = whole.as_slice();
-    let brought = outcomes_unless_stalled(alloc, problem, tasks, memo, workers, limit)?;
+    let brought = outcomes_unless_stalled(alloc, problem, tasks, memo, patience, limit)?;
     let Some(mut outcomes) = brought else {
         return Ok(None);
     };
@@ -120,8 +142,13 @@ fn unless_undecided(verdict: ObjectVerdict) -> Option<ObjectVerdict>
     }
 }
 
-// The verdict, and how many configurations were stored, over a table whose hands all know what the memo has.
-fn check_over_table<O: SharedObject, R: AllocGlobal + Threads + Sync, G: Gate>(
+/// The verdict, and how many configurations were stored, by workers that share a table. What the memo has is lent to all of
+/// them.
+///
+/// The search is cut into tasks, which as many workers share as the options say, but not more than there are tasks. They are
+/// then taken in their order, and the calling thread searches each that has no outcome. `AllocError` where the calling thread
+/// was refused memory, as in `check_object`. It may wait, for its workers.
+pub fn check_over_table<O: SharedObject, R: AllocGlobal + Threads + Sync, G: Gate>(
     rt: &R,
     memo: &OwnMemo<'_, O>,
     options: &Options,

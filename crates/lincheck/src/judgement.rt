@@ -11,68 +11,16 @@ ghost use Rattle.lin_workers.specs.Verdict.{IsNumberStored, IsObjectVerdict};
 ghost use Rattle.lincheck.specs.Stored.{IsStoredTold, judged_of};
 ghost use Rattle.lincheck.specs.Verdict.{AreLeastOf, IsVerdict};
 
+use crate::object_search::verdict_by_searches;
+use crate::order_ahead::order_ahead;
 use crate::verdict::{Checked, Verdict};
-use lin_ahead::{FirstAnswer, known_ahead, search_first};
 use lin_history::{History, Order, Problem, join, place};
 use lin_object::AnyObject;
-use lin_parts::{KeyAnswer, search_by_key};
-use lin_workers::{CheckFault, Gate, ObjectVerdict, Options, check_object};
+use lin_workers::{CheckFault, Gate, ObjectVerdict, Options};
 use std::alloc::{AllocError, Global};
 use std::ops::ControlFlow;
 use std::thread;
 use std::thread::Threads;
-
-// The most lifts of a first search for each call of the object. Where what the calls need is enough to decide it, a queue
-// takes little more than one lift for each call; where it is not, a search that goes before another is to cost little.
-const LIFTS_AHEAD: u64 = 3;
-
-// How many lifts a first search of so many calls may make: no more than the limit, where there is one.
-fn lifts_ahead(calls: usize, limit: Option<u64>) -> u64
-    ensures { IfSome limit (λ most. result ≤ most) }
-{
-    let lifts = LIFTS_AHEAD.saturating_mul(calls as u64);
-    match limit {
-        Some(most) => most.min(lifts),
-        None => lifts,
-    }
-}
-
-// The least linearization of the problem, where a first search finds it. What else such a search answers is of no use here:
-// the search that follows tells more.
-fn first_order(
-    alloc: Global,
-    problem: &Problem<AnyObject>,
-    limit: Option<u64>,
-) -> Result<Option<Order>, AllocError>
-    ensures { IfOk result (λ found. IfSome found
-        (IsLeast (IsLinearization (any_problem problem.now)))) }
-{
-    let Some(ahead) = known_ahead(alloc, problem)? else {
-        return Ok(None);
-    };
-    let lifts = lifts_ahead(problem.len(), limit);
-    match search_first(alloc, problem, &ahead, lifts)? {
-        FirstAnswer::Found(order) => Ok(Some(order)),
-        FirstAnswer::Refuted | FirstAnswer::Exhausted => Ok(None),
-    }
-}
-
-// The least linearization of the problem, where a search by key or a first search finds it. That a part has none is of no use
-// here: the search that follows finds the longest run too.
-fn order_ahead(
-    alloc: Global,
-    problem: &Problem<AnyObject>,
-    limit: Option<u64>,
-) -> Result<Option<Order>, AllocError>
-    ensures { IfOk result (λ found. IfSome found
-        (IsLeast (IsLinearization (any_problem problem.now)))) }
-{
-    match search_by_key(alloc, problem, limit)? {
-        Some(KeyAnswer::Found(order)) => Ok(Some(order)),
-        Some(KeyAnswer::Refuted) => Ok(None),
-        None => first_order(alloc, problem, limit),
-    }
-}
 
 // The verdict on the object of this index, where the part of the history on it is known; and how many configurations were
 // stored: none by a search by key or a first search, which go before unless workers are wanted at once.
@@ -97,10 +45,8 @@ fn judge_object<R: AllocGlobal + Threads + Sync, G: Gate>(
             return Ok((ObjectVerdict::Yes(order), Some(0)));
         }
     }
-    match check_object(rt, problem, options, gate) {
-        Ok(judged) => Ok(judged),
-        Err(CheckFault::Memory) => Err(AllocError),
-    }
+    let (verdict, stored) = verdict_by_searches(rt, problem, options, gate)?;
+    Ok((verdict, Some(stored)))
 }
 
 // What the verdict on the object of this index is to the check: the object's least order, with which the check goes on, or
@@ -183,12 +129,13 @@ fn options_here<R: Threads, G: Gate>(rt: &R, options: &Options, gate: &G) -> Opt
     }
 }
 
-/// Checks a history. Its objects are searched in the order of declaration, each as `check_object` does with these options;
-/// the first that has no linearization, or that is not decided within the limit, ends the check. Unless the gate
-/// wants workers, a map or a set is searched by key before that (`search_by_key`), and of an object of which something is known
-/// ahead, a queue or a stack that starts empty or a register, a first search is made (`search_first`); where that finds the order,
-/// nothing is stored for the object. No more workers are started than the machine has cores for the program, however many the
-/// options say, unless the gate wants workers.
+/// Checks a history. Its objects are searched in the order of declaration; the first that has no linearization, or that is not
+/// decided within the limit, ends the check. Unless the gate wants workers, a map or a set is searched by key first
+/// (`search_by_key`), and of an object of which something is known ahead a first search is made (`search_first`); where that
+/// finds the order, nothing is stored for the object. Then the calling thread searches by itself. Where its search stalls, it
+/// is tried whether searches of prefixes tell the answer (`search_by_prefixes`); where they do not, workers share the search, or
+/// the calling thread goes on where there is to be one worker. No more workers are started than the machine has cores for the
+/// program, however many the options say, unless the gate wants workers.
 ///
 /// The number stored is the sum over the objects up to where the check ended; of each object it is below 2^54, and the object
 /// has as many reachable configurations or more. It is told of every history with no more objects than `MAX_OBJECTS`, and no
@@ -208,8 +155,5 @@ pub fn check<R: AllocGlobal + Threads + Sync, G: Gate>(
         (judged_of history.now checked.verdict) checked.stored) }
 {
     let options = options_here(rt, options, gate);
-    match judge(rt, history, &options, gate) {
-        Ok(checked) => Ok(checked),
-        Err(AllocError) => Err(CheckFault::Memory),
-    }
+    Ok(judge(rt, history, &options, gate)?)
 }

@@ -6,6 +6,8 @@ mod fault;
 mod help;
 mod judgement;
 mod lines;
+mod object_search;
+mod order_ahead;
 mod pipeline;
 mod request;
 mod status;

@@ -1,8 +1,0 @@
-use Rattle.std.proofs.Common.{rules}
-use Rattle.lin_workers.proofs.scouts.with_turn.Goals as goal
-
-pub returns-then-longest-more-2 : goal.returns-then-longest-more-2
-returns-then-longest-more-2 g c = search rules depth 3
-
-pub returns-else-longest-more-2 : goal.returns-else-longest-more-2
-returns-else-longest-more-2 g c = search rules depth 3

@@ -1,0 +1,121 @@
+//! The search of the calling thread by itself, which ends where it comes no further.
+ghost use Rattle.std.specs.Prelude.{◌≡◌, ℕ, IfOk, IfSome};
+ghost use Rattle.lin_history.specs.Problems.Configurations.{IsReachable};
+ghost use Rattle.lin_history.specs.Problems.Problem.{problem_of};
+ghost use Rattle.lin_search.specs.Answer.{IsAnswer};
+ghost use Rattle.lin_workers.specs.Cut.{IsCut};
+ghost use Rattle.lin_workers.specs.Outcomes.{AreOutcomes};
+
+use crate::workers::gathering::{no_outcomes, place_value, was_stopped};
+use crate::searches::starving::search_unless_starved;
+use crate::tasks::task::Task;
+use crate::searches::watching::{UntilOver, Watch, WatchedMemo};
+use lin_history::Problem;
+use lin_object::SeqObject;
+use lin_search::{CallSet, Memo, NoStop, Outcome};
+use std::alloc::{AllocError, Global};
+use std::sync::atomic::AtomicBool;
+
+// A search stalls at the earliest when so many lifts in a row have come no further.
+const LIFTS_IN_VAIN: u64 = 500_000;
+
+/// How long the calling thread goes on by itself.
+#[derive(Clone, Copy, Debug)]
+pub enum Patience {
+    /// Until its search stalls: the last 500,000 lifts and the last third of all have come no further.
+    UntilStalled,
+    /// To the end of its search.
+    ToTheEnd,
+}
+
+// The outcomes of the tasks of a cut before they are taken in their order: of a thread that goes on to the end none; else that
+// of the first, of its search over the memo, or `None` where that search stalls.
+pub(crate) fn outcomes_unless_stalled<O: SeqObject, M: Memo<O>>(
+    alloc: Global,
+    problem: &Problem<O>,
+    tasks: &[Task<O>],
+    memo: &mut M,
+    patience: Patience,
+    limit: Option<u64>,
+) -> Result<Option<Vec<Option<Outcome>>>, AllocError>
+    requires { (k : ℕ) × IsCut (problem_of O.after O.State.eq O.Reply.eq problem.now) k tasks.now }
+    ensures outcomes { IfOk result (λ found. IfSome found (λ outcomes. AreOutcomes
+        (problem_of O.after O.State.eq O.Reply.eq problem.now) tasks.now limit outcomes.items)) }
+    ensures memo { M.changes memo.old memo.new }
+{
+    let mut outcomes = no_outcomes(alloc, tasks.len())?;
+    if let Patience::ToTheEnd = patience {
+        return Ok(Some(outcomes));
+    }
+    let outcome = search_until_stalled(alloc, problem, &tasks[0], memo, limit)?;
+    if was_stopped(&outcome) {
+        return Ok(None);
+    }
+    place_value(outcomes.as_mut_slice(), 0, outcome);
+    Ok(Some(outcomes))
+}
+
+// Searches the configuration of the task over the memo, and is stopped where it stalls.
+fn search_until_stalled<O: SeqObject, M: Memo<O>>(
+    alloc: Global,
+    problem: &Problem<O>,
+    task: &Task<O>,
+    memo: &mut M,
+    limit: Option<u64>,
+) -> Result<Outcome, AllocError>
+    requires { IsReachable (problem_of O.after O.State.eq O.Reply.eq problem.now)
+        task.now.config.lifted task.now.config.state }
+    ensures answer { IfOk result (IsAnswer (problem_of O.after O.State.eq O.Reply.eq problem.now)
+        task.now.config.lifted task.now.config.state limit (λ told. Unit {0})) }
+    ensures memo { M.changes memo.old memo.new }
+{
+    let has_stalled = AtomicBool::new(false);
+    let mut memo = WatchedMemo::new(memo, Progress::none(), &has_stalled);
+    let mut none = NoStop;
+    let mut stop = UntilOver::new(&mut none, &has_stalled);
+    search_unless_starved(alloc, problem, &task.config, &mut memo, limit, &mut stop)
+}
+
+// How far a search has come: the greatest sum of the numbers of lifted calls, how many lifts it has made, and how many of
+// them since it came there. One that goes on to a linearization comes further all the time, but for short ways back; one that
+// finds none has soon been as far as it can come, and refutes from there on. So one that has stalled most likely has much to
+// refute, which workers share well.
+#[derive(Drop)]
+struct Progress {
+    furthest: u64,
+    lifts: u64,
+    in_vain: u64,
+}
+
+impl Progress {
+    // Of a search that begins.
+    fn none() -> Progress {
+        Progress {
+            furthest: 0,
+            lifts: 0,
+            in_vain: 0,
+        }
+    }
+
+    // A lift that led to calls with this sum.
+    fn add_lift(&mut self, sum: u64) {
+        self.lifts = self.lifts.wrapping_add(1);
+        self.in_vain = self.in_vain.wrapping_add(1);
+        if sum > self.furthest {
+            self.furthest = sum;
+            self.in_vain = 0;
+        }
+    }
+
+    // Whether the search has come no further for long, and for a third of all its lifts.
+    fn has_stalled(&self) -> bool {
+        self.in_vain >= LIFTS_IN_VAIN && self.in_vain >= self.lifts / 3
+    }
+}
+
+impl Watch for Progress {
+    fn look(&mut self, lifted: &CallSet) -> bool {
+        self.add_lift(lifted.sum());
+        self.has_stalled()
+    }
+}
