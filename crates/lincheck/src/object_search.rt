@@ -24,14 +24,6 @@ fn lifts_by_prefixes(calls: usize, limit: Option<u64>) -> u64 {
     }
 }
 
-// What a search by prefixes tells, as a verdict.
-fn told_by(answer: WholeAnswer) -> ObjectVerdict {
-    match answer {
-        WholeAnswer::Found(order) => ObjectVerdict::Yes(order),
-        WholeAnswer::Refuted(run) => ObjectVerdict::No(run),
-    }
-}
-
 // The verdict by searches of prefixes, where they tell it within so many lifts; and how many configurations the memo has, which
 // they leave as it is.
 fn verdict_by_prefixes(
@@ -51,7 +43,8 @@ fn verdict_by_prefixes(
     };
     let lifts = lifts_by_prefixes(problem.len(), limit);
     match search_by_prefixes(alloc, problem, lifts)? {
-        Some(answer) => Ok(Some((told_by(answer), stored))),
+        Some(WholeAnswer::Found(order)) => Ok(Some((ObjectVerdict::Yes(order), stored))),
+        Some(WholeAnswer::Refuted(run)) => Ok(Some((ObjectVerdict::No(run), stored))),
         None => Ok(None),
     }
 }
@@ -96,12 +89,13 @@ fn verdict_over<R: AllocGlobal + Threads + Sync, G: Gate>(
         options.now.limit r.0) }
     ensures stored { IfOk result (λ r. IsNumberStored (any_problem problem.now) r.1) }
 {
-    if !gate.wants_workers() {
-        if let Some(told) = verdict_alone(rt.alloc(), problem, memo, options)? {
-            return Ok(told);
-        }
+    if gate.wants_workers() {
+        return check_over_table(rt, memo, options, gate);
     }
-    check_over_table(rt, memo, options, gate)
+    match verdict_alone(rt.alloc(), problem, memo, options)? {
+        Some(told) => Ok(told),
+        None => check_over_table(rt, memo, options, gate),
+    }
 }
 
 /// The verdict on one object, and how many configurations were stored. The calling thread searches by itself; where that stalls,
