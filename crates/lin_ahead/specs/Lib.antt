@@ -18,3 +18,4 @@ pub mod Stack
 pub mod ToldOfStack
 pub mod Late
 pub mod Takers
+pub mod StackTakers

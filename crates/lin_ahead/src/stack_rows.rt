@@ -7,13 +7,14 @@ ghost use Rattle.indexmap.specs.IndexMap.{get};
 ghost use Rattle.lin_object.specs.declared.op.Op.TheVariants.{Push, Pop};
 ghost use Rattle.lin_object.specs.declared.reply.Reply.TheVariants.{Int};
 ghost use Rattle.lin_ahead.specs.ItemCalls.{told, told_in};
+ghost use Rattle.lin_ahead.specs.ToldAhead.{takers_from};
 ghost use Rattle.lin_ahead.specs.ToldOfStack.{exchanged_op, exchanged_call, exchanged_calls, popped_once_row, found_empty, found_empty_row, IsPopperIn, ArePoppers, AreLateRows};
 
 use crate::call_values::ValueNumbers;
 use crate::each_item::{told_by_calls, told_of};
 use crate::item_calls::ItemCalls;
 use crate::late_pushes::LateRows;
-use crate::look_ahead::{KnownAhead, from_row, once_row};
+use crate::look_ahead::{KnownAhead, from_row, once_row, takers_of};
 use indexmap::IndexMap;
 use lin_history::{NeedRows, ProblemCall};
 use lin_object::{Op, Reply};
@@ -181,7 +182,12 @@ pub(crate) fn told_of_stack(
     ensures from { IfOk result (λ ahead. ahead.needs.from
         ≡ replicate (length calls.now) 0) }
     ensures taken { IfOk result (λ ahead. ahead.taken.items ≡ []) }
-    ensures takers { IfOk result (λ ahead. ahead.takers.items ≡ []) }
+    ensures takers { IfOk result (λ ahead. ahead.takers.items
+        ≡ takers_from 0 (exchanged_calls calls.now)) }
+    ensures on_queue { IfOk result (λ ahead. ahead.on_queue.items
+        ≡ exchanged_calls calls.now) }
+    ensures items { IfOk result (λ ahead. (v : ℤ) → told_in (get int_eq ahead.items) v
+        ≡ told (exchanged_calls calls.now) v) }
     ensures owed { IfOk result (λ ahead. ahead.owed.items ≡ popped_once_row calls.now) }
     ensures held { IfOk result (λ ahead. ahead.held.items ≡ []) }
     ensures in_vain { IfOk result (λ ahead. ahead.in_vain ≡ false) }
@@ -195,12 +201,13 @@ pub(crate) fn told_of_stack(
     Ok(KnownAhead {
         needs: NeedRows::new(by, from),
         taken: Vec::new(alloc),
-        takers: Vec::new(alloc),
-        items: IndexMap::new(alloc),
+        takers: takers_of(alloc, exchanged.as_slice())?,
         owed: once_row(alloc, &items, exchanged.as_slice())?,
         held: Vec::new(alloc),
         in_vain: false,
         values: ValueNumbers::none(alloc),
         late: late_rows(alloc, &items, exchanged.as_slice(), calls)?,
+        items,
+        on_queue: exchanged,
     })
 }
