@@ -1,7 +1,8 @@
 -- Calls that leave a stack too few pops begin no completion: each of the items that must go before a call is made is taken by a pending
 -- pop of its own.
 use Rattle.std.proofs.Common.{◌≡◌, ◌≢◌, ℕ, suc, ◌+◌, ◌<◌, ◌≤◌, Bool, true, false, Option, Some, None, Result, Ok, Err, List, [], ◌∷◌, ◌++◌, length, ◌⊎◌, inl, inr, refl, sym, ◌∙◌, ap, subst, append_assoc, append-nil, arith}
-use Rattle.std.specs.Prelude.{ℤ, slice_get, IfSome, IfOk, IsSomeAnd, IsTrue, nat_le}
+use Rattle.std.specs.Prelude.{ℤ, slice_get, drop, IfSome, IfOk, IsSomeAnd, IsTrue, nat_le}
+use Rattle.lin_object.specs.Items.{is_in}
 use Rattle.lin_object.specs.declared.op.Op.{Op}
 use Rattle.lin_object.specs.declared.op.Op.TheVariants.{Pop}
 use Rattle.lin_object.specs.declared.reply.Reply.{Reply}
@@ -23,7 +24,7 @@ use Rattle.lin_ahead.specs.ItemCalls.{goes_in_once, told}
 use Rattle.lin_ahead.specs.Queue.{Item, Puts, Took}
 use Rattle.lin_ahead.specs.Queue as on_queues
 use Rattle.lin_ahead.specs.Stack.{Pushes, Popped, FoundEmpty}
-use Rattle.lin_ahead.specs.StackTakers.{on_queue, TookLifted, FindsGoneAbove, LacksPops}
+use Rattle.lin_ahead.specs.StackTakers.{on_queue, LieAbove, TookLifted, FindsGoneAbove, LacksPops}
 use Rattle.lin_ahead.specs.Takers.{queue_of, AreApart, is_left, IsLost, IsTakerLeft, GoesBefore, AreTooFew}
 use Rattle.lin_ahead.specs.ToldAhead.{IsTaker}
 use Rattle.lin_ahead.specs.ToldOfStack.{exchanged_op, exchanged_call, exchanged_calls}
@@ -31,10 +32,11 @@ use Rattle.lin_ahead.proofs.AboveLemmas.{PushedIn, lies_or_popped, pushed_above}
 use Rattle.lin_ahead.proofs.ChainLemmas.{legal_split, returned_with, completed}
 use Rattle.lin_ahead.proofs.OwedStackLemmas.{still_stack, item_at}
 use Rattle.lin_ahead.proofs.PlaceLemmas.{put_on, taken_off}
+use Rattle.lin_ahead.proofs.QueueLemmas.{Item_either}
 use Rattle.lin_ahead.proofs.RowLemmas.{through, seen_through}
 use Rattle.lin_ahead.proofs.StackLemmas.{IsExact, MayPop, LeavesBelow, call_moves, push_is_no_pop, one_item, inside_stack, leaves_legal, legal_rest, never_there, pops_top}
 use Rattle.lin_ahead.proofs.StackRowLemmas.{op_of, pushes_puts, puts_pushes, popped_took, took_popped}
-use Rattle.lin_ahead.proofs.TakerLemmas.{once_is, without_one, both_true, in_front, distinct, outside, called}
+use Rattle.lin_ahead.proofs.TakerLemmas.{once_is, among_false, without_one, both_true, in_front, distinct, outside, called}
 
 module _ (p : Problem ObjState Op Reply) where
   -- what the calls on a queue say of those on the stack
@@ -254,7 +256,28 @@ lacks_pops_is calls p set c items gone z m same returns other finds (Ok few) h =
     λ yes. (let both = subst (λ (l : List (ProblemCall Op Reply)). FindsGoneAbove (queue_of l) set c items z gone × AreTooFew (queue_of l) set c gone z m) same (finds, h yes) in (gone, z, m, returns, other, both.0, both.1))
 lacks_pops_is calls p set c items gone z m same returns other finds (Err e) h = tt
 
--- a call that returned with what another alone puts in, which is not left
-pub took_lifted_is : (p : Problem ObjState Op Reply) (set : List Bool) (c a z : ℕ) (v w u : ℤ) → Puts p a v → Took p z w → v ≡ w → u ≡ v → is_left set c a ≡ false → goes_in_once (told p.calls u).putters ≡ true → TookLifted p set c z w
-took_lifted_is p set c a z v w u put took same one free once =
-    (took, λ d other. subst (λ (n : ℕ). is_left set c n ≡ false) (sym (once_is p w (subst (λ (x : ℤ). goes_in_once (told p.calls x).putters ≡ true) (one ∙ same) once) a (subst (λ (x : ℤ). Puts p a x) same put) d other)) free)
+-- a call that returned with what another alone puts in, which is not left; the last two are the numbers that were handed on
+pub took_lifted_is : (p : Problem ObjState Op Reply) (set : List Bool) (c a z : ℕ) (v w u t : ℤ) → Puts p a v → Took p z w → v ≡ w → u ≡ v → t ≡ w → is_left set c a ≡ false → goes_in_once (told p.calls u).putters ≡ true → TookLifted p set c z t
+took_lifted_is p set c a z v w u t put took same one is free once =
+    subst (λ (x : ℤ). TookLifted p set c z x) (sym is) (took, λ d other. subst (λ (n : ℕ). is_left set c n ≡ false) (sym (once_is p w (subst (λ (x : ℤ). goes_in_once (told p.calls x).putters ≡ true) (one ∙ same) once) a (subst (λ (x : ℤ). Puts p a x) same put) d other)) free)
+
+-- the items above one that is not among them, with one more that is not it, which was handed on
+pub above_more : (items above rest above' rest' : List ℤ) (w first passed : ℤ) → items ≡ above ++ rest → (Item w above → ⊥) → slice_get rest 0 ≡ Some first → rest' ≡ drop 1 rest → above' ≡ above ++ passed ∷ [] → passed ≡ first → (first ≡ w → ⊥) → (items ≡ above' ++ rest') × (Item w above' → ⊥)
+above_more items above [] above' rest' w first passed whole apart at left more is other = absurd (cc)
+above_more items above (x ∷ rest) above' rest' w first passed whole apart at left more is other =
+    let same : x ≡ passed = (let e : x ≡ first = cc in e ∙ sym is) in (
+      whole ∙ ap (λ (v : ℤ). above ++ v ∷ rest) same ∙ sym (append_assoc above (passed ∷ []) rest) ∙ ap (λ (l : List ℤ). l ++ rest) (sym more) ∙ ap (λ (l : List ℤ). above' ++ l) (sym left),
+      λ h. elim (Item_either w above (passed ∷ []) (subst (λ (l : List ℤ). Item w l) more h)) [
+        | inl q ↦ apart q
+        | inr (inl e) ↦ other (sym is ∙ sym e)
+        | inr (inr q) ↦ q
+      ],
+    )
+
+-- the items above one that is found, which was handed on
+pub above_found : (items above rest rest' : List ℤ) (w first passed : ℤ) (b : Bool) → items ≡ above ++ rest → (Item passed above → ⊥) → slice_get rest 0 ≡ Some first → rest' ≡ drop 1 rest → first ≡ w → passed ≡ w → b ≡ is_in passed rest' → b ≡ false → LieAbove items w above
+above_found items above [] rest' w first passed b whole apart at left same is there none = absurd (cc)
+above_found items above (x ∷ rest) rest' w first passed b whole apart at left same is there none =
+    let here : x ≡ w = (let e : x ≡ first = cc in e ∙ same) in
+    let not_there : is_in w rest ≡ false = subst (λ (v : ℤ). is_in v rest ≡ false) is (subst (λ (l : List ℤ). is_in passed l ≡ false) left (sym there ∙ none)) in
+    (rest, whole ∙ ap (λ (v : ℤ). above ++ v ∷ rest) here, (λ h. apart (subst (λ (v : ℤ). Item v above) (sym is) h)), among_false w rest not_there)

@@ -31,7 +31,10 @@ fn items_above(alloc: Global, items: &Items, item: i64) -> Result<Option<Items>,
         };
         rest = rest.without_first(alloc)?;
         if first == item {
-            return Ok(if rest.has(item) { None } else { Some(above) });
+            if rest.has(item) {
+                return Ok(None);
+            }
+            return Ok(Some(above));
         }
         above = above.with_last(alloc, first)?;
     }

@@ -1,6 +1,5 @@
 use Rattle.std.proofs.Common.{◌≡◌, ◌++◌}
 use Rattle.lin_ahead.specs.Queue.{Item}
-use Rattle.std.specs.Prelude.{⊥}
 use Rattle.lin_ahead.proofs.stack_takers.items_above.Given as goal
 
 -- the items so far lie above those that are left, and the item is not among them
