@@ -173,6 +173,16 @@ fn late_rows(
     })
 }
 
+// Numbers of so many calls with which no call needs another.
+fn no_needs(alloc: Global, calls: usize) -> Result<NeedRows, AllocError>
+    ensures by { IfOk result (λ needs. needs.by ≡ replicate calls 0) }
+    ensures from { IfOk result (λ needs. needs.from ≡ replicate calls 0) }
+{
+    let by = vec![in alloc; 0; calls]?;
+    let from = vec![in alloc; 0; calls]?;
+    Ok(NeedRows::new(by, from))
+}
+
 /// What these calls tell, on a stack that starts empty: which are owed their replies, and by which numbers pushes are too late.
 pub(crate) fn told_of_stack(
     alloc: Global,
@@ -194,19 +204,17 @@ pub(crate) fn told_of_stack(
     ensures late { IfOk result (λ ahead. AreLateRows calls.now ahead.late) }
 {
     let exchanged = exchanged_calls(alloc, calls)?;
-    let items = told_by_calls(alloc, exchanged.as_slice())?;
-    // With these numbers no call needs another.
-    let by = vec![in alloc; 0; calls.len()]?;
-    let from = vec![in alloc; 0; calls.len()]?;
+    let on_queue = exchanged.as_slice();
+    let items = told_by_calls(alloc, on_queue)?;
     Ok(KnownAhead {
-        needs: NeedRows::new(by, from),
+        needs: no_needs(alloc, calls.len())?,
         taken: Vec::new(alloc),
-        takers: takers_of(alloc, exchanged.as_slice())?,
-        owed: once_row(alloc, &items, exchanged.as_slice())?,
+        takers: takers_of(alloc, on_queue)?,
+        owed: once_row(alloc, &items, on_queue)?,
         held: Vec::new(alloc),
         in_vain: false,
         values: ValueNumbers::none(alloc),
-        late: late_rows(alloc, &items, exchanged.as_slice(), calls)?,
+        late: late_rows(alloc, &items, on_queue, calls)?,
         items,
         on_queue: exchanged,
     })
