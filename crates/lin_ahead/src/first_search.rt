@@ -100,8 +100,11 @@ impl<'p> FirstSearch<'p> {
             self.new.path.entries.lifted self.new.path.frames.items self.new.path.config) }
     {
         self.held.lifted(self.path.config(), frame.call());
-        self.stack
-            .lifted(self.path.config(), frame.call(), self.takers.puts_lost(frame.call()));
+        self.stack.lifted(
+            self.path.config(),
+            frame.call(),
+            self.takers.puts_lost(frame.call()),
+        );
         self.takers.lifted(self.path.config(), frame.call())?;
         if self.refuted.has(self.path.config()) {
             let mut left = frame;
@@ -263,10 +266,11 @@ impl<'p> FirstSearch<'p> {
             return Ok(false);
         }
         let problem = self.path.problem();
+        let config = self.path.config();
         match (problem.start(), state) {
             (ObjState::Stack(start), ObjState::Stack(items)) if is_empty(start) => {
                 let after = After {
-                    config: self.path.config(),
+                    config,
                     call,
                     items,
                 };
@@ -274,7 +278,7 @@ impl<'p> FirstSearch<'p> {
             }
             (ObjState::Queue(start), ObjState::Queue(items)) if is_empty(start) => {
                 let after = After {
-                    config: self.path.config(),
+                    config,
                     call,
                     items,
                 };

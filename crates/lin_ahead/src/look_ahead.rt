@@ -101,7 +101,10 @@ fn taken_row(
 }
 
 /// The dequeues that are pending.
-pub(crate) fn takers_of(alloc: Global, calls: &[ProblemCall<Op, Reply>]) -> Result<Vec<usize>, AllocError>
+pub(crate) fn takers_of(
+    alloc: Global,
+    calls: &[ProblemCall<Op, Reply>],
+) -> Result<Vec<usize>, AllocError>
     ensures { IfOk result (λ takers. takers.items ≡ takers_from 0 calls.now) }
 {
     let mut takers = Vec::new(alloc);

@@ -187,7 +187,11 @@ impl StackHints {
 
     // The push on top without what the call takes off, or under what it puts on.
     pub(crate) fn under_call(&self, call: usize) -> Option<usize> {
-        if self.is_push(call) { self.top } else { self.under_top() }
+        if self.is_push(call) {
+            self.top
+        } else {
+            self.under_top()
+        }
     }
 
     // Whether the call is a push.
@@ -196,12 +200,7 @@ impl StackHints {
     }
 
     // Goes on after the call, which is lifted now.
-    pub(crate) fn lifted<O: SeqObject>(
-        &mut self,
-        config: &Config<O>,
-        call: usize,
-        is_lost: bool,
-    ) {
+    pub(crate) fn lifted<O: SeqObject>(&mut self, config: &Config<O>, call: usize, is_lost: bool) {
         if self.is_push(call) {
             self.put_on(call, is_lost);
         } else if let Some(before) = self.before.get_mut(call) {

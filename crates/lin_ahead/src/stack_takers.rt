@@ -11,7 +11,9 @@ use crate::late_pushes::returned_outside;
 use crate::look_ahead::KnownAhead;
 use crate::stack_hints::StackHints;
 use crate::taker_hints::{TakerHints, TakerWalk};
-use crate::takers::{After, Deadline, Wanting, are_too_few, found_empty, is_left, item_put, item_taken};
+use crate::takers::{
+    After, Deadline, Wanting, are_too_few, found_empty, is_left, item_put, item_taken,
+};
 use lin_history::{Problem, ProblemCall};
 use lin_object::{AnyObject, Items, Op, Reply};
 use std::alloc::{AllocError, Global};
@@ -137,7 +139,14 @@ fn lacks_pops_by(
     if putters.len() <= walk.left() {
         return Ok(false);
     }
-    lacks_pops_for(hints.alloc(), problem, ahead, after, putters.as_slice(), wanting)
+    lacks_pops_for(
+        hints.alloc(),
+        problem,
+        ahead,
+        after,
+        putters.as_slice(),
+        wanting,
+    )
 }
 
 // The same for the call that popped the item of this push.
@@ -187,5 +196,12 @@ pub(crate) fn lacks_pops(
         lying.push(lost)?;
         push = stack.under(lost);
     }
-    lacks_pops_over(problem, ahead, hints, after, lying.as_slice(), stack.first_empty())
+    lacks_pops_over(
+        problem,
+        ahead,
+        hints,
+        after,
+        lying.as_slice(),
+        stack.first_empty(),
+    )
 }

@@ -56,12 +56,7 @@ pub(crate) fn is_left(after: &After, call: usize) -> bool
 }
 
 // Whether the call is still left, and was called by this event.
-fn is_left_by(
-    calls: &[ProblemCall<Op, Reply>],
-    after: &After,
-    call: usize,
-    event: u64,
-) -> bool
+fn is_left_by(calls: &[ProblemCall<Op, Reply>], after: &After, call: usize, event: u64) -> bool
     ensures { result ≡ is_left_by (queue_of calls.now) after.now.config.now.lifted
         after.now.call event call }
 {

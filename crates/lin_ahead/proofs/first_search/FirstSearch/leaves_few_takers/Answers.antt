@@ -10,8 +10,8 @@ use Rattle.lin_ahead.proofs.first_search.FirstSearch.leaves_few_takers.Goals as 
 pub returns-in-Queue-Queue : goal.returns-in-Queue-Queue
 returns-in-Queue-Queue c =
     let start : c.args.self.now.path.entries.problem.start ≡ Queue [] = search rules in
-    known_few (of_any c.args.self.now.path.entries.problem [] start) c.args.self.now.path.config.lifted c.args.self.now.path.config.state c.args.call c.args.state.now _ c.requires.next (search rules) c.lacks_takers.result (rw (c.problem-problem.ensures, c.config.ensures) at c.lacks_takers.ensures)
+    known_few (of_any c.args.self.now.path.entries.problem [] start) c.args.self.now.path.config.lifted c.args.self.now.path.config.state c.args.call c.args.state.now _ c.requires.next (search rules) c.lacks_takers.result (rw (c.problem-problem.ensures, c.config-config.ensures) at c.lacks_takers.ensures)
 
 pub returns-in-Stack-Stack : goal.returns-in-Stack-Stack
 returns-in-Stack-Stack c =
-    known_pops (any_problem c.args.self.now.path.entries.problem) (exact_any c.args.self.now.path.entries.problem) c.args.self.now.path.config.lifted c.args.self.now.path.config.state c.args.call c.args.state.now _ c.requires.next (search rules) c.lacks_pops.result (rw (c.problem-problem.ensures, c.config.ensures) at c.lacks_pops.ensures)
+    known_pops (any_problem c.args.self.now.path.entries.problem) (exact_any c.args.self.now.path.entries.problem) c.args.self.now.path.config.lifted c.args.self.now.path.config.state c.args.call c.args.state.now _ c.requires.next (search rules) c.lacks_pops.result (rw (c.problem-problem.ensures, c.config-config.ensures) at c.lacks_pops.ensures)
