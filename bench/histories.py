@@ -445,7 +445,7 @@ FAMILIES = {
             0,
             backlog(FilledStack, 64, stops=stops),
         )
-        for stops in (1, 2, 4)
+        for stops in (1, 2, 4, 8, 16)
     },
     "map": Family("a map of 16 keys, 6 processes", "calls", CALLS, 0, maps),
     **{

@@ -222,4 +222,5 @@ module _ {Object : Type 0} (p : ProblemParts Object ObjState Op Reply) where
     in_vain = λ e. absurd (cc);
     late = nothing_late (any_problem p) ahead.late late;
     queue = λ e. (items, takers);
+    stack = λ e. absurd (let f = start in cc);
   }

@@ -60,12 +60,12 @@ module _ (p : Problem ObjState Op Reply) (exact : IsExact p) where
   legal_split (x ∷ xs) ys s u k = let r = legal_split xs ys k.0 u k.2 in (r.0, (k.0, k.1, r.1), r.2)
 
   -- the reply with which a call returned that may pop an item
-  returned_with : (c : ℕ) (w : ℤ) → MayPop p c w → (y : ProblemCall Op Reply) → slice_get p.calls c ≡ Some y → (n : ℕ) (r : Reply) → y.returned ≡ Some (n, r) → r ≡ Int w
+  pub returned_with : (c : ℕ) (w : ℤ) → MayPop p c w → (y : ProblemCall Op Reply) → slice_get p.calls c ≡ Some y → (n : ℕ) (r : Reply) → y.returned ≡ Some (n, r) → r ≡ Int w
   returned_with c w (x, there, op, pops) y here n r back =
       let one : x ≡ y = (let h = there in let k = here in cc) in
       subst (λ (o : Option (ℕ × Reply)). IfSome o (λ q. q.1 ≡ Int w)) (ap (λ (a : ProblemCall Op Reply). a.returned) one ∙ back) pops
 
-  completed : (c : ℕ) (x : ProblemCall Op Reply) (n : ℕ) (r : Reply) → slice_get p.calls c ≡ Some x → x.returned ≡ Some (n, r) → IsCompleted p c
+  pub completed : (c : ℕ) (x : ProblemCall Op Reply) (n : ℕ) (r : Reply) → slice_get p.calls c ≡ Some x → x.returned ≡ Some (n, r) → IsCompleted p c
   completed c x n r e f = rw (e, f) refl
 
   took_completed : (c : ℕ) (v : ℤ) → Popped p c v → IsCompleted p c

@@ -341,6 +341,7 @@ module _ (law : MapLaw after state_eq.it) where
       in_vain = λ is l whole. right.in_vain is l (of_value l whole);
       late = nothing_late P ahead.late late;
       queue = λ e. absurd (let f = start in cc);
+      stack = λ e. absurd (let f = start in cc);
     }
 
 -- the calls are on a key

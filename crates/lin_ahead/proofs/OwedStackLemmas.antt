@@ -37,7 +37,7 @@ module _ (p : Problem ObjState Op Reply) (exact : IsExact p) where
     | inr (inr none) ↦ absurd (let e = none.0 in cc)
   ]
 
-item_at : (v : ℤ) (front rest : List ℤ) → Item v (front ++ v ∷ rest)
+pub item_at : (v : ℤ) (front rest : List ℤ) → Item v (front ++ v ∷ rest)
 item_at v [] rest = inl refl
 item_at v (x ∷ front) rest = inr (item_at v front rest)
 

@@ -11,7 +11,7 @@ use Rattle.lin_object.specs.Kinds.Queue.{queue_step, put_in_by, taken_out_by}
 use Rattle.lin_history.specs.declared.problems.problem.ProblemCall.{ProblemCall}
 use Rattle.lin_history.specs.Problems.Problem.{Problem}
 use Rattle.lin_history.specs.Problems.Lists.{In, IsDistinct}
-use Rattle.lin_history.specs.Problems.ListLemmas.{has_none, in_early, in_late, in_either, in_place, apart}
+use Rattle.lin_history.specs.Problems.ListLemmas.{distinct_early, has_none, in_early, in_late, in_either, in_place, apart}
 use Rattle.lin_history.specs.Problems.LegalLists.{fits, state_if_fits, next, Legal}
 use Rattle.lin_history.specs.Problems.Precedence.{Before, IsCompleted}
 use Rattle.lin_history.specs.Problems.Linearizations.{IsRun, IsLinearization}
@@ -320,10 +320,6 @@ module _ {p : Problem ObjState Op Reply} {start : List ℤ} (of_queue : IsOfQueu
   distinct_late : (xs ys : List ℕ) → IsDistinct (xs ++ ys) → IsDistinct ys
   distinct_late [] ys d = d
   distinct_late (x ∷ xs) ys d = distinct_late xs ys d.1
-
-  pub distinct_early : (xs ys : List ℕ) → IsDistinct (xs ++ ys) → IsDistinct xs
-  distinct_early [] ys d = tt
-  distinct_early (x ∷ xs) ys d = ((λ h. d.0 (in_early x xs ys h)), distinct_early xs ys d.1)
 
   -- an item that goes in once is not both among what came out and among what is left
   once : (k : List ℕ) (b : ℕ) (v : ℤ) (front rest : List ℤ) → IsDistinct k → OnlyPuts p b v → (Item v start → ⊥) → start ++ puts k ≡ front ++ rest → Item v front → Item v rest → ⊥

@@ -1,6 +1,8 @@
 -- No push of a linearization on a stack is too late by the rows of the calls.
 use Rattle.std.proofs.Common.{◌≡◌, ℕ, ◌<◌, ◌≤◌, Bool, true, false, Option, Some, None, List, [], ◌∷◌, ◌++◌, length, replicate, ◌⊎◌, inl, inr, refl, sym, ◌∙◌, ap, subst, append_assoc, arith}
 use Rattle.std.specs.Prelude.{ℤ, slice_get}
+use Rattle.std.specs.Ordering.{int_eq}
+use Rattle.indexmap.specs.IndexMap.{get}
 use Rattle.lin_object.specs.declared.op.Op.{Op}
 use Rattle.lin_object.specs.declared.op.Op.TheVariants.{Write, Read, Cas, Add, Get, Enqueue, Dequeue, Push, Pop, Insert, Remove, Contains, Lock, Unlock, TryLock, Put, Lookup, Delete}
 use Rattle.lin_object.specs.declared.reply.Reply.{Reply}
@@ -22,10 +24,12 @@ use Rattle.lin_ahead.specs.declared.late_pushes.LateRows.{LateRows}
 use Rattle.lin_ahead.specs.declared.look_ahead.KnownAhead.{KnownAhead}
 use Rattle.lin_ahead.specs.AnyProblem.{any_problem}
 use Rattle.lin_ahead.specs.Behind.{IsRightAhead}
+use Rattle.lin_ahead.specs.ItemCalls.{told, told_in}
 use Rattle.lin_ahead.specs.Late.{LeadsBeyond, IsLate, NoneIsLate}
 use Rattle.lin_ahead.specs.Numbers.{ReturnsAt, CalledFrom, IsFrom}
 use Rattle.lin_ahead.specs.Queue.{Item, Took, MayTake, OnlyPuts}
 use Rattle.lin_ahead.specs.Stack.{Pushes, Popped, FoundEmpty, OnlyPushes}
+use Rattle.lin_ahead.specs.ToldAhead.{takers_from}
 use Rattle.lin_ahead.specs.ToldOfStack.{exchanged_op, exchanged_call, exchanged_calls, popped_once_row, found_empty, found_empty_row, AreLateRows}
 use Rattle.lin_ahead.proofs.ChainLemmas.{IsPoppedFrom, IsDeadlineAt, IsHeldFrom, HeldRules, numbers, legal_split}
 use Rattle.lin_ahead.proofs.OnceLemmas.{there_once}
@@ -212,8 +216,8 @@ module _ (p : Problem ObjState Op Reply) (exact : IsExact p) (starts : p.start �
 
 module _ {Object : Type 0} (p : ProblemParts Object ObjState Op Reply) where
   -- what is known ahead of a stack is right
-  pub stack_right : p.start ≡ Stack [] → (ahead : KnownAhead) → ahead.needs.by ≡ replicate (length p.calls) 0 → ahead.needs.from ≡ replicate (length p.calls) 0 → ahead.taken.items ≡ [] → ahead.takers.items ≡ [] → ahead.owed.items ≡ popped_once_row p.calls → ahead.held.items ≡ [] → ahead.in_vain ≡ false → AreLateRows p.calls ahead.late → AreTimed p.calls → IsRightAhead (any_problem p) ahead
-  stack_right start ahead bys froms taken takers owed held in_vain late timed = record {
+  pub stack_right : p.start ≡ Stack [] → (ahead : KnownAhead) → ahead.needs.by ≡ replicate (length p.calls) 0 → ahead.needs.from ≡ replicate (length p.calls) 0 → ahead.taken.items ≡ [] → ahead.takers.items ≡ takers_from 0 (exchanged_calls p.calls) → ahead.owed.items ≡ popped_once_row p.calls → ahead.held.items ≡ [] → ahead.in_vain ≡ false → AreLateRows p.calls ahead.late → AreTimed p.calls → ahead.on_queue.items ≡ exchanged_calls p.calls → ((v : ℤ) → told_in (get int_eq ahead.items) v ≡ told (exchanged_calls p.calls) v) → IsRightAhead (any_problem p) ahead
+  stack_right start ahead bys froms taken takers owed held in_vain late timed calls items = record {
     needs = stack_needs (any_problem p) ahead bys froms;
     behind = rw taken (λ set a b m n there here. absurd (cc));
     owed = rw owed (are_owed p start);
@@ -221,4 +225,5 @@ module _ {Object : Type 0} (p : ProblemParts Object ObjState Op Reply) where
     in_vain = λ e. absurd (cc);
     late = none_late (any_problem p) (exact_any p) start ahead.late late timed;
     queue = λ e. absurd (let f = start in cc);
+    stack = λ e. (calls, (items, takers));
   }

@@ -197,7 +197,7 @@ module _ (p : Problem ObjState Op Reply) (exact : IsExact p) where
       cc
 
   -- a pop that returned with an item finds it on top
-  pops_top : (items : List ℤ) (m : ObjState) (j : ℕ) (v : ℤ) → Popped p j v → next p (Stack items) j ≡ Some m → (rest : List ℤ) × (items ≡ v ∷ rest) × (m ≡ Stack rest)
+  pub pops_top : (items : List ℤ) (m : ObjState) (j : ℕ) (v : ℤ) → Popped p j v → next p (Stack items) j ≡ Some m → (rest : List ℤ) × (items ≡ v ∷ rest) × (m ≡ Stack rest)
   pops_top items m j v popped step = elim (call_moves items m j step) [
     | inl put ↦ absurd (push_is_no_pop j put.0 put.1 popped.0 popped.1 popped.2)
     | inr (inl take) ↦ (take.1, take.3 ∙ ap (λ (w : ℤ). w ∷ take.1) (sym (popped_reply j v take.0 popped take.2)), take.4)

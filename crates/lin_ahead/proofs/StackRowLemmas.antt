@@ -17,6 +17,7 @@ use Rattle.lin_ahead.specs.Behind.{AreOtherNeeds}
 use Rattle.lin_ahead.specs.Owed.{HasReply, IsOwed, AreOwed}
 use Rattle.lin_ahead.specs.Queue.{Puts, Took}
 use Rattle.lin_ahead.specs.Stack.{Pushes, Popped, PushedOnce, OnlyPushes}
+use Rattle.lin_ahead.specs.ToldAhead.{takers_from}
 use Rattle.lin_ahead.specs.ToldOfStack.{exchanged_op, exchanged_call, exchanged_calls, popped_once_row, AreLateRows, IsToldOfStack}
 use Rattle.lin_ahead.proofs.AheadLemmas.{flagged_took, took_flagged}
 use Rattle.lin_history.specs.ReplyLemmas.{reply_same}
@@ -65,7 +66,7 @@ module _ (p : Problem ObjState Op Reply) where
   call_of : (c : ℕ) (y : ProblemCall Op Reply) → slice_get (exchanged_calls p.calls) c ≡ Some y → (x : ProblemCall Op Reply) × (slice_get p.calls c ≡ Some x) × (exchanged_call x ≡ y)
   call_of c y there = through exchanged_call p.calls c y there
 
-  op_of : (x y : ProblemCall Op Reply) (op : Op) → exchanged_call x ≡ y → y.op ≡ op → x.op ≡ exchanged_op op
+  pub op_of : (x y : ProblemCall Op Reply) (op : Op) → exchanged_call x ≡ y → y.op ≡ op → x.op ≡ exchanged_op op
   op_of x y op same is = exchanged_back x.op op (ap (λ (z : ProblemCall Op Reply). z.op) same ∙ is)
 
   pub pushes_puts : (c : ℕ) (v : ℤ) → Pushes p c v → Puts as_queue c v
@@ -95,7 +96,7 @@ module _ (p : Problem ObjState Op Reply) where
 
   -- ---- what is told
 
-  pub stack_told : (ahead : KnownAhead) → ahead.needs.from ≡ replicate (length p.calls) 0 → ahead.taken.items ≡ [] → ahead.takers.items ≡ [] → ahead.owed.items ≡ popped_once_row p.calls → ahead.held.items ≡ [] → ahead.in_vain ≡ false → AreLateRows p.calls ahead.late → IsToldOfStack p ahead
+  pub stack_told : (ahead : KnownAhead) → ahead.needs.from ≡ replicate (length p.calls) 0 → ahead.taken.items ≡ [] → ahead.takers.items ≡ takers_from 0 (exchanged_calls p.calls) → ahead.owed.items ≡ popped_once_row p.calls → ahead.held.items ≡ [] → ahead.in_vain ≡ false → AreLateRows p.calls ahead.late → IsToldOfStack p ahead
   stack_told ahead froms taken takers owed held in_vain late = record {
     owed = λ c e. flagged_popped c (rw (← owed) e);
     each_owed = ap length owed ∙ length-map (exchanged_calls p.calls) _ ∙ length-map p.calls _;

@@ -1,7 +1,7 @@
 -- Calls that leave a queue too few dequeues begin no completion: each of the items that must go before a call is made is taken by a
 -- pending dequeue of its own.
 use Rattle.std.proofs.Common.{◌≡◌, ◌≢◌, ℕ, zero, suc, ◌+◌, ◌<◌, ◌≤◌, Bool, true, false, Option, Some, None, Result, Ok, Err, List, [], ◌∷◌, ◌++◌, length, ◌⊎◌, inl, inr, refl, sym, ◌∙◌, ap, subst, append_assoc, append-nil, arith}
-use Rattle.std.specs.Prelude.{ℤ, slice_get, IfSome, IfOk, IsTrue, nat_lt, not, ◌&&◌}
+use Rattle.std.specs.Prelude.{ℤ, slice_get, IfSome, IfOk, IsTrue, nat_lt, nat_le, not, ◌&&◌}
 use Rattle.std.specs.Ordering.{int_eq}
 use Rattle.std.proofs.lemmas.Bool.{ltb-true}
 use Rattle.std.proofs.lemmas.Bool.Decides.{eqb_tells, leb_tells}
@@ -16,7 +16,7 @@ use Rattle.lin_object.specs.declared.state.ObjState.TheVariants.{Queue}
 use Rattle.lin_history.specs.declared.problems.problem.ProblemCall.{ProblemCall}
 use Rattle.lin_history.specs.Problems.Problem.{Problem}
 use Rattle.lin_history.specs.Problems.Lists.{In, IsDistinct}
-use Rattle.lin_history.specs.Problems.ListLemmas.{in_early, in_late, in_place}
+use Rattle.lin_history.specs.Problems.ListLemmas.{distinct_early, in_early, in_late, in_place}
 use Rattle.lin_history.specs.Problems.LegalLists.{next, Legal}
 use Rattle.lin_history.specs.Problems.Precedence.{Before}
 use Rattle.lin_history.specs.Problems.Continuations.{has, IsCompletion}
@@ -25,21 +25,21 @@ use Rattle.lin_ahead.specs.FirstProgress.{BeginsNone}
 use Rattle.lin_ahead.specs.ItemCalls.{goes_in_once, nothing_told, told}
 use Rattle.lin_ahead.proofs.ToldLemmas.{one_alone, taken_by}
 use Rattle.lin_ahead.specs.Queue.{Item, IsOfQueue, Puts, Took, OnlyPuts}
-use Rattle.lin_ahead.specs.Takers.{AreApart, is_left, counted, is_left_by, left_from, IsLost, IsTakerLeft, AreFewer, GoesBefore, AreLostBefore, FindsGone, LacksTakers}
+use Rattle.lin_ahead.specs.Takers.{queue_of, AreApart, is_left, counted, is_left_by, left_from, IsLost, IsTakerLeft, AreFewer, GoesBefore, AreLostBefore, AreTooFew, FindsGone, LacksTakers}
 use Rattle.lin_ahead.specs.ToldAhead.{takers_from, IsTaker}
 use Rattle.lin_ahead.specs.Late.{ReturnsOutside}
 use Rattle.lin_ahead.proofs.AheadLemmas.{every_taker}
-use Rattle.lin_ahead.proofs.QueueLemmas.{Item_early, Item_late, Item_either, item_split, QueueStep, queue_leaves, queue_answered, queue_empty, stepped, has_call, only_dequeues, Is, fits_recorded, puts_by, puts, chain, put_place, put_there, distinct_early, legal_split, replied, took_completed}
+use Rattle.lin_ahead.proofs.QueueLemmas.{Item_early, Item_late, Item_either, item_split, QueueStep, queue_leaves, queue_answered, queue_empty, stepped, has_call, only_dequeues, Is, fits_recorded, puts_by, puts, chain, put_place, put_there, legal_split, replied, took_completed}
 use Rattle.lin_ahead.proofs.PlaceLemmas.{not_in_front}
 
 -- ---- lists
 
 -- without one item there is at most one less
-record Less (x : ℤ) (vs : List ℤ) : Type 0 where
-  left : List ℤ
-  apart : AreApart left
-  within : (v : ℤ) → Item v left → Item v vs × (v ≢ x)
-  few : length vs ≤ suc (length left)
+pub record Less (x : ℤ) (vs : List ℤ) : Type 0 where
+  pub left : List ℤ
+  pub apart : AreApart left
+  pub within : (v : ℤ) → Item v left → Item v vs × (v ≢ x)
+  pub few : length vs ≤ suc (length left)
 
 item_decided : (v x : ℤ) → (v ≡ x) ⊎ (v ≢ x)
 item_decided v x = go (int_eq v x) refl
@@ -48,7 +48,7 @@ item_decided v x = go (int_eq v x) refl
     go true e = inl ((signed_Decides v x).0 e)
     go false e = inr (λ same. let f = (signed_Decides v x).1 same in cc)
 
-without_one : (x : ℤ) (vs : List ℤ) → AreApart vs → Less x vs
+pub without_one : (x : ℤ) (vs : List ℤ) → AreApart vs → Less x vs
 without_one x [] apart = record { left = []; apart = tt; within = λ v h. absurd h; few = omega arith }
 without_one x (v ∷ vs) apart = go (item_decided v x) (without_one x vs apart.1)
   where
@@ -141,7 +141,7 @@ left_tells set c d left = elim (eqb_tells d c) [
     go true e f = absurd (let x = rw e at f in cc)
     go false e f = e
 
-both_true : {a b : Bool} → a ≡ true → b ≡ true → (a && b) ≡ true
+pub both_true : {a b : Bool} → a ≡ true → b ≡ true → (a && b) ≡ true
 both_true e f = rw (e, f) refl
 
 -- a call that returned at an event returned before one that was called after that
@@ -202,6 +202,12 @@ few_is p set c n takers slice count len vs all same counted_is len_is less =
     let q = ltb-true count len less in
     are_fewer p set c n (length vs) slice (same ∙ all) (let d = counted_is in let e = len_is in omega (arith, q, d, e))
 
+-- a call that is left finds gone what the deadline says
+pub lacks_is : {E : Type 0} (calls : List (ProblemCall Op Reply)) (p : Problem ObjState Op Reply) (set : List Bool) (c : ℕ) (items : List ℤ) (a z m : ℕ) → calls ≡ p.calls → ReturnsOutside p set z m → (z ≢ c) → FindsGone (queue_of calls) items a z → (result : Result Bool E) → IfOk result (λ few. IsTrue few → AreTooFew (queue_of calls) set c items a m) → IfOk result (λ lacks. IsTrue lacks → LacksTakers p set c items)
+lacks_is calls p set c items a z m same returns other finds (Ok few) h =
+    λ yes. (let both = subst (λ (l : List (ProblemCall Op Reply)). FindsGone (queue_of l) items a z × AreTooFew (queue_of l) set c items a m) same (finds, h yes) in (a, z, m, returns, other, both.0, both.1))
+lacks_is calls p set c items a z m same returns other finds (Err e) h = tt
+
 -- one lost item more
 pub more_lost : (p : Problem ObjState Op Reply) (set : List Bool) (c : ℕ) (items : List ℤ) (a : ℕ) (vs new : List ℤ) (v w : ℤ) (b : Bool) → AreLostBefore p set c items a vs → new ≡ vs ++ w ∷ [] → b ≡ is_in w vs → b ≡ false → w ≡ v → IsLost p v → GoesBefore p set c items a w → AreLostBefore p set c items a new
 more_lost p set c items a vs new v w b so_far more' test among' same lost goes' =
@@ -216,6 +222,49 @@ more_lost p set c items a vs new v w b so_far more' test among' same lost goes' 
         | inr (inr q) ↦ absurd q
       ],
     )
+
+-- ---- what stands in front of a call of a completion
+
+module _ (p : Problem ObjState Op Reply) (set : List Bool) (s : ObjState) (c : ℕ) (cs : List ℕ) (h : IsCompletion p set s (c ∷ cs)) where
+  -- what returned before a call of the completion and is left stands in front of it
+  pub in_front : (early : List ℕ) (d : ℕ) (late : List ℕ) → cs ≡ early ++ d ∷ late → (b : ℕ) → is_left set c b ≡ true → Before p b d → In b early
+  in_front early d late place b left before =
+      let out = left_tells set c b left in
+      elim (h.continuation.ordered (c ∷ early) d late (ap (λ (l : List ℕ). c ∷ l) place) b before) [
+        | inl q ↦ absurd (let e = out.0 in cc)
+        | inr (inl e) ↦ absurd (out.1 e)
+        | inr (inr q) ↦ q
+      ]
+
+  module _ (mid : List ℕ) (z : ℕ) (late : List ℕ) (m : ℕ) (place : cs ≡ mid ++ z ∷ late) (returns : ReturnsOutside p set z m) where
+    z_there : In z cs
+    z_there = subst (λ (l : List ℕ). In z l) (sym place) (in_late z mid (z ∷ late) (inl refl))
+
+    pub distinct : IsDistinct (mid ++ z ∷ late)
+    distinct = subst IsDistinct place h.continuation.distinct.1
+
+    -- a call in front of it was not called after it returned
+    not_after : (d : ℕ) → In d mid → Before p z d → ⊥
+    not_after d there before =
+        let at = in_place d mid there in
+        let shape : cs ≡ at.0 ++ d ∷ (at.1 ++ z ∷ late) = place ∙ ap (λ (l : List ℕ). l ++ z ∷ late) at.2 ∙ append_assoc at.0 (d ∷ at.1) (z ∷ late) in
+        elim (h.continuation.ordered (c ∷ at.0) d (at.1 ++ z ∷ late) (ap (λ (l : List ℕ). c ∷ l) shape) z before) [
+          | inl q ↦ (let e = returns.0 in cc)
+          | inr (inl e) ↦ h.continuation.distinct.0 (subst (λ (n : ℕ). In n cs) e z_there)
+          | inr (inr q) ↦ not_in_front mid z late distinct (subst (λ (l : List ℕ). In z l) (sym at.2) (in_early z at.0 (d ∷ at.1) q))
+        ]
+
+    pub outside : (d : ℕ) → In d mid → is_left set c d ≡ true
+    outside d there =
+        let d_there : In d cs = subst (λ (l : List ℕ). In d l) (sym place) (in_early d mid (z ∷ late) there) in
+        left_is set c d (h.continuation.outside d (inr d_there)) (λ e. h.continuation.distinct.0 (subst (λ (n : ℕ). In n cs) e d_there))
+
+    -- a call in front of it was called by its return
+    pub called : (d : ℕ) → In d mid → (y : ProblemCall Op Reply) → slice_get p.calls d ≡ Some y → nat_le y.called m ≡ true
+    called d there y here = elim (leb_tells y.called m) [
+      | inl k ↦ k.0
+      | inr k ↦ absurd (not_after d there (returned_before p z d m y returns.1 here (let less = k.1 in omega (arith, less))))
+    ]
 
 -- ---- what is taken, and by whom
 
@@ -309,47 +358,12 @@ module _ {p : Problem ObjState Op Reply} {start : List ℤ} (of_queue : IsOfQueu
     legal : Legal p (Queue items) cs h.continuation.legal.0
     legal = (let k = h.continuation.legal.1 in let f = is_next.step in let g = k.1 in subst (λ (u : ObjState). Legal p u cs h.continuation.legal.0) (let e : k.0 ≡ Queue items = cc in e) k.2)
 
-    -- what returned before a call of the completion and is left stands in front of it
-    in_front : (early : List ℕ) (d : ℕ) (late : List ℕ) → cs ≡ early ++ d ∷ late → (b : ℕ) → is_left set c b ≡ true → Before p b d → In b early
-    in_front early d late place b left before =
-        let out = left_tells set c b left in
-        elim (h.continuation.ordered (c ∷ early) d late (ap (λ (l : List ℕ). c ∷ l) place) b before) [
-          | inl q ↦ absurd (let e = out.0 in cc)
-          | inr (inl e) ↦ absurd (out.1 e)
-          | inr (inr q) ↦ q
-        ]
-
     module _ (mid : List ℕ) (z : ℕ) (late : List ℕ) (m : ℕ) (place : cs ≡ mid ++ z ∷ late) (returns : ReturnsOutside p set z m) where
-      z_there : In z cs
-      z_there = subst (λ (l : List ℕ). In z l) (sym place) (in_late z mid (z ∷ late) (inl refl))
-
-      distinct : IsDistinct (mid ++ z ∷ late)
-      distinct = subst IsDistinct place h.continuation.distinct.1
-
-      -- a call in front of it was not called after it returned
-      not_after : (d : ℕ) → In d mid → Before p z d → ⊥
-      not_after d there before =
-          let at = in_place d mid there in
-          let shape : cs ≡ at.0 ++ d ∷ (at.1 ++ z ∷ late) = place ∙ ap (λ (l : List ℕ). l ++ z ∷ late) at.2 ∙ append_assoc at.0 (d ∷ at.1) (z ∷ late) in
-          elim (h.continuation.ordered (c ∷ at.0) d (at.1 ++ z ∷ late) (ap (λ (l : List ℕ). c ∷ l) shape) z before) [
-            | inl q ↦ (let e = returns.0 in cc)
-            | inr (inl e) ↦ h.continuation.distinct.0 (subst (λ (n : ℕ). In n cs) e z_there)
-            | inr (inr q) ↦ not_in_front mid z late distinct (subst (λ (l : List ℕ). In z l) (sym at.2) (in_early z at.0 (d ∷ at.1) q))
-          ]
-
-      outside : (d : ℕ) → In d mid → is_left set c d ≡ true
-      outside d there =
-          let d_there : In d cs = subst (λ (l : List ℕ). In d l) (sym place) (in_early d mid (z ∷ late) there) in
-          left_is set c d (h.continuation.outside d (inr d_there)) (λ e. h.continuation.distinct.0 (subst (λ (n : ℕ). In n cs) e d_there))
-
-      -- a call in front of it is left, and was called by its return
-      called : (d : ℕ) → In d mid → IsTaker p d → IsTakerLeft p set c m d
-      called d there taker = (
+      -- a taker in front of it is left, and was called by its return
+      called_taker : (d : ℕ) → In d mid → IsTaker p d → IsTakerLeft p set c m d
+      called_taker d there taker = (
         taker,
-        both_true (outside d there) (elim (leb_tells taker.0.called m) [
-          | inl k ↦ (rw taker.1 k.0)
-          | inr k ↦ absurd (not_after d there (returned_before p z d m taker.0 returns.1 taker.1 (let less = k.1 in omega (arith, less))))
-        ]),
+        both_true (outside p set s c cs h mid z late m place returns d there) (rw taker.1 (called p set s c cs h mid z late m place returns d there taker.0 taker.1)),
       )
 
       too_few : (a : ℕ) → FindsGone p items a z → (vs : List ℤ) → AreLostBefore p set c items a vs → AreFewer p set c m (length vs) → ⊥
@@ -358,7 +372,7 @@ module _ {p : Problem ObjState Op Reply} {start : List ℤ} (of_queue : IsOfQueu
           let t = taking mid items two.0 two.1 in
           let goes : Legal p (Queue t.rest) (z ∷ late) h.continuation.legal.0 = subst (λ (u : ObjState). Legal p u (z ∷ late) h.continuation.legal.0) t.ends two.2 in
           let many = t.enough vs lost.0 (λ v i. (let k = lost.1 v i in (k.0, all_gone a finds t.took t.rest t.same goes.0 goes.1 v k.1))) in
-          let few = fewer t.takers (t.distinct (distinct_early of_queue mid (z ∷ late) distinct)) (λ d i. (let k = t.pending d i in called d k.0 k.1)) in
+          let few = fewer t.takers (t.distinct (distinct_early mid (z ∷ late) (distinct p set s c cs h mid z late m place returns))) (λ d i. (let k = t.pending d i in called_taker d k.0 k.1)) in
           omega (arith, many, few)
         where
           all_gone : (a : ℕ) → FindsGone p items a z → (took rest : List ℤ) → items ++ puts of_queue mid ≡ took ++ rest → (u : ObjState) → next p (Queue rest) z ≡ Some u → (v : ℤ) → GoesBefore p set c items a v → Item v took
@@ -367,7 +381,7 @@ module _ {p : Problem ObjState Op Reply} {start : List ℤ} (of_queue : IsOfQueu
               let whole : items ++ puts of_queue mid ≡ took = all ∙ ap (λ (l : List ℤ). took ++ l) empty.0 ∙ append-nil took in
               subst (λ (l : List ℤ). Item v l) whole (elim goes [
                 | inl i ↦ Item_early v items (puts of_queue mid) i
-                | inr b ↦ Item_late v items (puts of_queue mid) (put_there of_queue mid b.0 v b.1 (in_front mid z late place b.0 b.2 (subst (λ (n : ℕ). Before p b.0 n) same b.3)))
+                | inr b ↦ Item_late v items (puts of_queue mid) (put_there of_queue mid b.0 v b.1 (in_front p set s c cs h mid z late place b.0 b.2 (subst (λ (n : ℕ). Before p b.0 n) same b.3)))
               ])
           all_gone a (inr (w, taken, put, only, not_yet)) took rest all u step v goes =
               let front = queue_answered rest u w (replied of_queue rest u z taken.0 taken.3.0 (Int w) taken.1 taken.2 taken.3.1 step) in
@@ -383,7 +397,7 @@ module _ {p : Problem ObjState Op Reply} {start : List ℤ} (of_queue : IsOfQueu
                     ∙ ap (λ (n : ℕ). x.early ++ n ∷ (x.late ++ z ∷ late)) one in
                     subst (λ (l : List ℤ). Item v l) (sym q.1) (elim goes [
                       | inl i ↦ Item_early v items q.0 i
-                      | inr b ↦ Item_late v items q.0 (subst (λ (l : List ℤ). Item v l) x.before (put_there of_queue x.early b.0 v b.1 (in_front x.early a (x.late ++ z ∷ late) shape b.0 b.2 b.3)))
+                      | inr b ↦ Item_late v items q.0 (subst (λ (l : List ℤ). Item v l) x.before (put_there of_queue x.early b.0 v b.1 (in_front p set s c cs h x.early a (x.late ++ z ∷ late) shape b.0 b.2 b.3)))
                     ]))
               ]
 

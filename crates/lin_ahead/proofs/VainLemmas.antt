@@ -239,6 +239,7 @@ module _ {Object : Type 0} (p : ProblemParts Object ObjState Op Reply) where
     in_vain = λ is. in_vain (any_problem p) start (of_any_register p start e) (in_vain_is (any_problem p) start (sym vain ∙ is));
     late = nothing_late (any_problem p) ahead.late late;
     queue = λ starts. absurd (let f = e in cc);
+    stack = λ starts. absurd (let f = e in cc);
   }
 
   -- and all is told

@@ -5,7 +5,7 @@ use Rattle.indexmap.specs.IndexMap.{get}
 use Rattle.lin_object.specs.declared.op.Op.{Op}
 use Rattle.lin_object.specs.declared.reply.Reply.{Reply}
 use Rattle.lin_object.specs.declared.state.ObjState.{ObjState}
-use Rattle.lin_object.specs.declared.state.ObjState.TheVariants.{Queue}
+use Rattle.lin_object.specs.declared.state.ObjState.TheVariants.{Queue, Stack}
 use Rattle.lin_history.specs.Problems.Lists.{In}
 use Rattle.lin_history.specs.Problems.Problem.{Problem}
 use Rattle.lin_history.specs.Problems.Continuations.{has}
@@ -17,6 +17,8 @@ use Rattle.lin_ahead.specs.Owed.{AreOwed}
 use Rattle.lin_ahead.specs.Held.{AreHeldUntil}
 use Rattle.lin_ahead.specs.Late.{NoneIsLate}
 use Rattle.lin_ahead.specs.ToldAhead.{takers_from}
+use Rattle.lin_ahead.specs.ToldOfStack.{exchanged_calls}
+use Rattle.lin_ahead.specs.StackTakers.{on_queue}
 
 -- Call b needs call a behind the set: wherever b stands in a linearization, with no call of the set behind it, a stands before it.
 abbrev pub NeedsBehind : {State Op Reply : Type 0} → Problem State Op Reply → List Bool → ℕ → ℕ → Type 0
@@ -45,6 +47,10 @@ pub record AreOtherNeeds {State Op Reply : Type 0} (p : Problem State Op Reply) 
 abbrev pub AreQueueCalls : Problem ObjState Op Reply → KnownAhead → Type 0
 AreQueueCalls p ahead = ((v : ℤ) → told_in (get int_eq ahead.items) v ≡ told p.calls v) × (ahead.takers.items ≡ takers_from 0 p.calls)
 
+-- The same of the calls on a stack, read as those on a queue, which are kept.
+abbrev pub AreStackCalls : Problem ObjState Op Reply → KnownAhead → Type 0
+AreStackCalls p ahead = (ahead.on_queue.items ≡ exchanged_calls p.calls) × AreQueueCalls (on_queue p) ahead
+
 -- What is known ahead is right for the problem.
 pub record IsRightAhead (p : Problem ObjState Op Reply) (ahead : KnownAhead) : Type 0 where
   pub needs : AreOtherNeeds p ahead.needs
@@ -53,4 +59,5 @@ pub record IsRightAhead (p : Problem ObjState Op Reply) (ahead : KnownAhead) : T
   pub held : AreHeldUntil p ahead.held.items
   pub late : NoneIsLate p ahead.late
   pub queue : p.start ≡ Queue [] → AreQueueCalls p ahead
+  pub stack : p.start ≡ Stack [] → AreStackCalls p ahead
   pub in_vain : IsTrue ahead.in_vain → (l : List ℕ) → IsLinearization p l → ⊥

@@ -19,3 +19,4 @@ pub mod Stack
 pub mod ToldOfStack
 pub mod Late
 pub mod Takers
+pub mod StackTakers

@@ -1,8 +1,12 @@
--- Configurations of a queue that leave too few dequeues for what must be taken out of it (this project's own).
+-- Configurations that leave too few takers: of a queue, too few dequeues for what must be taken out of it (this project's own).
 use Rattle.std.specs.Prelude.{◌≡◌, ◌≢◌, ℕ, ◌+◌, ◌<◌, ℤ, Bool, true, false, not, ◌&&◌, Option, Some, None, List, [], ◌∷◌, ◌⊎◌, length, slice_get, nat_eq, nat_le}
 use Rattle.lin_object.specs.declared.op.Op.{Op}
 use Rattle.lin_object.specs.declared.reply.Reply.{Reply}
 use Rattle.lin_object.specs.declared.state.ObjState.{ObjState}
+use Rattle.lin_object.specs.declared.state.ObjState.TheVariants.{Queue}
+use Rattle.lin_object.specs.contracts.reply.ReplyPartialEq.TheImpl.{eq-value as reply_eq}
+use Rattle.lin_object.specs.contracts.state.ObjStatePartialEq.TheImpl.{eq-value as state_eq}
+use Rattle.lin_object.specs.Kinds.{after}
 use Rattle.lin_history.specs.declared.problems.problem.ProblemCall.{ProblemCall}
 use Rattle.lin_history.specs.Problems.Lists.{In, IsDistinct}
 use Rattle.lin_history.specs.Problems.Problem.{Problem}
@@ -11,6 +15,10 @@ use Rattle.lin_history.specs.Problems.Continuations.{has}
 use Rattle.lin_ahead.specs.Late.{ReturnsOutside}
 use Rattle.lin_ahead.specs.Queue.{Item, Puts, Took, FoundEmpty, OnlyPuts}
 use Rattle.lin_ahead.specs.ToldAhead.{IsTaker}
+
+-- The problem of these calls on a queue that starts empty.
+abbrev pub queue_of : List (ProblemCall Op Reply) → Problem ObjState Op Reply
+queue_of calls = record { after = after; same_state = state_eq.it; same_reply = reply_eq.it; start = Queue []; calls = calls }
 
 -- No two of the items are equal.
 abbrev pub AreApart : List ℤ → Type 0
@@ -59,8 +67,7 @@ module _ (p : Problem ObjState Op Reply) (set : List Bool) (c : ℕ) where
   abbrev pub AreFewer : ℕ → ℕ → Type 0
   AreFewer n k = (ts : List ℕ) → IsDistinct ts → ((d : ℕ) → In d ts → IsTakerLeft n d) → length ts < k
 
-  -- The item goes before call a: it lies among these, which are in the queue, or a call that is left puts it in and returned
-  -- before a was called.
+  -- The item goes before call a: it lies among these, or a call that is left puts it in and returned before a was called.
   abbrev pub GoesBefore : List ℤ → ℕ → ℤ → Type 0
   GoesBefore items a v = Item v items ⊎ ((b : ℕ) × Puts p b v × (is_left set c b ≡ true) × Before p b a)
 
@@ -68,7 +75,11 @@ module _ (p : Problem ObjState Op Reply) (set : List Bool) (c : ℕ) where
   abbrev pub AreLostBefore : List ℤ → ℕ → List ℤ → Type 0
   AreLostBefore items a vs = AreApart vs × ((v : ℤ) → Item v vs → IsLost p v × GoesBefore items a v)
 
+  -- More of such items than there are takers that were called by this event.
+  abbrev pub AreTooFew : List ℤ → ℕ → ℕ → Type 0
+  AreTooFew items a m = (vs : List ℤ) × AreLostBefore items a vs × AreFewer m (length vs)
+
   -- With call c added to the set, and these items in the queue then, more items must be taken by dequeues that are pending than
   -- there are such dequeues: a call that is left finds them gone, and fewer were called by its return.
   abbrev pub LacksTakers : List ℤ → Type 0
-  LacksTakers items = (a z m : ℕ) × ReturnsOutside p set z m × (z ≢ c) × FindsGone p items a z × ((vs : List ℤ) × AreLostBefore items a vs × AreFewer m (length vs))
+  LacksTakers items = (a z m : ℕ) × ReturnsOutside p set z m × (z ≢ c) × FindsGone p items a z × AreTooFew items a m

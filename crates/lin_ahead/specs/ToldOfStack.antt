@@ -12,7 +12,7 @@ use Rattle.lin_ahead.specs.declared.late_pushes.LateRows.{LateRows}
 use Rattle.lin_ahead.specs.CallNumbers.{from_row}
 use Rattle.lin_ahead.specs.ItemCalls.{told, least_pending}
 use Rattle.lin_ahead.specs.Stack.{Pushes, Popped, PushedOnce, OnlyPushes}
-use Rattle.lin_ahead.specs.ToldAhead.{once_row}
+use Rattle.lin_ahead.specs.ToldAhead.{once_row, takers_from}
 
 -- The operation with those of a stack and those of a queue exchanged.
 abbrev pub exchanged_op : Op → Op
@@ -62,7 +62,7 @@ pub record AreLateRows (calls : List (ProblemCall Op Reply)) (late : LateRows) :
   pub poppers : ArePoppers calls late.poppers.items
   pub found_empty : late.found_empty.items ≡ found_empty_row calls
 
--- It is told which calls are owed their replies, and by which numbers pushes are too late; nothing else is.
+-- It is told which calls are owed their replies, by which numbers pushes are too late, and which pops are pending; nothing else is.
 pub record IsToldOfStack (p : Problem ObjState Op Reply) (ahead : KnownAhead) : Type 0 where
   -- They popped an item that no two calls push, and all that popped one which just one call pushes are.
   pub owed : (c : ℕ) → slice_get ahead.owed.items c ≡ Some true → (v : ℤ) × Popped p c v × PushedOnce p v
@@ -70,7 +70,7 @@ pub record IsToldOfStack (p : Problem ObjState Op Reply) (ahead : KnownAhead) : 
   pub every_owed : (a c : ℕ) (v : ℤ) → Pushes p a v → OnlyPushes p a v → Popped p c v → slice_get ahead.owed.items c ≡ Some true
   pub no_needs : (b n : ℕ) → slice_get ahead.needs.from b ≡ Some n → n ≡ 0
   pub taken : ahead.taken.items ≡ []
-  pub takers : ahead.takers.items ≡ []
+  pub takers : ahead.takers.items ≡ takers_from 0 (exchanged_calls p.calls)
   pub held : ahead.held.items ≡ []
   pub in_vain : ahead.in_vain ≡ false
   pub late : AreLateRows p.calls ahead.late

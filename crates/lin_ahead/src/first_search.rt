@@ -24,10 +24,11 @@ use crate::needed_calls::{left_out, needed_in_turn};
 use crate::owed_replies::{is_owed, owed_in_turn, pending_answer};
 use crate::refuted_set::RefutedSet;
 use crate::stack_hints::StackHints;
+use crate::stack_takers::lacks_pops;
 use crate::taker_hints::TakerHints;
 use crate::takers::{After, lacks_takers};
-use lin_history::{Order, Problem};
-use lin_object::{AnyObject, ObjState, lawful};
+use lin_history::{Order, Problem, ProblemCall};
+use lin_object::{AnyObject, ObjState, Op, Reply, lawful};
 use lin_search::{Config, Frame, Longest, Path};
 use std::alloc::{AllocError, Global};
 use std::ops::ControlFlow;
@@ -99,7 +100,11 @@ impl<'p> FirstSearch<'p> {
             self.new.path.entries.lifted self.new.path.frames.items self.new.path.config) }
     {
         self.held.lifted(self.path.config(), frame.call());
-        self.stack.lifted(self.path.config(), frame.call());
+        self.stack.lifted(
+            self.path.config(),
+            frame.call(),
+            self.takers.puts_lost(frame.call()),
+        );
         self.takers.lifted(self.path.config(), frame.call())?;
         if self.refuted.has(self.path.config()) {
             let mut left = frame;
@@ -237,8 +242,13 @@ impl<'p> FirstSearch<'p> {
         }
     }
 
-    // Whether the call, which leads to the state, is known to begin no completion: it leaves too few dequeues that are pending
-    // for what must be taken out of the queue.
+    // Whether the call may leave too few takers.
+    fn concerns_takers(&self, call: usize) -> bool {
+        self.takers.concerns(call) || (self.takers.in_sight() > 0 && self.stack.is_push(call))
+    }
+
+    // Whether the call, which leads to the state, is known to begin no completion: it leaves too few dequeues or pops that are
+    // pending for what must be taken out of the queue or off the stack.
     fn leaves_few_takers(
         &self,
         ahead: &KnownAhead,
@@ -252,14 +262,23 @@ impl<'p> FirstSearch<'p> {
             (any_problem self.now.path.entries.problem) self.now.path.config.lifted
             self.now.path.config.state call) }
     {
-        if !self.takers.concerns(call) {
+        if !self.concerns_takers(call) {
             return Ok(false);
         }
         let problem = self.path.problem();
+        let config = self.path.config();
         match (problem.start(), state) {
+            (ObjState::Stack(start), ObjState::Stack(items)) if is_empty(start) => {
+                let after = After {
+                    config,
+                    call,
+                    items,
+                };
+                lacks_pops(problem, ahead, &self.takers, &self.stack, &after)
+            }
             (ObjState::Queue(start), ObjState::Queue(items)) if is_empty(start) => {
                 let after = After {
-                    config: self.path.config(),
+                    config,
                     call,
                     items,
                 };
@@ -453,10 +472,21 @@ impl<'p> FirstSearch<'p> {
     }
 }
 
+// The calls of a queue, or those of a stack read as such.
+fn calls_on_queue<'a>(
+    problem: &'a Problem<AnyObject>,
+    ahead: &'a KnownAhead,
+) -> &'a [ProblemCall<Op, Reply>] {
+    match problem.start() {
+        ObjState::Stack(_) => ahead.on_queue.as_slice(),
+        _ => problem.calls(),
+    }
+}
+
 /// The search from the root that only asks whether there is a linearization, and for the least one (this project's
 /// own). It makes at most so many lifts. It passes over each call that needs one that is not lifted, before a state is made,
 /// each push that is known to be too late, each pending call that would get a reply which is owed to another, and each call that
-/// leaves too few dequeues for what must be taken out of a queue; and it keeps of a refuted configuration only that it is
+/// leaves too few dequeues or pops for what must be taken out of a queue or off a stack; and it keeps of a refuted configuration only that it is
 /// refuted. So it may meet far fewer configurations than `search`, and what it keeps is of no use to that one.
 ///
 /// `Found` with the least linearization; `Refuted` where there is none; `Exhausted` where as many lifts were made and
@@ -489,7 +519,7 @@ pub fn search_first(
         owed: owed_in_turn(alloc, ahead.owed.as_slice())?,
         held: Finders::new(alloc, &ahead.values)?,
         stack: StackHints::new(alloc, problem, &ahead.late)?,
-        takers: TakerHints::new(alloc, problem, ahead)?,
+        takers: TakerHints::new(alloc, calls_on_queue(problem, ahead), ahead)?,
         lifts: 0,
     };
     search.go(ahead, lifts)

@@ -52,7 +52,7 @@ fn item_out(problem: &Problem<AnyObject>, call: usize) -> Option<i64>
     ensures { IfSome result (TookItem (any_problem problem.now) call) }
 {
     match problem.start() {
-        ObjState::Queue(items) if is_empty(items) => item_taken(problem, call),
+        ObjState::Queue(items) if is_empty(items) => item_taken(problem.calls(), call),
         ObjState::Stack(items) if is_empty(items) => item_popped(problem, call),
         _ => None,
     }
@@ -67,7 +67,7 @@ fn adds_in_time(problem: &Problem<AnyObject>, call: usize, item: i64, taker: usi
     if !adds(problem, call, item) {
         return false;
     }
-    !is_before(problem, taker, call)
+    !is_before(problem.calls(), taker, call)
 }
 
 // Whether each call that puts the item there was called after the taker returned.

@@ -14,7 +14,8 @@
 //!   another, that are too late, that would change a state which is held, or that leave too few takers; `needed_calls`: the calls by how early they are needed;
 //!   `owed_replies`: the replies that are owed; `calls_in_turn`: calls in an order, and the first that is not lifted;
 //!   `late_pushes`: pushes that are too late, by the pushes that must lie above them; `stack_hints`: which of those to ask of;
-//!   `takers`: calls that leave too few dequeues for what must be taken out of a queue; `taker_hints`: which calls to ask of;
+//!   `takers`: calls that leave too few dequeues for what must be taken out of a queue; `stack_takers`: the same of pops and a
+//!   stack; `taker_hints`: which calls to ask of;
 //!   `held_state`: calls until which the state is held; `finders`: the calls that found each value, in turn; `refuted_set`:
 //!   what it has refuted; `first_answer`: what it answers.
 #![tactic(auto)]
@@ -39,6 +40,7 @@ mod owed_replies;
 mod refuted_set;
 mod stack_hints;
 mod stack_rows;
+mod stack_takers;
 mod taker_hints;
 mod takers;
 mod value_calls;

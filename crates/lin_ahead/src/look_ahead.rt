@@ -27,6 +27,7 @@ use indexmap::IndexMap;
 use lin_history::{NeedRows, Problem, ProblemCall};
 use lin_object::{AnyObject, Items, Kind, ObjState, Op, Reply, map_law, start_state};
 use std::alloc::{AllocError, Global};
+use std::fmt;
 
 /// Whether there is no item.
 pub(crate) fn is_empty(items: &Items) -> bool
@@ -99,8 +100,11 @@ fn taken_row(
     Ok(row)
 }
 
-// The dequeues that are pending.
-fn takers_of(alloc: Global, calls: &[ProblemCall<Op, Reply>]) -> Result<Vec<usize>, AllocError>
+/// The dequeues that are pending.
+pub(crate) fn takers_of(
+    alloc: Global,
+    calls: &[ProblemCall<Op, Reply>],
+) -> Result<Vec<usize>, AllocError>
     ensures { IfOk result (λ takers. takers.items ≡ takers_from 0 calls.now) }
 {
     let mut takers = Vec::new(alloc);
@@ -116,7 +120,7 @@ fn takers_of(alloc: Global, calls: &[ProblemCall<Op, Reply>]) -> Result<Vec<usiz
 ///
 /// A call needs every call whose number `by` is less than its own number `from`. It needs every call whose number `by` is
 /// less than its own number `taken` too, once the takers that are not lifted were all called after that event.
-#[derive(Debug, Drop)]
+#[derive(Drop)]
 pub struct KnownAhead {
     /// The numbers `by` and `from` of each call.
     pub needs: NeedRows,
@@ -124,8 +128,10 @@ pub struct KnownAhead {
     pub taken: Vec<u64>,
     /// The pending calls that may take what a call puts in, whatever it is.
     pub takers: Vec<usize>,
-    /// Of a queue that starts empty, what its calls tell of each item.
+    /// Of a queue or a stack that starts empty, what its calls tell of each item.
     pub(crate) items: IndexMap<i64, ItemCalls>,
+    /// Of a stack, its calls read as those on a queue.
+    pub(crate) on_queue: Vec<ProblemCall<Op, Reply>>,
     /// For each call, whether it returned with a reply that no pending call can be answered with.
     pub owed: Vec<bool>,
     /// For each call, whether the state may not change where it could follow, until it stands.
@@ -136,6 +142,22 @@ pub struct KnownAhead {
     pub values: ValueNumbers,
     /// What is known of each call on a stack, by which a search finds pushes that are too late.
     pub late: LateRows,
+}
+
+// What is told of each item is left out: a map is long to show.
+impl fmt::Debug for KnownAhead {
+    fn fmt<W: fmt::Write>(&self, f: &mut fmt::Formatter<W>) -> fmt::Result {
+        f.debug_struct("KnownAhead")
+            .field("needs", &self.needs)
+            .field("taken", &self.taken)
+            .field("takers", &self.takers)
+            .field("owed", &self.owed)
+            .field("held", &self.held)
+            .field("in_vain", &self.in_vain)
+            .field("values", &self.values)
+            .field("late", &self.late)
+            .finish_non_exhaustive()
+    }
 }
 
 // What these calls tell, on a queue that starts empty.
@@ -163,6 +185,7 @@ fn told_of_queue(alloc: Global, calls: &[ProblemCall<Op, Reply>]) -> Result<Know
         takers: takers_of(alloc, calls)?,
         owed: once_row(alloc, &items, calls)?,
         items,
+        on_queue: Vec::new(alloc),
         held: Vec::new(alloc),
         in_vain: false,
         values: ValueNumbers::none(alloc),

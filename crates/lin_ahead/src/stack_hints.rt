@@ -18,6 +18,8 @@ struct Lying {
     under: Option<usize>,
     // Of the push and those under it, the one whose item is popped first.
     first_popped: Option<usize>,
+    // Of the push and those under it, the uppermost whose item no completed call returned with.
+    first_lost: Option<usize>,
 }
 
 /// The calls on a stack that are left, by their returns, and the pushes whose items lie on it.
@@ -96,6 +98,7 @@ fn lying_of<O: SeqObject>(
             popped,
             under: None,
             first_popped: None,
+            first_lost: None,
         })?;
     }
     Ok(lying)
@@ -127,9 +130,19 @@ impl StackHints {
         }
     }
 
-    // Of the pushes whose items lie on the stack, the one whose item is popped first.
+    // Of the push and those whose items lie under its own, the one whose item is popped first.
+    pub(crate) fn first_popped_from(&self, push: Option<usize>) -> Option<usize> {
+        self.lying.get(push?)?.first_popped
+    }
+
+    // The same of all pushes whose items lie on the stack.
     pub(crate) fn first_popped(&self) -> Option<usize> {
-        self.lying.get(self.top?)?.first_popped
+        self.first_popped_from(self.top)
+    }
+
+    // Of the push and those whose items lie under its own, the uppermost whose item no completed call returned with.
+    pub(crate) fn first_lost_from(&self, push: Option<usize>) -> Option<usize> {
+        self.lying.get(push?)?.first_lost
     }
 
     // The first call that found the stack empty and is not lifted.
@@ -142,16 +155,22 @@ impl StackHints {
         self.pushes.ahead(count)
     }
 
-    // Puts the item of the push on top.
-    fn put_on(&mut self, push: usize) {
+    // Puts the item of the push, which may be lost, on top.
+    fn put_on(&mut self, push: usize, is_lost: bool) {
         let under = self.top;
         let first_popped = match self.first_popped() {
             Some(other) if self.popped_of(other) < self.popped_of(push) => other,
             _ => push,
         };
+        let first_lost = if is_lost {
+            Some(push)
+        } else {
+            self.first_lost_from(under)
+        };
         if let Some(lying) = self.lying.get_mut(push) {
             lying.under = under;
             lying.first_popped = Some(first_popped);
+            lying.first_lost = first_lost;
         }
         self.top = Some(push);
     }
@@ -161,15 +180,29 @@ impl StackHints {
         self.lying.get(self.top?)?.under
     }
 
+    // The push whose item lies under that of this one.
+    pub(crate) fn under(&self, push: usize) -> Option<usize> {
+        self.lying.get(push)?.under
+    }
+
+    // The push on top without what the call takes off, or under what it puts on.
+    pub(crate) fn under_call(&self, call: usize) -> Option<usize> {
+        if self.is_push(call) {
+            self.top
+        } else {
+            self.under_top()
+        }
+    }
+
     // Whether the call is a push.
-    fn is_push(&self, call: usize) -> bool {
+    pub(crate) fn is_push(&self, call: usize) -> bool {
         matches!(self.is_push.get(call), Some(true))
     }
 
     // Goes on after the call, which is lifted now.
-    pub(crate) fn lifted<O: SeqObject>(&mut self, config: &Config<O>, call: usize) {
+    pub(crate) fn lifted<O: SeqObject>(&mut self, config: &Config<O>, call: usize, is_lost: bool) {
         if self.is_push(call) {
-            self.put_on(call);
+            self.put_on(call, is_lost);
         } else if let Some(before) = self.before.get_mut(call) {
             *before = self.top;
             self.top = self.under_top();

@@ -7,13 +7,14 @@ ghost use Rattle.indexmap.specs.IndexMap.{get};
 ghost use Rattle.lin_object.specs.declared.op.Op.TheVariants.{Push, Pop};
 ghost use Rattle.lin_object.specs.declared.reply.Reply.TheVariants.{Int};
 ghost use Rattle.lin_ahead.specs.ItemCalls.{told, told_in};
+ghost use Rattle.lin_ahead.specs.ToldAhead.{takers_from};
 ghost use Rattle.lin_ahead.specs.ToldOfStack.{exchanged_op, exchanged_call, exchanged_calls, popped_once_row, found_empty, found_empty_row, IsPopperIn, ArePoppers, AreLateRows};
 
 use crate::call_values::ValueNumbers;
 use crate::each_item::{told_by_calls, told_of};
 use crate::item_calls::ItemCalls;
 use crate::late_pushes::LateRows;
-use crate::look_ahead::{KnownAhead, from_row, once_row};
+use crate::look_ahead::{KnownAhead, from_row, once_row, takers_of};
 use indexmap::IndexMap;
 use lin_history::{NeedRows, ProblemCall};
 use lin_object::{Op, Reply};
@@ -172,6 +173,16 @@ fn late_rows(
     })
 }
 
+// Numbers of so many calls with which no call needs another.
+fn no_needs(alloc: Global, calls: usize) -> Result<NeedRows, AllocError>
+    ensures by { IfOk result (λ needs. needs.by ≡ replicate calls 0) }
+    ensures from { IfOk result (λ needs. needs.from ≡ replicate calls 0) }
+{
+    let by = vec![in alloc; 0; calls]?;
+    let from = vec![in alloc; 0; calls]?;
+    Ok(NeedRows::new(by, from))
+}
+
 /// What these calls tell, on a stack that starts empty: which are owed their replies, and by which numbers pushes are too late.
 pub(crate) fn told_of_stack(
     alloc: Global,
@@ -181,26 +192,30 @@ pub(crate) fn told_of_stack(
     ensures from { IfOk result (λ ahead. ahead.needs.from
         ≡ replicate (length calls.now) 0) }
     ensures taken { IfOk result (λ ahead. ahead.taken.items ≡ []) }
-    ensures takers { IfOk result (λ ahead. ahead.takers.items ≡ []) }
+    ensures takers { IfOk result (λ ahead. ahead.takers.items
+        ≡ takers_from 0 (exchanged_calls calls.now)) }
+    ensures on_queue { IfOk result (λ ahead. ahead.on_queue.items
+        ≡ exchanged_calls calls.now) }
+    ensures items { IfOk result (λ ahead. (v : ℤ) → told_in (get int_eq ahead.items) v
+        ≡ told (exchanged_calls calls.now) v) }
     ensures owed { IfOk result (λ ahead. ahead.owed.items ≡ popped_once_row calls.now) }
     ensures held { IfOk result (λ ahead. ahead.held.items ≡ []) }
     ensures in_vain { IfOk result (λ ahead. ahead.in_vain ≡ false) }
     ensures late { IfOk result (λ ahead. AreLateRows calls.now ahead.late) }
 {
     let exchanged = exchanged_calls(alloc, calls)?;
-    let items = told_by_calls(alloc, exchanged.as_slice())?;
-    // With these numbers no call needs another.
-    let by = vec![in alloc; 0; calls.len()]?;
-    let from = vec![in alloc; 0; calls.len()]?;
+    let on_queue = exchanged.as_slice();
+    let items = told_by_calls(alloc, on_queue)?;
     Ok(KnownAhead {
-        needs: NeedRows::new(by, from),
+        needs: no_needs(alloc, calls.len())?,
         taken: Vec::new(alloc),
-        takers: Vec::new(alloc),
-        items: IndexMap::new(alloc),
-        owed: once_row(alloc, &items, exchanged.as_slice())?,
+        takers: takers_of(alloc, on_queue)?,
+        owed: once_row(alloc, &items, on_queue)?,
         held: Vec::new(alloc),
         in_vain: false,
         values: ValueNumbers::none(alloc),
-        late: late_rows(alloc, &items, exchanged.as_slice(), calls)?,
+        late: late_rows(alloc, &items, on_queue, calls)?,
+        items,
+        on_queue: exchanged,
     })
 }

@@ -1,5 +1,5 @@
-//! What a search of a queue goes by to find that too few dequeues are left: the calls that put in what no completed call
-//! returned with, and which calls find that gone. All of it is a hint.
+//! What a search goes by to find that too few takers are left: the calls that put in what no completed call returned with, and
+//! which calls find that gone. The calls are those on a queue; those on a stack are read as such. All of it is a hint.
 
 use crate::calls_in_turn::CallsInTurn;
 use crate::each_item::told_of;
@@ -7,7 +7,7 @@ use crate::item_calls::BEYOND;
 use crate::look_ahead::KnownAhead;
 use crate::takers::{After, Wanting, is_left, item_put};
 use indexmap::IndexMap;
-use lin_history::{Problem, ProblemCall};
+use lin_history::ProblemCall;
 use lin_object::{AnyObject, Op, Reply};
 use lin_search::Config;
 use std::alloc::{AllocError, Global};
@@ -69,12 +69,11 @@ impl TakerWalk {
     // Goes on past those that were called by the return of the wanting call.
     pub(crate) fn go_to(
         &mut self,
-        problem: &Problem<AnyObject>,
+        calls: &[ProblemCall<Op, Reply>],
         takers: &[usize],
         after: &After,
         wanting: Wanting,
     ) {
-        let calls = problem.calls();
         let event = or_beyond(returned_at(calls, wanting.taker));
         for place in self.place..takers.len() {
             self.place = place;
@@ -202,8 +201,8 @@ fn returned_at(calls: &[ProblemCall<Op, Reply>], call: usize) -> Option<u64> {
 }
 
 // Whether the call puts an item in with which no completed call is told to have returned.
-fn is_told_lost(problem: &Problem<AnyObject>, ahead: &KnownAhead, call: usize) -> bool {
-    match item_put(problem, call) {
+fn is_told_lost(calls: &[ProblemCall<Op, Reply>], ahead: &KnownAhead, call: usize) -> bool {
+    match item_put(calls, call) {
         Some(item) => !told_of(&ahead.items, item).taken,
         None => false,
     }
@@ -212,12 +211,12 @@ fn is_told_lost(problem: &Problem<AnyObject>, ahead: &KnownAhead, call: usize) -
 // Whether each call puts a lost item in.
 fn lost_flags(
     alloc: Global,
-    problem: &Problem<AnyObject>,
+    calls: &[ProblemCall<Op, Reply>],
     ahead: &KnownAhead,
 ) -> Result<Vec<bool>, AllocError> {
-    let mut flags = Vec::with_capacity(alloc, problem.len())?;
-    for call in 0..problem.len() {
-        flags.push(is_told_lost(problem, ahead, call))?;
+    let mut flags = Vec::with_capacity(alloc, calls.len())?;
+    for call in 0..calls.len() {
+        flags.push(is_told_lost(calls, ahead, call))?;
     }
     Ok(flags)
 }
@@ -236,11 +235,10 @@ fn taker_flags(alloc: Global, calls: usize, takers: &[usize]) -> Result<Vec<bool
 // Of each call that puts a lost item in, the first that is needed of those that were called after it returned.
 fn behind_row(
     alloc: Global,
-    problem: &Problem<AnyObject>,
+    calls: &[ProblemCall<Op, Reply>],
     ahead: &KnownAhead,
     lost: &[bool],
 ) -> Result<Vec<Option<usize>>, AllocError> {
-    let calls = problem.calls();
     let needed = needed_from(alloc, ahead.needs.by())?;
     let mut row = Vec::with_capacity(alloc, lost.len())?;
     for call in 0..lost.len() {
@@ -298,23 +296,23 @@ impl TakerHints {
     // Those of a problem none of whose calls is lifted.
     pub(crate) fn new(
         alloc: Global,
-        problem: &Problem<AnyObject>,
+        calls: &[ProblemCall<Op, Reply>],
         ahead: &KnownAhead,
     ) -> Result<Self, AllocError> {
         let takers = ahead.takers.len();
         if takers == 0 || takers > MOST_TAKERS {
             return TakerHints::none(alloc);
         }
-        let is_lost = lost_flags(alloc, problem, ahead)?;
-        let behind = behind_row(alloc, problem, ahead, is_lost.as_slice())?;
+        let is_lost = lost_flags(alloc, calls, ahead)?;
+        let behind = behind_row(alloc, calls, ahead, is_lost.as_slice())?;
         Ok(TakerHints {
             alloc,
             in_sight: takers.saturating_add(MORE_CALLS_IN_SIGHT),
-            takers: taker_row(alloc, problem.calls())?,
-            lost: by_returns(alloc, problem.calls(), behind.as_slice())?,
+            takers: taker_row(alloc, calls)?,
+            lost: by_returns(alloc, calls, behind.as_slice())?,
             behind,
             is_lost,
-            is_taker: taker_flags(alloc, problem.len(), ahead.takers.as_slice())?,
+            is_taker: taker_flags(alloc, calls.len(), ahead.takers.as_slice())?,
             lifted: Vec::new(alloc),
             depth: 0,
         })
@@ -331,7 +329,7 @@ impl TakerHints {
     }
 
     // Whether the call puts a lost item in.
-    fn puts_lost(&self, call: usize) -> bool {
+    pub(crate) fn puts_lost(&self, call: usize) -> bool {
         matches!(self.is_lost.get(call), Some(true))
     }
 
@@ -358,21 +356,44 @@ impl TakerHints {
         self.wanting(at(self.behind.as_slice(), call))
     }
 
+    // These calls, and those that are left, put lost items in and returned before the taker was called.
+    pub(crate) fn with_those_before(
+        &self,
+        calls: &[ProblemCall<Op, Reply>],
+        after: &After,
+        lying: &[usize],
+        taker: usize,
+    ) -> Result<Vec<usize>, AllocError> {
+        let mut putters = Vec::from_slice(self.alloc, lying)?;
+        for count in 0..self.in_sight {
+            let Some(call) = self.lost_ahead(count) else {
+                return Ok(putters);
+            };
+            if is_called_by(calls, taker, or_beyond(returned_at(calls, call))) {
+                return Ok(putters);
+            }
+            if is_left(after, call) {
+                putters.push(call)?;
+            }
+        }
+        Ok(putters)
+    }
+
     // The last of the calls whose lost items lie in the queue after the call.
     pub(crate) fn lying(
         &self,
-        problem: &Problem<AnyObject>,
+        calls: &[ProblemCall<Op, Reply>],
         after: &After,
     ) -> Result<Vec<usize>, AllocError> {
         let mut lying = Vec::new(self.alloc);
-        if let Some(item) = item_put(problem, after.call) {
+        if let Some(item) = item_put(calls, after.call) {
             if after.items.has(item) {
                 lying.push(after.call)?;
             }
         }
         for place in (0..self.lifted.len()).rev() {
             let call = self.lifted[place];
-            match item_put(problem, call) {
+            match item_put(calls, call) {
                 Some(item) if after.items.has(item) && lying.len() < self.in_sight => lying.push(
                     call,
                 )?,

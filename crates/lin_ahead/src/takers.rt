@@ -1,28 +1,25 @@
-//! Calls that leave a queue too few dequeues: items that no completed call returned with are taken by dequeues that never
-//! returned, by each one of them at most, and before a call is made that finds them gone.
+//! Calls that leave too few takers: items that no completed call returned with are taken by calls that never returned, by each
+//! one of them at most, and before a call is made that finds them gone. The calls are those on a queue; those on a stack are read
+//! as such.
 
 ghost use Rattle.std.specs.Prelude.{◌≡◌, ◌∷◌, ◌++◌, [], ℤ, length, IfOk, OnOk, IfSome, IsTrue};
-ghost use Rattle.std.specs.Ordering.{int_eq};
-ghost use Rattle.indexmap.specs.IndexMap.{get};
-ghost use Rattle.lin_object.specs.declared.op.Op.TheVariants.{Dequeue};
 ghost use Rattle.lin_object.specs.Items.{is_in};
 ghost use Rattle.lin_history.specs.Problems.Precedence.{Before};
 ghost use Rattle.lin_ahead.specs.AnyProblem.{any_problem};
 ghost use Rattle.lin_ahead.specs.Behind.{AreQueueCalls};
-ghost use Rattle.lin_ahead.specs.ItemCalls.{told, told_in};
 ghost use Rattle.lin_ahead.specs.Queue.{Puts, Took, FoundEmpty};
-ghost use Rattle.lin_ahead.specs.Takers.{is_left, is_left_by, left_from, IsLost, AreLostBefore, GoesBefore, FindsGone, AreFewer, LacksTakers};
+ghost use Rattle.lin_ahead.specs.Takers.{queue_of, is_left, is_left_by, left_from, IsLost, AreLostBefore, GoesBefore, FindsGone, AreTooFew, LacksTakers};
 
 use crate::each_item::told_of;
 use crate::late_pushes::returned_outside;
 use crate::look_ahead::KnownAhead;
 use crate::taker_hints::{TakerHints, TakerWalk};
-use lin_history::Problem;
+use lin_history::{Problem, ProblemCall};
 use lin_object::{AnyObject, Items, Op, Reply};
 use lin_search::Config;
 use std::alloc::{AllocError, Global};
 
-/// A configuration, a call that follows it, and the items that are in the queue after that.
+/// A configuration, a call that follows it, and items that are there after that.
 #[derive(Clone, Copy, Drop)]
 pub(crate) struct After<'a> {
     /// The configuration.
@@ -42,6 +39,15 @@ pub(crate) struct Wanting {
     pub taker: usize,
 }
 
+/// By when items have to be taken.
+#[derive(Clone, Copy, Debug)]
+pub(crate) struct Deadline {
+    /// The call before which they go.
+    pub before: usize,
+    /// The event by which those that take them were called.
+    pub event: u64,
+}
+
 /// Whether the call is still left.
 pub(crate) fn is_left(after: &After, call: usize) -> bool
     ensures { result ≡ is_left after.now.config.now.lifted after.now.call call }
@@ -50,88 +56,93 @@ pub(crate) fn is_left(after: &After, call: usize) -> bool
 }
 
 // Whether the call is still left, and was called by this event.
-fn is_left_by(problem: &Problem<AnyObject>, after: &After, call: usize, event: u64) -> bool
-    ensures { result ≡ is_left_by (any_problem problem.now) after.now.config.now.lifted
+fn is_left_by(calls: &[ProblemCall<Op, Reply>], after: &After, call: usize, event: u64) -> bool
+    ensures { result ≡ is_left_by (queue_of calls.now) after.now.config.now.lifted
         after.now.call event call }
 {
-    is_left(after, call) && call < problem.len() && u64::from(problem.call(call).called) <= event
+    is_left(after, call) && call < calls.len() && u64::from(calls[call].called) <= event
 }
 
 // How many of these calls are still left and were called by this event.
-fn count_left(problem: &Problem<AnyObject>, after: &After, calls: &[usize], event: u64) -> usize
-    ensures { result ≡ left_from (any_problem problem.now) after.now.config.now.lifted
-        after.now.call event 0 calls.now }
+fn count_left(
+    calls: &[ProblemCall<Op, Reply>],
+    after: &After,
+    takers: &[usize],
+    event: u64,
+) -> usize
+    ensures { result ≡ left_from (queue_of calls.now) after.now.config.now.lifted
+        after.now.call event 0 takers.now }
 {
     let mut count = 0;
-    for call in calls {
-        if is_left_by(problem, after, *call, event) {
+    for taker in takers {
+        if is_left_by(calls, after, *taker, event) {
             count += 1;
         }
     }
     count
 }
 
-// The item that the call puts in.
-pub(crate) fn item_put(problem: &Problem<AnyObject>, call: usize) -> Option<i64>
-    ensures { IfSome result (Puts (any_problem problem.now) call) }
+/// The item that the call puts in.
+pub(crate) fn item_put(calls: &[ProblemCall<Op, Reply>], call: usize) -> Option<i64>
+    ensures { IfSome result (Puts (queue_of calls.now) call) }
 {
-    if call >= problem.len() {
+    if call >= calls.len() {
         return None;
     }
-    match &problem.call(call).op {
+    match &calls[call].op {
         Op::Enqueue(item) => Some(*item),
         _ => None,
     }
 }
 
-// The item that the call returned with.
-pub(crate) fn item_taken(problem: &Problem<AnyObject>, call: usize) -> Option<i64>
-    ensures { IfSome result (Took (any_problem problem.now) call) }
+/// The item that the call returned with.
+pub(crate) fn item_taken(calls: &[ProblemCall<Op, Reply>], call: usize) -> Option<i64>
+    ensures { IfSome result (Took (queue_of calls.now) call) }
 {
-    if call >= problem.len() {
+    if call >= calls.len() {
         return None;
     }
-    let made = problem.call(call);
+    let made = &calls[call];
     match (&made.op, &made.returned) {
         (Op::Dequeue, Some((_, Reply::Int(item)))) => Some(*item),
         _ => None,
     }
 }
 
-// Whether the call returned as it found the queue empty.
-fn found_empty(problem: &Problem<AnyObject>, call: usize) -> bool
-    ensures { IsTrue result → FoundEmpty (any_problem problem.now) call }
+/// Whether the call returned as it found none.
+pub(crate) fn found_empty(calls: &[ProblemCall<Op, Reply>], call: usize) -> bool
+    ensures { IsTrue result → FoundEmpty (queue_of calls.now) call }
 {
-    if call >= problem.len() {
+    if call >= calls.len() {
         return false;
     }
-    let made = problem.call(call);
+    let made = &calls[call];
     match (&made.op, &made.returned) {
         (Op::Dequeue, Some((_, Reply::Empty))) => true,
         _ => false,
     }
 }
 
-// Whether the one call returned before the other was called.
-pub(crate) fn is_before(problem: &Problem<AnyObject>, call: usize, other: usize) -> bool
-    ensures { IsTrue result → Before (any_problem problem.now) call other }
+/// Whether the one call returned before the other was called.
+pub(crate) fn is_before(calls: &[ProblemCall<Op, Reply>], call: usize, other: usize) -> bool
+    ensures { IsTrue result → Before (queue_of calls.now) call other }
 {
-    if call >= problem.len() || other >= problem.len() {
+    if call >= calls.len() || other >= calls.len() {
         return false;
     }
-    match &problem.call(call).returned {
-        Some((number, _)) => *number < problem.call(other).called,
+    match &calls[call].returned {
+        Some((number, _)) => *number < calls[other].called,
         None => false,
     }
 }
 
 // The item that the call puts in, where no completed call returned with it.
-fn lost_item(problem: &Problem<AnyObject>, ahead: &KnownAhead, call: usize) -> Option<i64>
-    requires { AreQueueCalls (any_problem problem.now) ahead.now }
-    ensures put { IfSome result (Puts (any_problem problem.now) call) }
-    ensures lost { IfSome result (IsLost (any_problem problem.now)) }
+fn lost_item(calls: &[ProblemCall<Op, Reply>], ahead: &KnownAhead, call: usize) -> Option<i64>
+    requires { AreQueueCalls (queue_of calls.now) ahead.now }
+    ensures put { IfSome result (Puts (queue_of calls.now) call) }
+    ensures lost { IfSome result (IsLost (queue_of calls.now)) }
 {
-    let item = item_put(problem, call)?;
+    let item = item_put(calls, call)?;
     if told_of(&ahead.items, item).taken {
         None
     } else {
@@ -141,17 +152,17 @@ fn lost_item(problem: &Problem<AnyObject>, ahead: &KnownAhead, call: usize) -> O
 
 // Whether the item that the call puts in goes before what the other call puts in.
 fn goes_before(
-    problem: &Problem<AnyObject>,
+    calls: &[ProblemCall<Op, Reply>],
     after: &After,
     item: i64,
     call: usize,
     other: usize,
 ) -> bool
-    requires { Puts (any_problem problem.now) call item }
-    ensures { IsTrue result → GoesBefore (any_problem problem.now)
+    requires { Puts (queue_of calls.now) call item }
+    ensures { IsTrue result → GoesBefore (queue_of calls.now)
         after.now.config.now.lifted after.now.call after.now.items.now other item }
 {
-    after.items.has(item) || (is_left(after, call) && is_before(problem, call, other))
+    after.items.has(item) || (is_left(after, call) && is_before(calls, call, other))
 }
 
 // Whether the item is among these.
@@ -164,22 +175,22 @@ fn is_among(items: &[i64], item: i64) -> bool
 // Puts the item of the call to those found, where it was lost, goes before the other call and is not there yet.
 fn add_lost(
     found: &mut Vec<i64>,
-    problem: &Problem<AnyObject>,
+    calls: &[ProblemCall<Op, Reply>],
     ahead: &KnownAhead,
     after: &After,
     call: usize,
     other: usize,
 ) -> Result<(), AllocError>
-    requires calls { AreQueueCalls (any_problem problem.now) ahead.now }
-    requires found { AreLostBefore (any_problem problem.now) after.now.config.now.lifted
+    requires calls { AreQueueCalls (queue_of calls.now) ahead.now }
+    requires found { AreLostBefore (queue_of calls.now) after.now.config.now.lifted
         after.now.call after.now.items.now other found.old.items }
-    ensures { OnOk result (AreLostBefore (any_problem problem.now)
+    ensures { OnOk result (AreLostBefore (queue_of calls.now)
         after.now.config.now.lifted after.now.call after.now.items.now other found.new.items) }
 {
-    let Some(item) = lost_item(problem, ahead, call) else {
+    let Some(item) = lost_item(calls, ahead, call) else {
         return Ok(());
     };
-    if !is_among(found.as_slice(), item) && goes_before(problem, after, item, call, other) {
+    if !is_among(found.as_slice(), item) && goes_before(calls, after, item, call, other) {
         found.push(item)?;
     }
     Ok(())
@@ -188,41 +199,63 @@ fn add_lost(
 // The items that these calls put in, where they were lost and go before the other call, each once.
 fn lost_before(
     alloc: Global,
-    problem: &Problem<AnyObject>,
+    calls: &[ProblemCall<Op, Reply>],
     ahead: &KnownAhead,
     after: &After,
-    calls: &[usize],
+    putters: &[usize],
     other: usize,
 ) -> Result<Vec<i64>, AllocError>
-    requires { AreQueueCalls (any_problem problem.now) ahead.now }
-    ensures { IfOk result (λ found. AreLostBefore (any_problem problem.now)
+    requires { AreQueueCalls (queue_of calls.now) ahead.now }
+    ensures { IfOk result (λ found. AreLostBefore (queue_of calls.now)
         after.now.config.now.lifted after.now.call after.now.items.now other found.items) }
 {
     let mut found = Vec::new(alloc);
-    for call in calls {
-        add_lost(&mut found, problem, ahead, after, *call, other)?;
+    for call in putters {
+        add_lost(&mut found, calls, ahead, after, *call, other)?;
     }
     Ok(found)
 }
 
+// Whether more of the items that these calls put in have to be taken by the deadline than there are takers.
+pub(crate) fn are_too_few(
+    alloc: Global,
+    calls: &[ProblemCall<Op, Reply>],
+    ahead: &KnownAhead,
+    after: &After,
+    putters: &[usize],
+    deadline: Deadline,
+) -> Result<bool, AllocError>
+    requires { AreQueueCalls (queue_of calls.now) ahead.now }
+    ensures { IfOk result (λ few. IsTrue few → AreTooFew (queue_of calls.now)
+        after.now.config.now.lifted after.now.call after.now.items.now deadline.before
+        deadline.event) }
+{
+    let takers = count_left(calls, after, ahead.takers.as_slice(), deadline.event);
+    if putters.len() <= takers {
+        return Ok(false);
+    }
+    let found = lost_before(alloc, calls, ahead, after, putters, deadline.before)?;
+    Ok(takers < found.len())
+}
+
 // Whether the taker finds all gone that goes before the other call.
 fn finds_gone(
-    problem: &Problem<AnyObject>,
+    calls: &[ProblemCall<Op, Reply>],
     ahead: &KnownAhead,
     items: &Items,
     wanting: Wanting,
 ) -> bool
-    requires { AreQueueCalls (any_problem problem.now) ahead.now }
-    ensures { IsTrue result → FindsGone (any_problem problem.now) items.now wanting.put
+    requires { AreQueueCalls (queue_of calls.now) ahead.now }
+    ensures { IsTrue result → FindsGone (queue_of calls.now) items.now wanting.put
         wanting.taker }
 {
     if wanting.put == wanting.taker {
-        return found_empty(problem, wanting.taker);
+        return found_empty(calls, wanting.taker);
     }
-    let Some(put) = item_put(problem, wanting.put) else {
+    let Some(put) = item_put(calls, wanting.put) else {
         return false;
     };
-    let Some(taken) = item_taken(problem, wanting.taker) else {
+    let Some(taken) = item_taken(calls, wanting.taker) else {
         return false;
     };
     if put != taken {
@@ -240,7 +273,7 @@ fn lacks_takers_for(
     problem: &Problem<AnyObject>,
     ahead: &KnownAhead,
     after: &After,
-    calls: &[usize],
+    putters: &[usize],
     wanting: Wanting,
 ) -> Result<bool, AllocError>
     requires { AreQueueCalls (any_problem problem.now) ahead.now }
@@ -253,12 +286,15 @@ fn lacks_takers_for(
     let Some(event) = returned_outside(problem, after.config, wanting.taker) else {
         return Ok(false);
     };
-    let takers = count_left(problem, after, ahead.takers.as_slice(), event);
-    if calls.len() <= takers || !finds_gone(problem, ahead, after.items, wanting) {
+    let calls = problem.calls();
+    if !finds_gone(calls, ahead, after.items, wanting) {
         return Ok(false);
     }
-    let found = lost_before(alloc, problem, ahead, after, calls, wanting.put)?;
-    Ok(takers < found.len())
+    let deadline = Deadline {
+        before: wanting.put,
+        event,
+    };
+    are_too_few(alloc, calls, ahead, after, putters, deadline)
 }
 
 /// Whether it is known that with the call too few dequeues are left for what must be taken out of the queue.
@@ -273,17 +309,18 @@ pub(crate) fn lacks_takers(
     ensures { IfOk result (λ lacks. IsTrue lacks → LacksTakers (any_problem problem.now)
         after.now.config.now.lifted after.now.call after.now.items.now) }
 {
-    let mut calls = hints.lying(problem, after)?;
+    let calls = problem.calls();
+    let mut putters = hints.lying(calls, after)?;
     let mut walk = TakerWalk::new();
     if let Some(wanting) = hints.wanting(next_needed) {
-        walk.go_to(problem, ahead.takers.as_slice(), after, wanting);
-        if walk.left() < calls.len() {
+        walk.go_to(calls, ahead.takers.as_slice(), after, wanting);
+        if walk.left() < putters.len() {
             if lacks_takers_for(
                 hints.alloc(),
                 problem,
                 ahead,
                 after,
-                calls.as_slice(),
+                putters.as_slice(),
                 wanting,
             )? {
                 return Ok(true);
@@ -297,18 +334,18 @@ pub(crate) fn lacks_takers(
         if !is_left(after, call) {
             continue;
         }
-        calls.push(call)?;
+        putters.push(call)?;
         let Some(wanting) = hints.wanting_behind(call) else {
             return Ok(false);
         };
-        walk.go_to(problem, ahead.takers.as_slice(), after, wanting);
-        if walk.left() < calls.len() {
+        walk.go_to(calls, ahead.takers.as_slice(), after, wanting);
+        if walk.left() < putters.len() {
             if lacks_takers_for(
                 hints.alloc(),
                 problem,
                 ahead,
                 after,
-                calls.as_slice(),
+                putters.as_slice(),
                 wanting,
             )? {
                 return Ok(true);

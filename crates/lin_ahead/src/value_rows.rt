@@ -250,6 +250,7 @@ pub(crate) fn told_of_register(
         taken: Vec::new(alloc),
         takers: Vec::new(alloc),
         items: IndexMap::new(alloc),
+        on_queue: Vec::new(alloc),
         owed: Vec::new(alloc),
         held: found_single_row(alloc, &values, calls)?,
         in_vain,

@@ -40,13 +40,13 @@ pub returns-in_ok-told_of_stack-in-Stack-clause-right :
 returns-in_ok-told_of_stack-in-Stack-clause-right c =
     let start : c.args.problem.now.start ≡ Stack [] = search rules in
     let tells = c.in_ok-told_of_stack-in-Stack.ensures in
-    stack_right c.args.problem.now start _ (rw c.calls-calls.ensures.calls at tells.by) (rw c.calls-calls.ensures.calls at tells.from) tells.taken tells.takers (rw c.calls-calls.ensures.calls at tells.owed) tells.held tells.in_vain (rw c.calls-calls.ensures.calls at tells.late) c.calls-calls.ensures.timed
+    stack_right c.args.problem.now start _ (rw c.calls-calls.ensures.calls at tells.by) (rw c.calls-calls.ensures.calls at tells.from) tells.taken (rw c.calls-calls.ensures.calls at tells.takers) (rw c.calls-calls.ensures.calls at tells.owed) tells.held tells.in_vain (rw c.calls-calls.ensures.calls at tells.late) c.calls-calls.ensures.timed (rw c.calls-calls.ensures.calls at tells.on_queue) (rw c.calls-calls.ensures.calls at tells.items)
 
 pub returns-in_ok-told_of_stack-in-Stack-clause-told_of_stack :
     goal.returns-in_ok-told_of_stack-in-Stack-clause-told_of_stack
 returns-in_ok-told_of_stack-in-Stack-clause-told_of_stack c = λ start.
     (let tells = c.in_ok-told_of_stack-in-Stack.ensures in
-    stack_told (any_problem c.args.problem.now) _ (rw c.calls-calls.ensures.calls at tells.from) tells.taken tells.takers (rw c.calls-calls.ensures.calls at tells.owed) tells.held tells.in_vain (rw c.calls-calls.ensures.calls at tells.late))
+    stack_told (any_problem c.args.problem.now) _ (rw c.calls-calls.ensures.calls at tells.from) tells.taken (rw c.calls-calls.ensures.calls at tells.takers) (rw c.calls-calls.ensures.calls at tells.owed) tells.held tells.in_vain (rw c.calls-calls.ensures.calls at tells.late))
 
 pub returns-in-Map-clause-right : goal.returns-in-Map-clause-right
 returns-in-Map-clause-right c =

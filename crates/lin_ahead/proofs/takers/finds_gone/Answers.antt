@@ -1,5 +1,5 @@
 use Rattle.std.proofs.Common.{sym, ◌∙◌, ap, rules}
-use Rattle.lin_ahead.specs.AnyProblem.{any_problem}
+use Rattle.lin_ahead.specs.Takers.{queue_of}
 use Rattle.lin_ahead.specs.ItemCalls.{goes_in_once}
 use Rattle.lin_ahead.specs.declared.item_calls.ItemCalls.{ItemCalls}
 use Rattle.lin_ahead.proofs.TakerLemmas.{finds_is}
@@ -7,4 +7,4 @@ use Rattle.lin_ahead.proofs.takers.finds_gone.Goals as goal
 
 pub returns : goal.returns
 returns c = λ once.
-    finds_is (any_problem c.args.problem.now) c.args.items.now c.args.wanting.put c.args.wanting.taker c.in-Some.put c.in-Some-item_taken.taken _ _ c.in-Some.ensures c.in-Some-item_taken.ensures (search rules) (search rules) c.has.ensures c.if-has.false (ap (λ (t : ItemCalls). goes_in_once t.putters) (sym (c.requires.0 _) ∙ sym c.told_of.ensures) ∙ sym c.goes_in_once.ensures ∙ once)
+    finds_is (queue_of c.args.calls.now) c.args.items.now c.args.wanting.put c.args.wanting.taker c.in-Some.put c.in-Some-item_taken.taken _ _ c.in-Some.ensures c.in-Some-item_taken.ensures (search rules) (search rules) c.has.ensures c.if-has.false (ap (λ (t : ItemCalls). goes_in_once t.putters) (sym (c.requires.0 _) ∙ sym c.told_of.ensures) ∙ sym c.goes_in_once.ensures ∙ once)

@@ -1,10 +1,17 @@
 use Rattle.std.proofs.Common.{◌≡◌, [], rules}
-use Rattle.lin_object.specs.declared.state.ObjState.TheVariants.{Queue}
+use Rattle.lin_object.specs.declared.state.ObjState.TheVariants.{Queue, Stack}
 use Rattle.lin_ahead.proofs.AnyLemmas.{of_any}
+use Rattle.lin_ahead.specs.AnyProblem.{any_problem}
+use Rattle.lin_ahead.proofs.PopLemmas.{known_pops}
+use Rattle.lin_ahead.proofs.StackRowLemmas.{exact_any}
 use Rattle.lin_ahead.proofs.TakerLemmas.{known_few}
 use Rattle.lin_ahead.proofs.first_search.FirstSearch.leaves_few_takers.Goals as goal
 
 pub returns-in-Queue-Queue : goal.returns-in-Queue-Queue
 returns-in-Queue-Queue c =
     let start : c.args.self.now.path.entries.problem.start ≡ Queue [] = search rules in
-    known_few (of_any c.args.self.now.path.entries.problem [] start) c.args.self.now.path.config.lifted c.args.self.now.path.config.state c.args.call c.args.state.now _ c.requires.next (search rules) c.lacks_takers.result (rw (c.problem-problem.ensures, c.config.ensures) at c.lacks_takers.ensures)
+    known_few (of_any c.args.self.now.path.entries.problem [] start) c.args.self.now.path.config.lifted c.args.self.now.path.config.state c.args.call c.args.state.now _ c.requires.next (search rules) c.lacks_takers.result (rw (c.problem-problem.ensures, c.config-config.ensures) at c.lacks_takers.ensures)
+
+pub returns-in-Stack-Stack : goal.returns-in-Stack-Stack
+returns-in-Stack-Stack c =
+    known_pops (any_problem c.args.self.now.path.entries.problem) (exact_any c.args.self.now.path.entries.problem) c.args.self.now.path.config.lifted c.args.self.now.path.config.state c.args.call c.args.state.now _ c.requires.next (search rules) c.lacks_pops.result (rw (c.problem-problem.ensures, c.config-config.ensures) at c.lacks_pops.ensures)

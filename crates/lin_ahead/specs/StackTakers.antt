@@ -1,0 +1,32 @@
+-- Configurations of a stack that leave too few pops for what must be taken off it (this project's own).
+use Rattle.std.specs.Prelude.{◌≡◌, ◌≢◌, ℕ, ℤ, Bool, false, List, ◌∷◌, ◌++◌, ◌⊎◌}
+use Rattle.lin_object.specs.declared.op.Op.{Op}
+use Rattle.lin_object.specs.declared.reply.Reply.{Reply}
+use Rattle.lin_object.specs.declared.state.ObjState.{ObjState}
+use Rattle.lin_history.specs.Problems.Problem.{Problem}
+use Rattle.lin_ahead.specs.Late.{ReturnsOutside}
+use Rattle.lin_ahead.specs.Queue.{Item, Puts, Took, FoundEmpty}
+use Rattle.lin_ahead.specs.Takers.{queue_of, is_left, AreTooFew}
+use Rattle.lin_ahead.specs.ToldOfStack.{exchanged_calls}
+
+-- These lie above the item, which is there once.
+abbrev pub LieAbove : List ℤ → ℤ → List ℤ → Type 0
+LieAbove items w above = (below : List ℤ) × (items ≡ above ++ w ∷ below) × (Item w above → ⊥) × (Item w below → ⊥)
+
+module _ (p : Problem ObjState Op Reply) (set : List Bool) (c : ℕ) where
+  -- Call z returned with the item, which no call that is left puts in.
+  abbrev pub TookLifted : ℕ → ℤ → Type 0
+  TookLifted z w = Took p z w × ((d : ℕ) → Puts p d w → is_left set c d ≡ false)
+
+  -- Call z finds these of the items on the stack gone: all, where it found none; or those that lie above what it returned with.
+  abbrev pub FindsGoneAbove : List ℤ → ℕ → List ℤ → Type 0
+  FindsGoneAbove items z gone = (FoundEmpty p z × (gone ≡ items)) ⊎ ((w : ℤ) × TookLifted z w × LieAbove items w gone)
+
+-- The problem of the calls of a stack, read as those on a queue.
+abbrev pub on_queue : Problem ObjState Op Reply → Problem ObjState Op Reply
+on_queue p = queue_of (exchanged_calls p.calls)
+
+-- With call c added to the set, and these items on the stack then, more items must be taken by pops that are pending than there
+-- are such pops: a call that is left finds them gone, and fewer were called by its return.
+abbrev pub LacksPops : Problem ObjState Op Reply → List Bool → ℕ → List ℤ → Type 0
+LacksPops p set c items = (gone : List ℤ) × (z m : ℕ) × ReturnsOutside p set z m × (z ≢ c) × FindsGoneAbove (on_queue p) set c items z gone × AreTooFew (on_queue p) set c gone z m

@@ -1,0 +1,207 @@
+//! Calls that leave too few pops that are pending for what must be taken off a stack. The calls are read as those on a queue.
+
+ghost use Rattle.std.specs.Prelude.{IfOk, IfSome, IsTrue};
+ghost use Rattle.lin_ahead.specs.AnyProblem.{any_problem};
+ghost use Rattle.lin_ahead.specs.Behind.{AreQueueCalls, AreStackCalls};
+ghost use Rattle.lin_ahead.specs.Takers.{queue_of};
+ghost use Rattle.lin_ahead.specs.StackTakers.{LieAbove, TookLifted, FindsGoneAbove, LacksPops};
+
+use crate::each_item::told_of;
+use crate::late_pushes::returned_outside;
+use crate::look_ahead::KnownAhead;
+use crate::stack_hints::StackHints;
+use crate::taker_hints::{TakerHints, TakerWalk};
+use crate::takers::{
+    After, Deadline, Wanting, are_too_few, found_empty, is_left, item_put, item_taken,
+};
+use lin_history::{Problem, ProblemCall};
+use lin_object::{AnyObject, Items, Op, Reply};
+use std::alloc::{AllocError, Global};
+
+// How many items are looked through at most: each step copies those that are left.
+const MOST_ABOVE: usize = 256;
+
+// The items that lie above this one, where it lies there once.
+fn items_above(alloc: Global, items: &Items, item: i64) -> Result<Option<Items>, AllocError>
+    ensures { IfOk result (λ above. IfSome above (LieAbove items.now item)) }
+{
+    let mut above = Items::none(alloc);
+    let mut rest = items.copy(alloc)?;
+    for _ in 0..MOST_ABOVE {
+        let Some(first) = rest.first() else {
+            return Ok(None);
+        };
+        rest = rest.without_first(alloc)?;
+        if first == item {
+            if rest.has(item) {
+                return Ok(None);
+            }
+            return Ok(Some(above));
+        }
+        above = above.with_last(alloc, first)?;
+    }
+    Ok(None)
+}
+
+// The item with which the taker returned, where the other call alone puts it in, and is not left.
+fn item_lifted(
+    calls: &[ProblemCall<Op, Reply>],
+    ahead: &KnownAhead,
+    after: &After,
+    wanting: Wanting,
+) -> Option<i64>
+    requires { AreQueueCalls (queue_of calls.now) ahead.now }
+    ensures { IfSome result (TookLifted (queue_of calls.now) after.now.config.now.lifted
+        after.now.call wanting.taker) }
+{
+    let put = item_put(calls, wanting.put)?;
+    let taken = item_taken(calls, wanting.taker)?;
+    if put == taken && !is_left(after, wanting.put) && told_of(&ahead.items, put).goes_in_once() {
+        Some(taken)
+    } else {
+        None
+    }
+}
+
+// The items that the taker finds gone: all, where it found none, or those above what it returned with.
+fn items_gone(
+    alloc: Global,
+    calls: &[ProblemCall<Op, Reply>],
+    ahead: &KnownAhead,
+    after: &After,
+    wanting: Wanting,
+) -> Result<Option<Items>, AllocError>
+    requires { AreQueueCalls (queue_of calls.now) ahead.now }
+    ensures { IfOk result (λ gone. IfSome gone (FindsGoneAbove (queue_of calls.now)
+        after.now.config.now.lifted after.now.call after.now.items.now wanting.taker)) }
+{
+    if wanting.put == wanting.taker && found_empty(calls, wanting.taker) {
+        return Ok(Some(after.items.copy(alloc)?));
+    }
+    match item_lifted(calls, ahead, after, wanting) {
+        Some(item) => items_above(alloc, after.items, item),
+        None => Ok(None),
+    }
+}
+
+// Whether more of the items that these calls put in must be taken before the wanting call than there are takers.
+fn lacks_pops_for(
+    alloc: Global,
+    problem: &Problem<AnyObject>,
+    ahead: &KnownAhead,
+    after: &After,
+    putters: &[usize],
+    wanting: Wanting,
+) -> Result<bool, AllocError>
+    requires { AreStackCalls (any_problem problem.now) ahead.now }
+    ensures { IfOk result (λ lacks. IsTrue lacks → LacksPops (any_problem problem.now)
+        after.now.config.now.lifted after.now.call after.now.items.now) }
+{
+    if wanting.taker == after.call {
+        return Ok(false);
+    }
+    let Some(event) = returned_outside(problem, after.config, wanting.taker) else {
+        return Ok(false);
+    };
+    let calls = ahead.on_queue.as_slice();
+    let Some(items) = items_gone(alloc, calls, ahead, after, wanting)? else {
+        return Ok(false);
+    };
+    let gone = After {
+        config: after.config,
+        call: after.call,
+        items: &items,
+    };
+    let deadline = Deadline {
+        before: wanting.taker,
+        event,
+    };
+    are_too_few(alloc, calls, ahead, &gone, putters, deadline)
+}
+
+// Whether the hints say so, and it is known then. `lying` are the calls whose items lie above what the taker returned with.
+fn lacks_pops_by(
+    problem: &Problem<AnyObject>,
+    ahead: &KnownAhead,
+    hints: &TakerHints,
+    after: &After,
+    lying: &[usize],
+    wanting: Wanting,
+) -> Result<bool, AllocError>
+    requires { AreStackCalls (any_problem problem.now) ahead.now }
+    ensures { IfOk result (λ lacks. IsTrue lacks → LacksPops (any_problem problem.now)
+        after.now.config.now.lifted after.now.call after.now.items.now) }
+{
+    let calls = ahead.on_queue.as_slice();
+    let putters = hints.with_those_before(calls, after, lying, wanting.taker)?;
+    let mut walk = TakerWalk::new();
+    walk.go_to(calls, ahead.takers.as_slice(), after, wanting);
+    if putters.len() <= walk.left() {
+        return Ok(false);
+    }
+    lacks_pops_for(
+        hints.alloc(),
+        problem,
+        ahead,
+        after,
+        putters.as_slice(),
+        wanting,
+    )
+}
+
+// The same for the call that popped the item of this push.
+fn lacks_pops_over(
+    problem: &Problem<AnyObject>,
+    ahead: &KnownAhead,
+    hints: &TakerHints,
+    after: &After,
+    lying: &[usize],
+    push: Option<usize>,
+) -> Result<bool, AllocError>
+    requires { AreStackCalls (any_problem problem.now) ahead.now }
+    ensures { IfOk result (λ lacks. IsTrue lacks → LacksPops (any_problem problem.now)
+        after.now.config.now.lifted after.now.call after.now.items.now) }
+{
+    match hints.wanting(push) {
+        Some(wanting) => lacks_pops_by(problem, ahead, hints, after, lying, wanting),
+        None => Ok(false),
+    }
+}
+
+/// Whether it is known that with the call too few pops are left for what must be taken off the stack.
+pub(crate) fn lacks_pops(
+    problem: &Problem<AnyObject>,
+    ahead: &KnownAhead,
+    hints: &TakerHints,
+    stack: &StackHints,
+    after: &After,
+) -> Result<bool, AllocError>
+    requires { AreStackCalls (any_problem problem.now) ahead.now }
+    ensures { IfOk result (λ lacks. IsTrue lacks → LacksPops (any_problem problem.now)
+        after.now.config.now.lifted after.now.call after.now.items.now) }
+{
+    let mut lying = Vec::new(hints.alloc());
+    if hints.puts_lost(after.call) {
+        lying.push(after.call)?;
+    }
+    let mut push = stack.under_call(after.call);
+    for _ in 0..hints.in_sight() {
+        let first = stack.first_popped_from(push);
+        if lacks_pops_over(problem, ahead, hints, after, lying.as_slice(), first)? {
+            return Ok(true);
+        }
+        let Some(lost) = stack.first_lost_from(push) else {
+            break;
+        };
+        lying.push(lost)?;
+        push = stack.under(lost);
+    }
+    lacks_pops_over(
+        problem,
+        ahead,
+        hints,
+        after,
+        lying.as_slice(),
+        stack.first_empty(),
+    )
+}
