@@ -24,6 +24,8 @@ use crate::needed_calls::{left_out, needed_in_turn};
 use crate::owed_replies::{is_owed, owed_in_turn, pending_answer};
 use crate::refuted_set::RefutedSet;
 use crate::stack_hints::StackHints;
+use crate::sum_hints::SumHints;
+use crate::sums::is_over;
 use crate::taker_hints::TakerHints;
 use crate::takers::{After, lacks_takers};
 use lin_history::{Order, Problem};
@@ -44,6 +46,7 @@ struct FirstSearch<'p> {
     held: Finders,
     stack: StackHints,
     takers: TakerHints,
+    sums: SumHints,
     lifts: u64,
 }
 
@@ -81,6 +84,7 @@ impl<'p> FirstSearch<'p> {
         self.held.unlifted(frame.call());
         self.stack.unlifted(frame.call());
         self.takers.unlifted(frame.call());
+        self.sums.unlifted(frame.call());
         Ok(self.path.after(frame.call(), Longest::none()).candidate)
     }
 
@@ -101,6 +105,7 @@ impl<'p> FirstSearch<'p> {
         self.held.lifted(self.path.config(), frame.call());
         self.stack.lifted(self.path.config(), frame.call());
         self.takers.lifted(self.path.config(), frame.call())?;
+        self.sums.lifted(frame.call())?;
         if self.refuted.has(self.path.config()) {
             let mut left = frame;
             let next = self.leave(&mut left)?;
@@ -177,6 +182,21 @@ impl<'p> FirstSearch<'p> {
         is_late(problem, &ahead.late, &self.stack, self.path.config(), call)
     }
 
+    // Whether the call is known to add more than a `get` has room for.
+    fn adds_too_much(&self, ahead: &KnownAhead, call: usize) -> bool
+        requires ahead { IsRightAhead (any_problem
+            self.now.path.entries.problem) ahead.now }
+        requires reachable { IsReachable (any_problem
+            self.now.path.entries.problem) self.now.path.config.lifted self.now.path.config.state }
+        ensures { IsTrue result → BeginsNone
+            (any_problem self.now.path.entries.problem)
+            self.now.path.config.lifted self.now.path.config.state call }
+    {
+        lawful::<AnyObject>();
+        let problem = self.path.problem();
+        is_over(problem, &ahead.sums, &self.sums, self.path.config(), call)
+    }
+
     // Whether the call, which is minimal, is known to begin no completion: it needs one that is not lifted, is a push that is
     // too late, or would take a reply that is owed to another.
     fn begins_none(&self, ahead: &KnownAhead, call: usize) -> Result<bool, AllocError>
@@ -193,7 +213,7 @@ impl<'p> FirstSearch<'p> {
         if left_out(self.path.problem(), ahead, &self.needed, config, call).is_some() {
             return Ok(true);
         }
-        if self.comes_too_late(ahead, call) {
+        if self.comes_too_late(ahead, call) || self.adds_too_much(ahead, call) {
             return Ok(true);
         }
         self.takes_what_is_owed(ahead, call)
@@ -490,6 +510,7 @@ pub fn search_first(
         held: Finders::new(alloc, &ahead.values)?,
         stack: StackHints::new(alloc, problem, &ahead.late)?,
         takers: TakerHints::new(alloc, problem, ahead)?,
+        sums: SumHints::new(alloc, problem, ahead)?,
         lifts: 0,
     };
     search.go(ahead, lifts)

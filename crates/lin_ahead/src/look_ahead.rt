@@ -22,6 +22,7 @@ use crate::key_value::{NOTHING, calls_on_value, of_one_key};
 use crate::late_pushes::LateRows;
 use crate::numbers::{by_of, from_of, is_taker, taken_of, took_once};
 use crate::stack_rows::told_of_stack;
+use crate::sum_rows::{SumRows, told_of_counter};
 use crate::value_rows::told_of_register;
 use indexmap::IndexMap;
 use lin_history::{NeedRows, Problem, ProblemCall};
@@ -136,6 +137,8 @@ pub struct KnownAhead {
     pub values: ValueNumbers,
     /// What is known of each call on a stack, by which a search finds pushes that are too late.
     pub late: LateRows,
+    /// What is known of each call on a counter, by which a search finds adds that are too much.
+    pub sums: SumRows,
 }
 
 // What these calls tell, on a queue that starts empty.
@@ -167,6 +170,7 @@ fn told_of_queue(alloc: Global, calls: &[ProblemCall<Op, Reply>]) -> Result<Know
         in_vain: false,
         values: ValueNumbers::none(alloc),
         late: LateRows::none(alloc),
+        sums: SumRows::none(alloc),
     })
 }
 
@@ -224,6 +228,7 @@ pub fn known_ahead(
         ObjState::Queue(items) if is_empty(items) => Ok(Some(told_of_queue(alloc, calls)?)),
         ObjState::Stack(items) if is_empty(items) => Ok(Some(told_of_stack(alloc, calls)?)),
         ObjState::Register(start) => Ok(Some(told_of_register(alloc, start, calls)?)),
+        ObjState::Counter(start) => Ok(Some(told_of_counter(alloc, problem, *start)?)),
         ObjState::Map(_) if is_empty_map(alloc, problem.start()) => told_of_key(alloc, calls),
         _ => Ok(None),
     }

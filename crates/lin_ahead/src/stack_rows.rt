@@ -13,6 +13,7 @@ use crate::call_values::ValueNumbers;
 use crate::each_item::{told_by_calls, told_of};
 use crate::item_calls::ItemCalls;
 use crate::late_pushes::LateRows;
+use crate::sum_rows::SumRows;
 use crate::look_ahead::{KnownAhead, from_row, once_row};
 use indexmap::IndexMap;
 use lin_history::{NeedRows, ProblemCall};
@@ -202,5 +203,6 @@ pub(crate) fn told_of_stack(
         in_vain: false,
         values: ValueNumbers::none(alloc),
         late: late_rows(alloc, &items, exchanged.as_slice(), calls)?,
+        sums: SumRows::none(alloc),
     })
 }

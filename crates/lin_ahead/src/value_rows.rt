@@ -12,6 +12,7 @@ use crate::call_values::{CallValues, ValueNumbers};
 use crate::each_value::{told_of_value, values_told};
 use crate::item_calls::BEYOND;
 use crate::late_pushes::LateRows;
+use crate::sum_rows::SumRows;
 use crate::look_ahead::KnownAhead;
 use crate::needed_pairs::{CallNumbers, some_pair};
 use crate::value_calls::{ValueCalls, value_found, value_written};
@@ -255,5 +256,6 @@ pub(crate) fn told_of_register(
         in_vain,
         values: value_numbers(alloc, &values, calls)?,
         late: LateRows::none(alloc),
+        sums: SumRows::none(alloc),
     })
 }
