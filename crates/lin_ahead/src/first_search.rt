@@ -198,7 +198,7 @@ impl<'p> FirstSearch<'p> {
     }
 
     // Whether the call, which is minimal, is known to begin no completion: it needs one that is not lifted, is a push that is
-    // too late, or would take a reply that is owed to another.
+    // too late, adds more than a `get` has room for, or would take a reply that is owed to another.
     fn begins_none(&self, ahead: &KnownAhead, call: usize) -> Result<bool, AllocError>
         requires ahead { IsRightAhead (any_problem
             self.now.path.entries.problem) ahead.now }
@@ -213,7 +213,10 @@ impl<'p> FirstSearch<'p> {
         if left_out(self.path.problem(), ahead, &self.needed, config, call).is_some() {
             return Ok(true);
         }
-        if self.comes_too_late(ahead, call) || self.adds_too_much(ahead, call) {
+        if self.comes_too_late(ahead, call) {
+            return Ok(true);
+        }
+        if self.adds_too_much(ahead, call) {
             return Ok(true);
         }
         self.takes_what_is_owed(ahead, call)

@@ -2,7 +2,7 @@
 //! hint.
 
 use crate::look_ahead::KnownAhead;
-use crate::sum_rows::{SumLimit, share_of};
+use crate::sum_rows::SumLimit;
 use crate::sum_tree::SumTree;
 use lin_history::Problem;
 use lin_object::{AnyObject, Op};
@@ -63,7 +63,7 @@ fn rooms(
     let mut rooms = Vec::with_capacity(alloc, gets.len())?;
     for get in gets {
         let room = match row.get(*get) {
-            Some(Some(limit)) => (limit.most as i128).wrapping_sub(limit.least as i128) as i64,
+            Some(Some(limit)) => limit.most.saturating_sub(limit.least).min(1 << 60) as i64,
             _ => 0,
         };
         rooms.push(room)?;

@@ -29,6 +29,15 @@ fn joined(first: Node, second: Node) -> Node {
     }
 }
 
+// The one found, or the other with so much room behind it, which has less.
+fn lesser(found: Option<Node>, other: Node, behind: i64) -> Option<Node> {
+    let least = other.least.saturating_add(behind);
+    match found {
+        Some(node) if node.least <= least => found,
+        _ => Some(Node { least, ..other }),
+    }
+}
+
 // A tree over so many places: that of a node has those of its two children.
 #[derive(Drop)]
 pub(crate) struct SumTree {
@@ -42,9 +51,9 @@ impl SumTree {
     pub(crate) fn new(alloc: Global, rooms: &[i64]) -> Result<Self, AllocError> {
         let mut levels = 0;
         let mut leaves: usize = 1;
-        for _ in 0..32 {
+        for level in 0..32 {
             if leaves < rooms.len() {
-                levels += 1;
+                levels = level + 1;
                 leaves = leaves.saturating_mul(2);
             }
         }
@@ -124,36 +133,39 @@ impl SumTree {
         self.join_above(place);
     }
 
+    // The place before this one that has the least room, in a node of its own.
+    fn least(&self, before: usize) -> Option<Node> {
+        if before >= self.leaves {
+            return self.nodes.get(1).copied();
+        }
+        let mut found: Option<Node> = None;
+        let mut node: usize = 1;
+        let mut half = self.leaves / 2;
+        let mut left = before;
+        let mut behind: i64 = 0;
+        for _ in 0..self.levels {
+            let first = *self.nodes.get(node.saturating_mul(2))?;
+            let second = *self.nodes.get(node.saturating_mul(2).saturating_add(1))?;
+            node = node.saturating_mul(2);
+            if left < half {
+                behind = behind.wrapping_add(second.sum);
+            } else {
+                left -= half;
+                node = node.saturating_add(1);
+                found = lesser(found, first, second.sum.wrapping_add(behind));
+            }
+            half /= 2;
+        }
+        found
+    }
+
     // A place before this one with less room than so much.
     pub(crate) fn narrow(&self, before: usize, room: i64) -> Option<usize> {
-        let mut best = Node {
-            sum: 0,
-            least: BEYOND,
-            place: 0,
-        };
-        if before >= self.leaves {
-            best = *self.nodes.get(1)?;
+        let node = self.least(before)?;
+        if node.least < room {
+            Some(node.place)
         } else {
-            let mut node: usize = 1;
-            let mut behind: i64 = 0;
-            for level in (0..self.levels).rev() {
-                let first = *self.nodes.get(node.saturating_mul(2))?;
-                let second = *self.nodes.get(node.saturating_mul(2).saturating_add(1))?;
-                node = node.saturating_mul(2);
-                if (before >> level) & 1 == 0 {
-                    behind = behind.wrapping_add(second.sum);
-                } else {
-                    node = node.saturating_add(1);
-                    let least = first
-                        .least
-                        .saturating_add(second.sum.wrapping_add(behind));
-                    if least < best.least {
-                        best.least = least;
-                        best.place = first.place;
-                    }
-                }
-            }
+            None
         }
-        if best.least < room { Some(best.place) } else { None }
     }
 }
