@@ -18,15 +18,11 @@ use Rattle.lin_history.specs.Problems.LegalLists.{fits, state_if_fits, after_cal
 use Rattle.lin_history.specs.Problems.Precedence.{Before, IsCompleted}
 use Rattle.lin_history.specs.Problems.Continuations.{has}
 use Rattle.lin_history.specs.Problems.Linearizations.{IsLinearization}
-use Rattle.lin_history.specs.Problems.Configurations.{IsReachable}
-use Rattle.lin_search.specs.AlikeLemmas.{AreAlike}
 use Rattle.lin_search.specs.CallSetLemmas.{no_calls_has}
 use Rattle.lin_ahead.specs.declared.sum_rows.SumLimit.{SumLimit}
 use Rattle.lin_ahead.specs.declared.sum_rows.SumRows.{SumRows}
-use Rattle.lin_ahead.specs.FirstProgress.{BeginsNone}
 use Rattle.lin_ahead.specs.Sums.{share_in, share_of, share_of_call, total, sum_of_shares, IsSumOfAll, MayStandBefore, Got, IsLimit, AreLimits, row_of, IsLoad, IsOver, NoneIsOver}
 use Rattle.lin_ahead.proofs.ChainLemmas.{legal_split}
-use Rattle.lin_ahead.proofs.NeedsLemmas.{joined}
 use Rattle.lin_ahead.proofs.PlaceLemmas.{not_in_front}
 use Rattle.lin_ahead.proofs.StackLemmas.{IsExact}
 
@@ -275,17 +271,3 @@ module _ (p : Problem ObjState Op Reply) (exact : IsExact p) where
           let few = within_limit start starts l early rest c set whole eq set_is up is.get is.limit (limit_is up there) is.outside is.other is.load load in
           let more = is.more in
           absurd (omega (arith, few, more))
-
-module _ (p : Problem ObjState Op Reply) where
-  -- no completion of a reachable configuration begins with a call that is too much
-  pub over_begins_none : AreAlike p p → (rows : SumRows) → NoneIsOver p rows → (set : List Bool) (s : ObjState) → IsReachable p set s → (c : ℕ) → IsOver p rows set c → BeginsNone p set s c
-  over_begins_none alike rows never set s k c is cs h =
-      never (k.run.0 ++ c ∷ cs) k.run.0 cs c set (joined p alike set s k (c ∷ cs) h) refl k.run.2 is
-
-  -- where no limit is known no call is too much
-  pub nothing_over : (rows : SumRows) → rows.up.items ≡ [] → rows.down.items ≡ [] → NoneIsOver p rows
-  nothing_over rows ups downs l early rest c set whole eq set_is is = go is.up is.there
-    where
-      go : (up : Bool) → slice_get (row_of rows up) is.get ≡ Some (Some is.limit) → ⊥
-      go true e = let f : slice_get [] is.get ≡ Some (Some is.limit) = subst (λ (m : List (Option SumLimit)). slice_get m is.get ≡ Some (Some is.limit)) ups e in absurd (cc)
-      go false e = let f : slice_get [] is.get ≡ Some (Some is.limit) = subst (λ (m : List (Option SumLimit)). slice_get m is.get ≡ Some (Some is.limit)) downs e in absurd (cc)

@@ -17,6 +17,7 @@ use Rattle.lin_ahead.specs.Owed.{AreOwed}
 use Rattle.lin_ahead.specs.Held.{AreHeldUntil}
 use Rattle.lin_ahead.specs.Late.{NoneIsLate}
 use Rattle.lin_ahead.specs.ToldAhead.{takers_from}
+use Rattle.lin_ahead.specs.Sums.{NoneIsOver}
 
 -- Call b needs call a behind the set: wherever b stands in a linearization, with no call of the set behind it, a stands before it.
 abbrev pub NeedsBehind : {State Op Reply : Type 0} → Problem State Op Reply → List Bool → ℕ → ℕ → Type 0
@@ -52,5 +53,6 @@ pub record IsRightAhead (p : Problem ObjState Op Reply) (ahead : KnownAhead) : T
   pub owed : AreOwed p ahead.owed.items
   pub held : AreHeldUntil p ahead.held.items
   pub late : NoneIsLate p ahead.late
+  pub sums : NoneIsOver p ahead.sums
   pub queue : p.start ≡ Queue [] → AreQueueCalls p ahead
   pub in_vain : IsTrue ahead.in_vain → (l : List ℕ) → IsLinearization p l → ⊥

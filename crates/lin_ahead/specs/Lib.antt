@@ -18,3 +18,5 @@ pub mod Stack
 pub mod ToldOfStack
 pub mod Late
 pub mod Takers
+pub mod Sums
+pub mod ToldOfCounter

@@ -85,6 +85,10 @@ abbrev pub row_of : SumRows → Bool → List (Option SumLimit)
 row_of rows true = rows.up.items
 row_of rows false = rows.down.items
 
+-- No limit is known.
+abbrev pub AreNoLimits : SumRows → Type 0
+AreNoLimits rows = (rows.up.items ≡ []) × (rows.down.items ≡ [])
+
 -- Distinct calls of the set other than call c, from one number to before another, that do not precede g, add so much at least.
 pub record AddFreely (p : Problem ObjState Op Reply) (set : List Bool) (up : Bool) (g c from to : ℕ) (n : ℕ) : Type 0 where
   pub calls : List ℕ

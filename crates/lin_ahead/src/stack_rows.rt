@@ -7,6 +7,7 @@ ghost use Rattle.indexmap.specs.IndexMap.{get};
 ghost use Rattle.lin_object.specs.declared.op.Op.TheVariants.{Push, Pop};
 ghost use Rattle.lin_object.specs.declared.reply.Reply.TheVariants.{Int};
 ghost use Rattle.lin_ahead.specs.ItemCalls.{told, told_in};
+ghost use Rattle.lin_ahead.specs.Sums.{AreNoLimits};
 ghost use Rattle.lin_ahead.specs.ToldOfStack.{exchanged_op, exchanged_call, exchanged_calls, popped_once_row, found_empty, found_empty_row, IsPopperIn, ArePoppers, AreLateRows};
 
 use crate::call_values::ValueNumbers;
@@ -187,6 +188,7 @@ pub(crate) fn told_of_stack(
     ensures held { IfOk result (λ ahead. ahead.held.items ≡ []) }
     ensures in_vain { IfOk result (λ ahead. ahead.in_vain ≡ false) }
     ensures late { IfOk result (λ ahead. AreLateRows calls.now ahead.late) }
+    ensures sums { IfOk result (λ ahead. AreNoLimits ahead.sums) }
 {
     let exchanged = exchanged_calls(alloc, calls)?;
     let items = told_by_calls(alloc, exchanged.as_slice())?;

@@ -6,7 +6,7 @@ ghost use Rattle.lin_object.specs.declared.op.Op.TheVariants.{Get};
 ghost use Rattle.lin_object.specs.declared.reply.Reply.TheVariants.{Int};
 ghost use Rattle.lin_history.specs.Problems.Timeline.{IsTimeline};
 ghost use Rattle.lin_ahead.specs.AnyProblem.{any_problem};
-ghost use Rattle.lin_ahead.specs.Sums.{share_in, share_of, share_of_call, IsHeight, IsLimitOf, AreLimits, event_of, AreSumsAt};
+ghost use Rattle.lin_ahead.specs.Sums.{share_in, share_of, share_of_call, IsHeight, IsLimitOf, AreLimits, AreNoLimits, event_of, AreSumsAt};
 
 use crate::call_values::ValueNumbers;
 use crate::late_pushes::LateRows;
@@ -39,8 +39,7 @@ pub struct SumRows {
 impl SumRows {
     // Those of no calls. It takes no memory.
     pub(crate) fn none(alloc: Global) -> Self
-        ensures up { result.up.items ≡ [] }
-        ensures down { result.down.items ≡ [] }
+        ensures { AreNoLimits result }
     {
         SumRows {
             up: Vec::new(alloc),
