@@ -178,6 +178,24 @@ class Exchanged(Register):
         return "true" if found else "false"
 
 
+class Counter:
+    """A counter, of whose calls three in ten are a `get`, and the others add 1."""
+
+    kind, take = "counter", "add"
+
+    def __init__(self):
+        self.value = 0
+
+    def choose(self, chance, number):
+        return ("get", None) if chance.random() < 0.3 else ("add", 1)
+
+    def reply(self, op, value):
+        if op == "add":
+            self.value += value
+            return OKAY
+        return self.value
+
+
 class Event(NamedTuple):
     process: int
     op: str
@@ -315,6 +333,11 @@ def backlog_swapped(model, most):
     return lambda calls: lines("b", model.kind, with_swapped_results(simulated(model(most), 6, calls), model.take))
 
 
+def counter(processes, pending=0):
+    """A counter of so many processes, and so many more that stop within an add."""
+    return lambda calls: lines("c", "counter", simulated(Counter(), processes + pending, calls, pending))
+
+
 def backlog(model, most, processes=6, stops=0):
     return lambda calls: lines("b", model.kind, simulated(model(most), processes + stops, calls, stops))
 
@@ -395,6 +418,7 @@ class Family(NamedTuple):
 
 CALLS = [512, 1024, 2048, 4096]
 MORE_CALLS = [*CALLS, 8192, 16384]
+COUNTER_CALLS = [1024, 4096, 16384]
 BACKLOG_CALLS = [400, *MORE_CALLS]
 ALL_CALLS = [65536, 131072, 262144]
 FAMILIES = {
@@ -428,6 +452,16 @@ FAMILIES = {
             f"the same with 64 items, and {stops} more that stop within a dequeue", "calls", BACKLOG_CALLS, 0, backlog(FilledQueue, 64, stops=stops)
         )
         for stops in (1, 2, 4, 8, 16)
+    },
+    **{
+        f"counter_{processes}": Family(f"a counter, {processes} processes that add 1 or get", "calls", COUNTER_CALLS, 0, counter(processes))
+        for processes in (4, 8, 16, 32)
+    },
+    **{
+        f"counter_pending_{pending}": Family(
+            f"a counter, 8 processes that add 1 or get, and {pending} more that stop within an add", "calls", COUNTER_CALLS, 0, counter(8, pending)
+        )
+        for pending in (5, 20, 80)
     },
     "stack": Family("a stack, 6 processes", "calls", CALLS, 0, buffer(Stack)),
     "stack_no": Family("the same, two results swapped", "calls", CALLS, 1, buffer_swapped(Stack)),

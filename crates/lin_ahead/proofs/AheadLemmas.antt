@@ -26,6 +26,8 @@ use Rattle.lin_history.specs.ReplyLemmas.{reply_same}
 use Rattle.lin_ahead.proofs.AnyLemmas.{of_any, known}
 use Rattle.lin_ahead.proofs.ExactLemmas.{alone, below_takers, are_numbers}
 use Rattle.lin_ahead.proofs.LateLemmas.{nothing_late}
+use Rattle.lin_ahead.proofs.OverLemmas.{nothing_over}
+use Rattle.lin_ahead.specs.Sums.{AreNoLimits}
 use Rattle.lin_ahead.proofs.NumberLemmas.{taken_need}
 use Rattle.lin_ahead.proofs.QueueLemmas.{owed_item}
 use Rattle.lin_ahead.proofs.RowLemmas.{through, seen_through, by_row_is, bounds}
@@ -213,14 +215,15 @@ module _ {Object : Type 0} (p : ProblemParts Object ObjState Op Reply) where
       go x is (Lookup k) e f = absurd (omega (arith, below, f))
       go x is (Delete k) e f = absurd (omega (arith, below, f))
 
-  pub is_right : p.start ≡ Queue [] → AreTimed p.calls → (ahead : KnownAhead) → ahead.needs.by ≡ by_row (told p.calls) p.calls → ahead.needs.from ≡ from_row (told p.calls) (least_pending p.calls) p.calls → ahead.taken.items ≡ taken_row (told p.calls) p.calls → ahead.takers.items ≡ takers_from 0 p.calls → ahead.owed.items ≡ once_row (told p.calls) p.calls → ahead.held.items ≡ [] → ahead.in_vain ≡ false → ahead.late.from.items ≡ [] → ((v : ℤ) → told_in (get int_eq ahead.items) v ≡ told p.calls v) → IsRightAhead (any_problem p) ahead
-  is_right start timed ahead bys froms taken takers owed held in_vain late items = record {
+  pub is_right : p.start ≡ Queue [] → AreTimed p.calls → (ahead : KnownAhead) → ahead.needs.by ≡ by_row (told p.calls) p.calls → ahead.needs.from ≡ from_row (told p.calls) (least_pending p.calls) p.calls → ahead.taken.items ≡ taken_row (told p.calls) p.calls → ahead.takers.items ≡ takers_from 0 p.calls → ahead.owed.items ≡ once_row (told p.calls) p.calls → ahead.held.items ≡ [] → ahead.in_vain ≡ false → ahead.late.from.items ≡ [] → AreNoLimits ahead.sums → ((v : ℤ) → told_in (get int_eq ahead.items) v ≡ told p.calls v) → IsRightAhead (any_problem p) ahead
+  is_right start timed ahead bys froms taken takers owed held in_vain late sums items = record {
     needs = (let k = known p ahead.needs start timed bys froms in record { each_by = k.each_by; each_from = k.each_from; needed = λ a b m n there here below other. k.needed a b m n there here below });
     behind = rw (bys, taken, takers) (are_behind start timed);
     owed = rw owed (are_owed start);
     held = rw held (λ g e. absurd (cc));
     in_vain = λ e. absurd (cc);
     late = nothing_late (any_problem p) ahead.late late;
+    sums = nothing_over (any_problem p) ahead.sums sums;
     queue = λ e. (items, takers);
     stack = λ e. absurd (let f = start in cc);
   }

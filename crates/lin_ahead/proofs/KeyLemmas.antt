@@ -38,6 +38,8 @@ use Rattle.lin_ahead.specs.Held.{IsHeldUntil}
 use Rattle.lin_ahead.specs.ToldOfRegister.{IsToldOfRegister}
 use Rattle.lin_ahead.specs.KeyValue.{key_at, is_on, are_on, on_this_key, of_one_key, AreRowsOf, op_on_value, reply_on_value, returned_on_value, call_on_value, on_value}
 use Rattle.lin_ahead.proofs.LateLemmas.{nothing_late}
+use Rattle.lin_ahead.proofs.OverLemmas.{nothing_over}
+use Rattle.lin_ahead.specs.Sums.{AreNoLimits}
 use Rattle.lin_history.specs.ReplyLemmas.{reply_same}
 use Rattle.lin_ahead.proofs.RowLemmas.{through, seen_through}
 use Rattle.lin_ahead.proofs.VainLemmas.{register_right, register_told}
@@ -328,8 +330,8 @@ module _ (law : MapLaw after state_eq.it) where
         (let is : u ≡ one.to = (let f = one.step in cc) in subst (λ (z : ObjState). state_eq.it z t ≡ true) is same)))
 
     -- what is right for the register is right for the map
-    pub right_on_map : (ahead : KnownAhead) → IsRightAhead Q ahead → ahead.taken.items ≡ [] → ahead.owed.items ≡ [] → ahead.late.from.items ≡ [] → IsRightAhead P ahead
-    right_on_map ahead right taken owed late = record {
+    pub right_on_map : (ahead : KnownAhead) → IsRightAhead Q ahead → ahead.taken.items ≡ [] → ahead.owed.items ≡ [] → ahead.late.from.items ≡ [] → AreNoLimits ahead.sums → IsRightAhead P ahead
+    right_on_map ahead right taken owed late sums = record {
       needs = record {
         each_by = right.needs.each_by ∙ length-map p.calls call_on_value;
         each_from = right.needs.each_from ∙ length-map p.calls call_on_value;
@@ -340,6 +342,7 @@ module _ (law : MapLaw after state_eq.it) where
       held = λ g there. held_on_map g (right.held g there);
       in_vain = λ is l whole. right.in_vain is l (of_value l whole);
       late = nothing_late P ahead.late late;
+      sums = nothing_over P ahead.sums sums;
       queue = λ e. absurd (let f = start in cc);
       stack = λ e. absurd (let f = start in cc);
     }
@@ -357,7 +360,7 @@ module _ (law : MapLaw after state_eq.it) {Object : Type 0} (p : ProblemParts Ob
   pub key_right : p.start ≡ Map [] → of_one_key p.calls ≡ true → (ahead : KnownAhead) → AreRowsOf NOTHING (map call_on_value p.calls) ahead → IsRightAhead (any_problem p) ahead
   key_right start one ahead rows =
       let k = on_one_key p.calls one in
-      right_on_map law p k.0 start k.1 ahead (register_right (on_value p) NOTHING refl ahead rows.by rows.from rows.held rows.in_vain rows.taken rows.takers rows.owed rows.late) rows.taken rows.owed rows.late
+      right_on_map law p k.0 start k.1 ahead (register_right (on_value p) NOTHING refl ahead rows.by rows.from rows.held rows.in_vain rows.taken rows.takers rows.owed rows.late rows.sums) rows.taken rows.owed rows.late rows.sums
 
   -- and all is told
   pub key_told : (ahead : KnownAhead) → AreRowsOf NOTHING (map call_on_value p.calls) ahead → IsToldOfRegister (any_problem (on_value p)) NOTHING ahead

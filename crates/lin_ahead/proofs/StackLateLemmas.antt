@@ -33,6 +33,8 @@ use Rattle.lin_ahead.specs.ToldAhead.{takers_from}
 use Rattle.lin_ahead.specs.ToldOfStack.{exchanged_op, exchanged_call, exchanged_calls, popped_once_row, found_empty, found_empty_row, AreLateRows}
 use Rattle.lin_ahead.proofs.ChainLemmas.{IsPoppedFrom, IsDeadlineAt, IsHeldFrom, HeldRules, numbers, legal_split}
 use Rattle.lin_ahead.proofs.OnceLemmas.{there_once}
+use Rattle.lin_ahead.proofs.OverLemmas.{nothing_over}
+use Rattle.lin_ahead.specs.Sums.{AreNoLimits}
 use Rattle.lin_ahead.proofs.OwedStackLemmas.{still_stack}
 use Rattle.lin_ahead.proofs.PlaceLemmas.{distinct_late}
 use Rattle.lin_ahead.proofs.RowLemmas.{through, seen_through, from_row_is}
@@ -216,14 +218,15 @@ module _ (p : Problem ObjState Op Reply) (exact : IsExact p) (starts : p.start �
 
 module _ {Object : Type 0} (p : ProblemParts Object ObjState Op Reply) where
   -- what is known ahead of a stack is right
-  pub stack_right : p.start ≡ Stack [] → (ahead : KnownAhead) → ahead.needs.by ≡ replicate (length p.calls) 0 → ahead.needs.from ≡ replicate (length p.calls) 0 → ahead.taken.items ≡ [] → ahead.takers.items ≡ takers_from 0 (exchanged_calls p.calls) → ahead.owed.items ≡ popped_once_row p.calls → ahead.held.items ≡ [] → ahead.in_vain ≡ false → AreLateRows p.calls ahead.late → AreTimed p.calls → ahead.on_queue.items ≡ exchanged_calls p.calls → ((v : ℤ) → told_in (get int_eq ahead.items) v ≡ told (exchanged_calls p.calls) v) → IsRightAhead (any_problem p) ahead
-  stack_right start ahead bys froms taken takers owed held in_vain late timed calls items = record {
+  pub stack_right : p.start ≡ Stack [] → (ahead : KnownAhead) → ahead.needs.by ≡ replicate (length p.calls) 0 → ahead.needs.from ≡ replicate (length p.calls) 0 → ahead.taken.items ≡ [] → ahead.takers.items ≡ takers_from 0 (exchanged_calls p.calls) → ahead.owed.items ≡ popped_once_row p.calls → ahead.held.items ≡ [] → ahead.in_vain ≡ false → AreLateRows p.calls ahead.late → AreTimed p.calls → ahead.on_queue.items ≡ exchanged_calls p.calls → ((v : ℤ) → told_in (get int_eq ahead.items) v ≡ told (exchanged_calls p.calls) v) → AreNoLimits ahead.sums → IsRightAhead (any_problem p) ahead
+  stack_right start ahead bys froms taken takers owed held in_vain late timed calls items sums = record {
     needs = stack_needs (any_problem p) ahead bys froms;
     behind = rw taken (λ set a b m n there here. absurd (cc));
     owed = rw owed (are_owed p start);
     held = rw held (λ g e. absurd (cc));
     in_vain = λ e. absurd (cc);
     late = none_late (any_problem p) (exact_any p) start ahead.late late timed;
+    sums = nothing_over (any_problem p) ahead.sums sums;
     queue = λ e. absurd (let f = start in cc);
     stack = λ e. (calls, (items, takers));
   }

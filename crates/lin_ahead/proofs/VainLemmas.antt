@@ -27,6 +27,8 @@ use Rattle.lin_ahead.specs.declared.needed_pairs.CallNumbers.{CallNumbers}
 use Rattle.lin_ahead.specs.ToldOfRegister.{IsToldOfRegister}
 use Rattle.lin_ahead.specs.ValueCalls.{no_value_told, value_told, single_by, cluster_by, cluster_from, is_nowhere, found_nowhere, cluster_numbers, shows_in_vain, any_shows_in_vain, any_in_vain, cluster_numbers_row, cluster_by_row, cluster_from_row, found_single_row}
 use Rattle.lin_ahead.proofs.LateLemmas.{nothing_late}
+use Rattle.lin_ahead.proofs.OverLemmas.{nothing_over}
+use Rattle.lin_ahead.specs.Sums.{AreNoLimits}
 use Rattle.lin_ahead.proofs.RegisterLemmas.{clusters_need, cluster_numbers_need, found_in_vain, start_in_vain, clusters_in_vain, before_of, completed_at}
 use Rattle.lin_ahead.proofs.RowLemmas.{through, seen_through}
 use Rattle.lin_ahead.proofs.PairLemmas.{Both, both_are, both_told, both_at, or_left, or_right}
@@ -230,14 +232,15 @@ module _ (p : Problem ObjState Op Reply) (start : ℤ) where
 
 module _ {Object : Type 0} (p : ProblemParts Object ObjState Op Reply) where
   -- what is known ahead of a register is right
-  pub register_right : (start : ℤ) → p.start ≡ Register start → (ahead : KnownAhead) → ahead.needs.by ≡ cluster_by_row (value_told p.calls) start p.calls → ahead.needs.from ≡ cluster_from_row (value_told p.calls) start p.calls → ahead.held.items ≡ found_single_row (value_told p.calls) start p.calls → ahead.in_vain ≡ any_in_vain (value_told p.calls) start p.calls → ahead.taken.items ≡ [] → ahead.takers.items ≡ [] → ahead.owed.items ≡ [] → ahead.late.from.items ≡ [] → IsRightAhead (any_problem p) ahead
-  register_right start e ahead bys froms held vain taken takers owed late = record {
+  pub register_right : (start : ℤ) → p.start ≡ Register start → (ahead : KnownAhead) → ahead.needs.by ≡ cluster_by_row (value_told p.calls) start p.calls → ahead.needs.from ≡ cluster_from_row (value_told p.calls) start p.calls → ahead.held.items ≡ found_single_row (value_told p.calls) start p.calls → ahead.in_vain ≡ any_in_vain (value_told p.calls) start p.calls → ahead.taken.items ≡ [] → ahead.takers.items ≡ [] → ahead.owed.items ≡ [] → ahead.late.from.items ≡ [] → AreNoLimits ahead.sums → IsRightAhead (any_problem p) ahead
+  register_right start e ahead bys froms held vain taken takers owed late sums = record {
     needs = clusters_need (of_any_register p start e) ahead.needs (are_cluster_numbers (any_problem p) start ahead.needs bys froms);
     behind = rw taken (λ set a b m n there here. absurd (cc));
     owed = rw owed (λ c r here. absurd (cc));
     held = rw held (are_held (any_problem p) start (of_any_register p start e));
     in_vain = λ is. in_vain (any_problem p) start (of_any_register p start e) (in_vain_is (any_problem p) start (sym vain ∙ is));
     late = nothing_late (any_problem p) ahead.late late;
+    sums = nothing_over (any_problem p) ahead.sums sums;
     queue = λ starts. absurd (let f = e in cc);
     stack = λ starts. absurd (let f = e in cc);
   }

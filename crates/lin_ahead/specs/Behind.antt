@@ -19,6 +19,7 @@ use Rattle.lin_ahead.specs.Late.{NoneIsLate}
 use Rattle.lin_ahead.specs.ToldAhead.{takers_from}
 use Rattle.lin_ahead.specs.ToldOfStack.{exchanged_calls}
 use Rattle.lin_ahead.specs.StackTakers.{on_queue}
+use Rattle.lin_ahead.specs.Sums.{NoneIsOver}
 
 -- Call b needs call a behind the set: wherever b stands in a linearization, with no call of the set behind it, a stands before it.
 abbrev pub NeedsBehind : {State Op Reply : Type 0} → Problem State Op Reply → List Bool → ℕ → ℕ → Type 0
@@ -58,6 +59,7 @@ pub record IsRightAhead (p : Problem ObjState Op Reply) (ahead : KnownAhead) : T
   pub owed : AreOwed p ahead.owed.items
   pub held : AreHeldUntil p ahead.held.items
   pub late : NoneIsLate p ahead.late
+  pub sums : NoneIsOver p ahead.sums
   pub queue : p.start ≡ Queue [] → AreQueueCalls p ahead
   pub stack : p.start ≡ Stack [] → AreStackCalls p ahead
   pub in_vain : IsTrue ahead.in_vain → (l : List ℕ) → IsLinearization p l → ⊥

@@ -12,6 +12,7 @@ use Rattle.lin_history.specs.declared.problems.problem.ProblemCall.{ProblemCall}
 use Rattle.lin_history.specs.Problems.ProblemParts.{ProblemParts}
 use Rattle.lin_ahead.specs.declared.key_value.TheConstants.{NOTHING}
 use Rattle.lin_ahead.specs.declared.look_ahead.KnownAhead.{KnownAhead}
+use Rattle.lin_ahead.specs.Sums.{AreNoLimits}
 use Rattle.lin_ahead.specs.ValueCalls.{value_told, cluster_by_row, cluster_from_row, found_single_row, any_in_vain}
 
 -- The key of an operation of a map.
@@ -85,3 +86,4 @@ pub record AreRowsOf (start : ℤ) (calls : List (ProblemCall Op Reply)) (ahead 
   pub takers : ahead.takers.items ≡ []
   pub owed : ahead.owed.items ≡ []
   pub late : ahead.late.from.items ≡ []
+  pub sums : AreNoLimits ahead.sums

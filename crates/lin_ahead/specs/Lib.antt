@@ -20,3 +20,5 @@ pub mod ToldOfStack
 pub mod Late
 pub mod Takers
 pub mod StackTakers
+pub mod Sums
+pub mod ToldOfCounter

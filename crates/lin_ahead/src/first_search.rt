@@ -25,6 +25,8 @@ use crate::owed_replies::{is_owed, owed_in_turn, pending_answer};
 use crate::refuted_set::RefutedSet;
 use crate::stack_hints::StackHints;
 use crate::stack_takers::lacks_pops;
+use crate::sum_hints::SumHints;
+use crate::sums::is_over;
 use crate::taker_hints::TakerHints;
 use crate::takers::{After, lacks_takers};
 use lin_history::{Order, Problem, ProblemCall};
@@ -45,6 +47,7 @@ struct FirstSearch<'p> {
     held: Finders,
     stack: StackHints,
     takers: TakerHints,
+    sums: SumHints,
     lifts: u64,
 }
 
@@ -82,6 +85,7 @@ impl<'p> FirstSearch<'p> {
         self.held.unlifted(frame.call());
         self.stack.unlifted(frame.call());
         self.takers.unlifted(frame.call());
+        self.sums.unlifted(frame.call());
         Ok(self.path.after(frame.call(), Longest::none()).candidate)
     }
 
@@ -106,6 +110,7 @@ impl<'p> FirstSearch<'p> {
             self.takers.puts_lost(frame.call()),
         );
         self.takers.lifted(self.path.config(), frame.call())?;
+        self.sums.lifted(frame.call())?;
         if self.refuted.has(self.path.config()) {
             let mut left = frame;
             let next = self.leave(&mut left)?;
@@ -182,8 +187,23 @@ impl<'p> FirstSearch<'p> {
         is_late(problem, &ahead.late, &self.stack, self.path.config(), call)
     }
 
+    // Whether the call is known to add more than a `get` has room for.
+    fn adds_too_much(&self, ahead: &KnownAhead, call: usize) -> bool
+        requires ahead { IsRightAhead (any_problem
+            self.now.path.entries.problem) ahead.now }
+        requires reachable { IsReachable (any_problem
+            self.now.path.entries.problem) self.now.path.config.lifted self.now.path.config.state }
+        ensures { IsTrue result → BeginsNone
+            (any_problem self.now.path.entries.problem)
+            self.now.path.config.lifted self.now.path.config.state call }
+    {
+        lawful::<AnyObject>();
+        let problem = self.path.problem();
+        is_over(problem, &ahead.sums, &self.sums, self.path.config(), call)
+    }
+
     // Whether the call, which is minimal, is known to begin no completion: it needs one that is not lifted, is a push that is
-    // too late, or would take a reply that is owed to another.
+    // too late, adds more than a `get` has room for, or would take a reply that is owed to another.
     fn begins_none(&self, ahead: &KnownAhead, call: usize) -> Result<bool, AllocError>
         requires ahead { IsRightAhead (any_problem
             self.now.path.entries.problem) ahead.now }
@@ -199,6 +219,9 @@ impl<'p> FirstSearch<'p> {
             return Ok(true);
         }
         if self.comes_too_late(ahead, call) {
+            return Ok(true);
+        }
+        if self.adds_too_much(ahead, call) {
             return Ok(true);
         }
         self.takes_what_is_owed(ahead, call)
@@ -520,6 +543,7 @@ pub fn search_first(
         held: Finders::new(alloc, &ahead.values)?,
         stack: StackHints::new(alloc, problem, &ahead.late)?,
         takers: TakerHints::new(alloc, calls_on_queue(problem, ahead), ahead)?,
+        sums: SumHints::new(alloc, problem, ahead)?,
         lifts: 0,
     };
     search.go(ahead, lifts)

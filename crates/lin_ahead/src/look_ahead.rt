@@ -1,10 +1,10 @@
-//! What the calls of a queue's, a stack's, a register's or a map's problem tell before any search: which calls need which, which
-//! are owed their replies, which are too late, and until which of them the state is held.
+//! What the calls of a queue's, a stack's, a register's, a counter's or a map's problem tell before any search: which calls need
+//! which, which are owed their replies, which are too late or too much, and until which of them the state is held.
 
 ghost use Rattle.std.specs.Prelude.{◌≡◌, ◌↔◌, ◌⊎◌, ℤ, [], false, Some, IfOk, IfSome, IsSome, IsTrue, map};
 ghost use Rattle.std.specs.Ordering.{int_eq};
 ghost use Rattle.indexmap.specs.IndexMap.{get};
-ghost use Rattle.lin_object.specs.declared.state.ObjState.TheVariants.{Queue, Register, Stack, Map};
+ghost use Rattle.lin_object.specs.declared.state.ObjState.TheVariants.{Queue, Register, Stack, Map, Counter};
 ghost use Rattle.lin_ahead.specs.ItemCalls.{told, told_in, least_pending};
 ghost use Rattle.lin_ahead.specs.CallNumbers.{by_row, from_row};
 ghost use Rattle.lin_ahead.specs.Behind.{IsRightAhead};
@@ -13,6 +13,8 @@ ghost use Rattle.lin_ahead.specs.ToldOfRegister.{IsToldOfRegister};
 ghost use Rattle.lin_ahead.specs.declared.key_value.TheConstants.{NOTHING};
 ghost use Rattle.lin_ahead.specs.KeyValue.{call_on_value, of_one_key, on_value, AreRowsOf};
 ghost use Rattle.lin_ahead.specs.ToldOfStack.{IsToldOfStack};
+ghost use Rattle.lin_ahead.specs.Sums.{AreNoLimits};
+ghost use Rattle.lin_ahead.specs.ToldOfCounter.{IsToldOfCounter};
 ghost use Rattle.lin_ahead.specs.AnyProblem.{any_problem};
 
 use crate::call_values::ValueNumbers;
@@ -22,6 +24,7 @@ use crate::key_value::{NOTHING, calls_on_value, of_one_key};
 use crate::late_pushes::LateRows;
 use crate::numbers::{by_of, from_of, is_taker, taken_of, took_once};
 use crate::stack_rows::told_of_stack;
+use crate::sum_rows::{SumRows, told_of_counter};
 use crate::value_rows::told_of_register;
 use indexmap::IndexMap;
 use lin_history::{NeedRows, Problem, ProblemCall};
@@ -142,6 +145,8 @@ pub struct KnownAhead {
     pub values: ValueNumbers,
     /// What is known of each call on a stack, by which a search finds pushes that are too late.
     pub late: LateRows,
+    /// What is known of each call on a counter, by which a search finds adds that are too much.
+    pub sums: SumRows,
 }
 
 // What is told of each item is left out: a map is long to show.
@@ -173,6 +178,7 @@ fn told_of_queue(alloc: Global, calls: &[ProblemCall<Op, Reply>]) -> Result<Know
     ensures held { IfOk result (λ ahead. ahead.held.items ≡ []) }
     ensures in_vain { IfOk result (λ ahead. ahead.in_vain ≡ false) }
     ensures late { IfOk result (λ ahead. ahead.late.from.items ≡ []) }
+    ensures sums { IfOk result (λ ahead. AreNoLimits ahead.sums) }
     ensures items { IfOk result (λ ahead. (v : ℤ)
         → told_in (get int_eq ahead.items) v ≡ told calls.now v) }
 {
@@ -190,6 +196,7 @@ fn told_of_queue(alloc: Global, calls: &[ProblemCall<Op, Reply>]) -> Result<Know
         in_vain: false,
         values: ValueNumbers::none(alloc),
         late: LateRows::none(alloc),
+        sums: SumRows::none(alloc),
     })
 }
 
@@ -217,8 +224,9 @@ fn told_of_key(
     Ok(Some(told_of_register(alloc, &start, on_value.as_slice())?))
 }
 
-/// What is known of a problem before any search: of one that starts with an empty queue, an empty stack, or with a register,
-/// what its calls tell by real time, and all of that (as `IsToldAhead`, `IsToldOfStack` and `IsToldOfRegister` say); of one that
+/// What is known of a problem before any search: of one that starts with an empty queue, an empty stack, or with a register
+/// or a counter, what its calls tell by real time, and all of that (as `IsToldAhead`, `IsToldOfStack`, `IsToldOfRegister` and
+/// `IsToldOfCounter` say); of one that
 /// starts with an empty map and has calls on one key alone, what they tell as calls of a register that holds the key's value.
 /// `None` of every other problem. `AllocError` where memory was refused. (This project's own.)
 pub fn known_ahead(
@@ -236,10 +244,14 @@ pub fn known_ahead(
         → IsToldOfRegister (any_problem (on_value problem.now)) NOTHING ahead)) }
     ensures told_of_stack { IfOk result (λ known. IfSome known (λ ahead. problem.now.start
         ≡ Stack [] → IsToldOfStack (any_problem problem.now) ahead)) }
+    ensures told_of_counter { IfOk result (λ known. IfSome known (λ ahead. (start : ℤ)
+        → problem.now.start ≡ Counter start
+        → IsToldOfCounter (any_problem problem.now) start ahead)) }
     ensures when { IfOk result (λ known. IsSome known
         ↔ ((problem.now.start ≡ Queue []) ⊎ ((problem.now.start ≡ Stack [])
         ⊎ (((v : ℤ) × (problem.now.start ≡ Register v))
-        ⊎ ((problem.now.start ≡ Map []) × IsTrue (of_one_key problem.now.calls)))))) }
+        ⊎ (((problem.now.start ≡ Map []) × IsTrue (of_one_key problem.now.calls))
+        ⊎ ((v : ℤ) × (problem.now.start ≡ Counter v))))))) }
 {
     map_law();
     let calls = problem.calls();
@@ -247,6 +259,7 @@ pub fn known_ahead(
         ObjState::Queue(items) if is_empty(items) => Ok(Some(told_of_queue(alloc, calls)?)),
         ObjState::Stack(items) if is_empty(items) => Ok(Some(told_of_stack(alloc, calls)?)),
         ObjState::Register(start) => Ok(Some(told_of_register(alloc, start, calls)?)),
+        ObjState::Counter(start) => Ok(Some(told_of_counter(alloc, problem, *start)?)),
         ObjState::Map(_) if is_empty_map(alloc, problem.start()) => told_of_key(alloc, calls),
         _ => Ok(None),
     }

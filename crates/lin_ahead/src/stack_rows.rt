@@ -8,6 +8,7 @@ ghost use Rattle.lin_object.specs.declared.op.Op.TheVariants.{Push, Pop};
 ghost use Rattle.lin_object.specs.declared.reply.Reply.TheVariants.{Int};
 ghost use Rattle.lin_ahead.specs.ItemCalls.{told, told_in};
 ghost use Rattle.lin_ahead.specs.ToldAhead.{takers_from};
+ghost use Rattle.lin_ahead.specs.Sums.{AreNoLimits};
 ghost use Rattle.lin_ahead.specs.ToldOfStack.{exchanged_op, exchanged_call, exchanged_calls, popped_once_row, found_empty, found_empty_row, IsPopperIn, ArePoppers, AreLateRows};
 
 use crate::call_values::ValueNumbers;
@@ -15,6 +16,7 @@ use crate::each_item::{told_by_calls, told_of};
 use crate::item_calls::ItemCalls;
 use crate::late_pushes::LateRows;
 use crate::look_ahead::{KnownAhead, from_row, once_row, takers_of};
+use crate::sum_rows::SumRows;
 use indexmap::IndexMap;
 use lin_history::{NeedRows, ProblemCall};
 use lin_object::{Op, Reply};
@@ -202,6 +204,7 @@ pub(crate) fn told_of_stack(
     ensures held { IfOk result (λ ahead. ahead.held.items ≡ []) }
     ensures in_vain { IfOk result (λ ahead. ahead.in_vain ≡ false) }
     ensures late { IfOk result (λ ahead. AreLateRows calls.now ahead.late) }
+    ensures sums { IfOk result (λ ahead. AreNoLimits ahead.sums) }
 {
     let exchanged = exchanged_calls(alloc, calls)?;
     let on_queue = exchanged.as_slice();
@@ -217,5 +220,6 @@ pub(crate) fn told_of_stack(
         late: late_rows(alloc, &items, on_queue, calls)?,
         items,
         on_queue: exchanged,
+        sums: SumRows::none(alloc),
     })
 }

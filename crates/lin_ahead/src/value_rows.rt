@@ -6,12 +6,14 @@ ghost use Rattle.lin_ahead.specs.declared.needed_pairs.CallNumbers.{CallNumbers}
 ghost use Rattle.std.specs.Ordering.{int_eq};
 ghost use Rattle.indexmap.specs.IndexMap.{get};
 ghost use Rattle.lin_ahead.specs.Register.{value_written, value_found};
+ghost use Rattle.lin_ahead.specs.Sums.{AreNoLimits};
 ghost use Rattle.lin_ahead.specs.ValueCalls.{value_in, value_told, single_by, cluster_from, cluster_numbers, found_single, found_nowhere, shows_in_vain, any_shows_in_vain, any_in_vain, cluster_numbers_row, cluster_by_row, cluster_from_row, found_single_row};
 
 use crate::call_values::{CallValues, ValueNumbers};
 use crate::each_value::{told_of_value, values_told};
 use crate::item_calls::BEYOND;
 use crate::late_pushes::LateRows;
+use crate::sum_rows::SumRows;
 use crate::look_ahead::KnownAhead;
 use crate::needed_pairs::{CallNumbers, some_pair};
 use crate::value_calls::{ValueCalls, value_found, value_written};
@@ -234,6 +236,7 @@ pub(crate) fn told_of_register(
     ensures takers { IfOk result (λ ahead. ahead.takers.items ≡ []) }
     ensures owed { IfOk result (λ ahead. ahead.owed.items ≡ []) }
     ensures late { IfOk result (λ ahead. ahead.late.from.items ≡ []) }
+    ensures sums { IfOk result (λ ahead. AreNoLimits ahead.sums) }
 {
     let told = values_told(alloc, calls)?;
     let values = Values {
@@ -256,5 +259,6 @@ pub(crate) fn told_of_register(
         in_vain,
         values: value_numbers(alloc, &values, calls)?,
         late: LateRows::none(alloc),
+        sums: SumRows::none(alloc),
     })
 }

@@ -1,7 +1,8 @@
 use Rattle.std.proofs.Common.{◌≡◌, [], rules}
-use Rattle.lin_object.specs.declared.state.ObjState.TheVariants.{Queue, Register, Stack, Map}
+use Rattle.lin_object.specs.declared.state.ObjState.TheVariants.{Queue, Register, Stack, Map, Counter}
 use Rattle.lin_ahead.specs.AnyProblem.{any_problem}
 use Rattle.lin_ahead.proofs.AheadLemmas.{is_right, is_told}
+use Rattle.lin_ahead.proofs.CounterLemmas.{counter_right, counter_told}
 use Rattle.lin_ahead.proofs.StackLateLemmas.{stack_right}
 use Rattle.lin_ahead.proofs.StackRowLemmas.{stack_told}
 use Rattle.lin_ahead.proofs.KeyLemmas.{key_rights, key_tells}
@@ -13,7 +14,7 @@ pub returns-in_ok-told_of_queue-in-Queue-clause-right :
 returns-in_ok-told_of_queue-in-Queue-clause-right c =
     let start : c.args.problem.now.start ≡ Queue [] = search rules in
     let tells = c.in_ok-told_of_queue-in-Queue.ensures in
-    is_right c.args.problem.now start c.calls-calls.ensures.timed _ (rw c.calls-calls.ensures.calls at tells.by) (rw c.calls-calls.ensures.calls at tells.from) (rw c.calls-calls.ensures.calls at tells.taken) (rw c.calls-calls.ensures.calls at tells.takers) (rw c.calls-calls.ensures.calls at tells.owed) tells.held tells.in_vain tells.late (rw c.calls-calls.ensures.calls at tells.items)
+    is_right c.args.problem.now start c.calls-calls.ensures.timed _ (rw c.calls-calls.ensures.calls at tells.by) (rw c.calls-calls.ensures.calls at tells.from) (rw c.calls-calls.ensures.calls at tells.taken) (rw c.calls-calls.ensures.calls at tells.takers) (rw c.calls-calls.ensures.calls at tells.owed) tells.held tells.in_vain tells.late tells.sums (rw c.calls-calls.ensures.calls at tells.items)
 
 pub returns-in_ok-told_of_queue-in-Queue-clause-told :
     goal.returns-in_ok-told_of_queue-in-Queue-clause-told
@@ -26,7 +27,7 @@ pub returns-in_ok-told_of_register-in-Register-clause-right :
 returns-in_ok-told_of_register-in-Register-clause-right c =
     let start : c.args.problem.now.start ≡ Register c.in-Register.start = search rules in
     let tells = c.in_ok-told_of_register-in-Register.ensures in
-    register_right c.args.problem.now c.in-Register.start start _ (rw c.calls-calls.ensures.calls at tells.by) (rw c.calls-calls.ensures.calls at tells.from) (rw c.calls-calls.ensures.calls at tells.held) (rw c.calls-calls.ensures.calls at tells.in_vain) tells.taken tells.takers tells.owed tells.late
+    register_right c.args.problem.now c.in-Register.start start _ (rw c.calls-calls.ensures.calls at tells.by) (rw c.calls-calls.ensures.calls at tells.from) (rw c.calls-calls.ensures.calls at tells.held) (rw c.calls-calls.ensures.calls at tells.in_vain) tells.taken tells.takers tells.owed tells.late tells.sums
 
 pub returns-in_ok-told_of_register-in-Register-clause-told_of_register :
     goal.returns-in_ok-told_of_register-in-Register-clause-told_of_register
@@ -40,7 +41,7 @@ pub returns-in_ok-told_of_stack-in-Stack-clause-right :
 returns-in_ok-told_of_stack-in-Stack-clause-right c =
     let start : c.args.problem.now.start ≡ Stack [] = search rules in
     let tells = c.in_ok-told_of_stack-in-Stack.ensures in
-    stack_right c.args.problem.now start _ (rw c.calls-calls.ensures.calls at tells.by) (rw c.calls-calls.ensures.calls at tells.from) tells.taken (rw c.calls-calls.ensures.calls at tells.takers) (rw c.calls-calls.ensures.calls at tells.owed) tells.held tells.in_vain (rw c.calls-calls.ensures.calls at tells.late) c.calls-calls.ensures.timed (rw c.calls-calls.ensures.calls at tells.on_queue) (rw c.calls-calls.ensures.calls at tells.items)
+    stack_right c.args.problem.now start _ (rw c.calls-calls.ensures.calls at tells.by) (rw c.calls-calls.ensures.calls at tells.from) tells.taken (rw c.calls-calls.ensures.calls at tells.takers) (rw c.calls-calls.ensures.calls at tells.owed) tells.held tells.in_vain (rw c.calls-calls.ensures.calls at tells.late) c.calls-calls.ensures.timed (rw c.calls-calls.ensures.calls at tells.on_queue) (rw c.calls-calls.ensures.calls at tells.items) tells.sums
 
 pub returns-in_ok-told_of_stack-in-Stack-clause-told_of_stack :
     goal.returns-in_ok-told_of_stack-in-Stack-clause-told_of_stack
@@ -56,3 +57,17 @@ returns-in-Map-clause-right c =
 pub returns-in-Map-clause-told_of_key : goal.returns-in-Map-clause-told_of_key
 returns-in-Map-clause-told_of_key c =
     key_tells c.map_law.ensures c.args.problem.now _ (rw c.calls-calls.ensures.calls at c.told_of_key.ensures.rows)
+
+pub returns-in_ok-told_of_counter-in-Counter-clause-right :
+    goal.returns-in_ok-told_of_counter-in-Counter-clause-right
+returns-in_ok-told_of_counter-in-Counter-clause-right c =
+    let start : c.args.problem.now.start ≡ Counter c.in-Counter.start = search rules in
+    let tells = c.in_ok-told_of_counter-in-Counter.ensures in
+    counter_right c.args.problem.now c.in-Counter.start start _ tells.by tells.from tells.taken tells.takers tells.owed tells.held tells.in_vain tells.late tells.up tells.down
+
+pub returns-in_ok-told_of_counter-in-Counter-clause-told_of_counter :
+    goal.returns-in_ok-told_of_counter-in-Counter-clause-told_of_counter
+returns-in_ok-told_of_counter-in-Counter-clause-told_of_counter c =
+    let start : c.args.problem.now.start ≡ Counter c.in-Counter.start = search rules in
+    let tells = c.in_ok-told_of_counter-in-Counter.ensures in
+    counter_told c.args.problem.now c.in-Counter.start start _ tells.from tells.taken tells.takers tells.owed tells.held tells.in_vain tells.up tells.down

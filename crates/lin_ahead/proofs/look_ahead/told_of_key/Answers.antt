@@ -19,4 +19,5 @@ returns-clause-rows c =
       takers = tells.takers;
       owed = tells.owed;
       late = tells.late;
+      sums = tells.sums;
     })
