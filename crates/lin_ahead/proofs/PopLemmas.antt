@@ -1,6 +1,6 @@
 -- Calls that leave a stack too few pops begin no completion: each of the items that must go before a call is made is taken by a pending
 -- pop of its own.
-use Rattle.std.proofs.Common.{◌≡◌, ◌≢◌, ℕ, suc, ◌+◌, ◌<◌, ◌≤◌, Bool, true, false, Option, Some, None, Result, Ok, Err, List, [], ◌∷◌, ◌++◌, length, ◌⊎◌, inl, inr, refl, sym, ◌∙◌, ap, subst, append_assoc, append-nil, arith}
+use Rattle.std.proofs.Common.{◌≡◌, ◌≢◌, ℕ, ◌<◌, ◌≤◌, Bool, true, false, Option, Some, None, Result, Ok, Err, List, [], ◌∷◌, ◌++◌, length, ◌⊎◌, inl, inr, refl, sym, ◌∙◌, ap, subst, append_assoc, append-nil, arith}
 use Rattle.std.specs.Prelude.{ℤ, slice_get, drop, IfSome, IfOk, IsSomeAnd, IsTrue, nat_le}
 use Rattle.lin_object.specs.Items.{is_in}
 use Rattle.lin_object.specs.declared.op.Op.{Op}
@@ -16,7 +16,7 @@ use Rattle.lin_history.specs.Problems.Lists.{In, IsDistinct}
 use Rattle.lin_history.specs.Problems.ListLemmas.{distinct_early, in_late, in_place}
 use Rattle.lin_history.specs.Problems.LegalLists.{next, Legal}
 use Rattle.lin_history.specs.Problems.Precedence.{Before}
-use Rattle.lin_history.specs.Problems.Continuations.{has, IsCompletion}
+use Rattle.lin_history.specs.Problems.Continuations.{IsCompletion}
 use Rattle.lin_search.specs.NextCall.{IsNext}
 use Rattle.lin_ahead.specs.FirstProgress.{BeginsNone}
 use Rattle.lin_ahead.specs.Late.{ReturnsOutside}

@@ -506,6 +506,33 @@ fn calls_on_queue<'a>(
     }
 }
 
+// What a search goes by, before a call is lifted. All of it is a hint.
+#[derive(Drop)]
+struct Hints {
+    needed: CallsInTurn,
+    owed: CallsInTurn,
+    held: Finders,
+    stack: StackHints,
+    takers: TakerHints,
+    sums: SumHints,
+}
+
+// What the search of the problem goes by. It is made in a function of its own, where no path is dropped if memory is refused.
+fn hints_of(
+    alloc: Global,
+    problem: &Problem<AnyObject>,
+    ahead: &KnownAhead,
+) -> Result<Hints, AllocError> {
+    Ok(Hints {
+        needed: needed_in_turn(alloc, &ahead.needs)?,
+        owed: owed_in_turn(alloc, ahead.owed.as_slice())?,
+        held: Finders::new(alloc, &ahead.values)?,
+        stack: StackHints::new(alloc, problem, &ahead.late)?,
+        takers: TakerHints::new(alloc, calls_on_queue(problem, ahead), ahead)?,
+        sums: SumHints::new(alloc, problem, ahead)?,
+    })
+}
+
 /// The search from the root that only asks whether there is a linearization, and for the least one (this project's
 /// own). It makes at most so many lifts. It passes over each call that needs one that is not lifted, before a state is made,
 /// each push that is known to be too late, each pending call that would get a reply which is owed to another, and each call that
@@ -534,16 +561,26 @@ pub fn search_first(
     if root.is_complete(problem) {
         return Ok(FirstAnswer::Found(Order::new(Vec::new(alloc))));
     }
+    let hints = hints_of(alloc, problem, ahead)?;
+    let path = Path::new(alloc, problem, root)?;
+    let Hints {
+        needed,
+        owed,
+        held,
+        stack,
+        takers,
+        sums,
+    } = hints;
     let mut search = FirstSearch {
         alloc,
-        path: Path::new(alloc, problem, root)?,
+        path,
         refuted: RefutedSet::new(alloc),
-        needed: needed_in_turn(alloc, &ahead.needs)?,
-        owed: owed_in_turn(alloc, ahead.owed.as_slice())?,
-        held: Finders::new(alloc, &ahead.values)?,
-        stack: StackHints::new(alloc, problem, &ahead.late)?,
-        takers: TakerHints::new(alloc, calls_on_queue(problem, ahead), ahead)?,
-        sums: SumHints::new(alloc, problem, ahead)?,
+        needed,
+        owed,
+        held,
+        stack,
+        takers,
+        sums,
         lifts: 0,
     };
     search.go(ahead, lifts)

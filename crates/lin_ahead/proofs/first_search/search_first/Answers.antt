@@ -10,12 +10,12 @@ returns-then-is_complete c =
 
 pub go-requires-clause-progress : goal.go-requires-clause-progress
 go-requires-clause-progress c =
-    rw (c.in_ok-new.ensures.problem, c.in_ok-new.ensures.config)
+    rw (c.in_ok-path.ensures.problem, c.in_ok-path.ensures.config)
     (λ candidate least.
-    first_start (alike_itself c.lawful.ensures c.args.problem.now) _ _ _ _ _ candidate c.new-3.ensures refl c.in_ok-new.ensures.frames c.in_ok-root.ensures.lifted c.in_ok-root.ensures.state c.in_ok-new.ensures.lifted c.in_ok-root.ensures.reachable (λ h. true≢false (sym (c.is_complete.ensures.1 h) ∙ c.if-is_complete.false)) least)
+    first_start (alike_itself c.lawful.ensures c.args.problem.now) _ _ _ _ _ candidate c.new-3.ensures refl c.in_ok-path.ensures.frames c.in_ok-root.ensures.lifted c.in_ok-root.ensures.state c.in_ok-path.ensures.lifted c.in_ok-root.ensures.reachable (λ h. true≢false (sym (c.is_complete.ensures.1 h) ∙ c.if-is_complete.false)) least)
 
 pub go-requires-clause-ahead : goal.go-requires-clause-ahead
-go-requires-clause-ahead c = rw c.in_ok-new.ensures.problem c.requires
+go-requires-clause-ahead c = rw c.in_ok-path.ensures.problem c.requires
 
 pub returns : goal.returns
-returns c = rw c.in_ok-new.ensures.problem at c.go.ensures
+returns c = rw c.in_ok-path.ensures.problem at c.go.ensures

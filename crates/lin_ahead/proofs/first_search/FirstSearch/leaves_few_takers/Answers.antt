@@ -1,5 +1,5 @@
 use Rattle.std.proofs.Common.{◌≡◌, [], rules}
-use Rattle.lin_object.specs.declared.state.ObjState.TheVariants.{Queue, Stack}
+use Rattle.lin_object.specs.declared.state.ObjState.TheVariants.{Queue}
 use Rattle.lin_ahead.proofs.AnyLemmas.{of_any}
 use Rattle.lin_ahead.specs.AnyProblem.{any_problem}
 use Rattle.lin_ahead.proofs.PopLemmas.{known_pops}
