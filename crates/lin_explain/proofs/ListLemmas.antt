@@ -1,5 +1,6 @@
 -- Lists of calls, as the loops read and build them.
-use Rattle.std.proofs.Common.{◌≡◌, ℕ, zero, suc, ◌+◌, ◌<◌, ◌≤◌, List, [], ◌∷◌, ◌++◌, length, drop, get_or, ◌⊎◌, inl, inr, refl, arith}
+use Rattle.std.proofs.Common.{◌≡◌, ℕ, zero, suc, ◌+◌, ◌<◌, ◌≤◌, List, [], ◌∷◌, ◌++◌, length, drop, get_or, Option, Some, None, ◌⊎◌, inl, inr, refl, arith}
+use Rattle.std.specs.List.{slice_get}
 use Rattle.std.proofs.lemmas.Bool.{cases_lt}
 use Rattle.lin_history.specs.Problems.Lists.{In}
 use Rattle.lin_history.specs.Problems.ListLemmas.{in_either}
@@ -30,3 +31,7 @@ rising_more (x ∷ xs) c r below = (
 
 pub last_or : (c n : ℕ) → c < n + 1 → (c < n) ⊎ (c ≡ n)
 last_or c n h = elim (cases_lt c n) [ inl x ↦ inl x | inr x ↦ inr (omega (arith, x, h)) ]
+
+pub no_first : {A : Type 0} (l : List A) → slice_get l 0 ≡ None → l ≡ []
+no_first [] e = refl
+no_first (x ∷ xs) e = absurd (cc)

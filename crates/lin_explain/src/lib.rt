@@ -2,9 +2,12 @@
 //!
 //! - `next_calls`: the calls that a run leaves and that no other call it leaves precedes.
 //! - `explanation`: the state after a run, and what each next call would answer there.
+//! - `state_text`: how a state is shown.
 #![tactic(auto)]
 
 mod explanation;
 mod next_calls;
+mod state_text;
 
 pub use explanation::{Explanation, NextCall, explain};
+pub use state_text::MAX_SHOWN;
