@@ -1,3 +1,4 @@
 pub mod ListLemmas
 pub mod NextLemmas
 pub mod StateLemmas
+pub mod TextLemmas

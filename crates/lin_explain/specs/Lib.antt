@@ -1,3 +1,4 @@
 pub mod Explanation
 pub mod FirstReturn
 pub mod StateText
+pub mod ExplanationText

@@ -3,11 +3,14 @@
 //! - `next_calls`: the calls that a run leaves and that no other call it leaves precedes.
 //! - `explanation`: the state after a run, and what each next call would answer there.
 //! - `state_text`: how a state is shown.
+//! - `explanation_text`: how an explanation is shown.
 #![tactic(auto)]
 
 mod explanation;
+mod explanation_text;
 mod next_calls;
 mod state_text;
 
 pub use explanation::{Explanation, NextCall, explain};
+pub use explanation_text::write_explanation;
 pub use state_text::MAX_SHOWN;

@@ -8,9 +8,9 @@ use std::alloc::{AllocError, Global};
 /// The most items of a state that are shown.
 pub const MAX_SHOWN: usize = 16;
 
-// The items, in a vector. Each step copies what is left of them, so it takes a time that grows with the square of their
-// number: an object has at most 16,384, and an explanation shows one state.
-fn items_in(alloc: Global, items: &Items) -> Result<Vec<i64>, AllocError>
+/// The items, in a vector. Each step copies what is left of them, so it takes a time that grows with the square of their
+/// number: an object has at most 16,384, and an explanation shows one state.
+pub(crate) fn items_in(alloc: Global, items: &Items) -> Result<Vec<i64>, AllocError>
     ensures { IfOk result (λ all. all.items ≡ items.now) }
 {
     let mut all = Vec::new(alloc);
