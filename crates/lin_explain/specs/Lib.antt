@@ -2,3 +2,4 @@ pub mod Explanation
 pub mod FirstReturn
 pub mod StateText
 pub mod ExplanationText
+pub mod Touching
