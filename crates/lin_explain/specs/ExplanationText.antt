@@ -11,6 +11,7 @@ use Rattle.lin_history.specs.declared.problems.problem.ProblemCall.{ProblemCall}
 use Rattle.lin_explain.specs.declared.explanation.NextCall.{NextCall}
 use Rattle.lin_explain.specs.declared.explanation.Explanation.{Explanation}
 use Rattle.lin_explain.specs.StateText.{state_text}
+use Rattle.lin_explain.specs.TouchingText.{recorded_text, known_text_of}
 
 -- The key that an operation on a map asks for; none of another kind's operations.
 abbrev pub key_of : Op → Option ℤ
@@ -38,11 +39,6 @@ keys_with calls keys (n ∷ ns) = keys_with calls (with_asked keys (slice_get ca
 abbrev pub state_line : List ℕ → List ℤ → ObjState → List ℕ
 state_line name keys state = codes "after the run: " ++ name ++ codes " = " ++ state_text keys state ++ codes "\n"
 
--- The recorded reply; nothing where the call is pending.
-abbrev pub recorded_text : Option (ℕ × Reply) → List ℕ
-recorded_text None = []
-recorded_text (Some returned) = codes " = " ++ reply_text returned.1
-
 -- What a call would answer after the run, or that it has no step there.
 abbrev pub answer_text : Option Reply → List ℕ
 answer_text None = codes ": it cannot be done here\n"
@@ -54,16 +50,20 @@ abbrev pub next_line : List ℕ → ProblemCall Op Reply → Option Reply → Li
 next_line name call answer =
     codes "next " ++ decimal call.process ++ codes " " ++ name ++ codes " " ++ op_text call.op ++ recorded_text call.returned ++ answer_text answer
 
--- The lines of this call, where it is a call.
-abbrev pub lines_of : List ℕ → Option (ProblemCall Op Reply) → Option Reply → List ℕ
-lines_of name None answer = []
-lines_of name (Some call) answer = next_line name call answer
+-- The line of such a call, where it is a call.
+abbrev pub next_line_of : List ℕ → Option Reply → Option (ProblemCall Op Reply) → List ℕ
+next_line_of name answer None = []
+next_line_of name answer (Some call) = next_line name call answer
 
--- The lines of the calls that could come next.
-abbrev pub next_lines : List ℕ → List (ProblemCall Op Reply) → List NextCall → List ℕ
-next_lines name calls [] = []
-next_lines name calls (n ∷ ns) = lines_of name (slice_get calls n.call) n.answer ++ next_lines name calls ns
+-- The lines of a call that could come next after the run: what it would answer, and below it what is known of it.
+abbrev pub lines_of : List ℕ → List (ProblemCall Op Reply) → List ℕ → NextCall → List ℕ
+lines_of name calls run next = next_line_of name next.answer (slice_get calls next.call) ++ known_text_of calls run next.call (slice_get calls next.call)
+
+-- The lines of the calls that could come next after the run.
+abbrev pub next_lines : List ℕ → List (ProblemCall Op Reply) → List ℕ → List NextCall → List ℕ
+next_lines name calls run [] = []
+next_lines name calls run (n ∷ ns) = lines_of name calls run n ++ next_lines name calls run ns
 
 -- The state after the run, of a map with the keys that the next calls ask for alone, and the calls that could come next.
-abbrev pub explanation_text : List ℕ → List (ProblemCall Op Reply) → Explanation → List ℕ
-explanation_text name calls e = state_line name (keys_with calls [] e.next.items) e.state ++ next_lines name calls e.next.items
+abbrev pub explanation_text : List ℕ → List (ProblemCall Op Reply) → List ℕ → Explanation → List ℕ
+explanation_text name calls run e = state_line name (keys_with calls [] e.next.items) e.state ++ next_lines name calls run e.next.items

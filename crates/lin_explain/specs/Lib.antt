@@ -3,3 +3,4 @@ pub mod FirstReturn
 pub mod StateText
 pub mod ExplanationText
 pub mod Touching
+pub mod TouchingText

@@ -1,9 +1,10 @@
 //! How an explanation is shown: a line of the state, and a line of each call that could come next.
 ghost use Rattle.std.specs.Prelude.{◌≡◌, ◌++◌, [], slice_get, string_bytes, IfOk, OnOk};
-ghost use Rattle.lin_explain.specs.ExplanationText.{key_of, with_key, with_asked, keys_with, recorded_text, answer_text, state_line, next_line, lines_of, next_lines, explanation_text};
+ghost use Rattle.lin_explain.specs.ExplanationText.{key_of, with_key, with_asked, keys_with, answer_text, state_line, next_line, next_line_of, lines_of, next_lines, explanation_text};
 
 use crate::explanation::{Explanation, NextCall};
 use crate::state_text::{items_in, write_state};
+use crate::touching_text::{write_known_of, write_recorded};
 use lin_history::ProblemCall;
 use lin_object::{Items, ObjState, Op, Reply};
 use std::alloc::{AllocError, Global};
@@ -74,17 +75,6 @@ fn write_state_line(
     out.push_str("\n")
 }
 
-// Appends the recorded reply; nothing where the call is pending.
-fn write_recorded(out: &mut String, returned: &Option<(u32, Reply)>) -> Result<(), AllocError>
-    ensures { OnOk result (string_bytes out.new
-        ≡ string_bytes out.old ++ recorded_text returned.now) }
-{
-    match returned {
-        Some((_, reply)) => write!(out, " = {reply}"),
-        None => Ok(()),
-    }
-}
-
 // Appends what a call would answer.
 fn write_answer(out: &mut String, answer: Option<Reply>) -> Result<(), AllocError>
     ensures { OnOk result (string_bytes out.new ≡ string_bytes out.old ++ answer_text answer) }
@@ -112,16 +102,15 @@ fn write_next(
     write_answer(out, answer)
 }
 
-// Appends the lines of this call, where it is a call.
-fn write_lines_of(
+// Appends the line of this call, where it is a call.
+fn write_next_of(
     out: &mut String,
     name: &str,
     calls: &[ProblemCall<Op, Reply>],
     next: &NextCall,
 ) -> Result<(), AllocError>
-    ensures { OnOk result (string_bytes out.new
-        ≡ string_bytes out.old ++ lines_of name.now (slice_get calls.now next.now.call)
-        next.now.answer) }
+    ensures { OnOk result (string_bytes out.new ≡ string_bytes out.old
+        ++ next_line_of name.now next.now.answer (slice_get calls.now next.now.call)) }
 {
     match calls.get(next.call) {
         Some(call) => write_next(out, name, call, next.answer),
@@ -129,37 +118,57 @@ fn write_lines_of(
     }
 }
 
-// Appends the lines of the calls that could come next.
-fn write_next_lines(
+// Appends the lines of a call that could come next: what it would answer, and below it what is known of it.
+fn write_lines_of(
+    alloc: Global,
     out: &mut String,
     name: &str,
     calls: &[ProblemCall<Op, Reply>],
+    run: &[usize],
+    next: &NextCall,
+) -> Result<(), AllocError>
+    ensures { OnOk result (string_bytes out.new
+        ≡ string_bytes out.old ++ lines_of name.now calls.now run.now next.now) }
+{
+    write_next_of(out, name, calls, next)?;
+    write_known_of(alloc, out, calls, run, next.call)
+}
+
+// Appends the lines of the calls that could come next.
+fn write_next_lines(
+    alloc: Global,
+    out: &mut String,
+    name: &str,
+    calls: &[ProblemCall<Op, Reply>],
+    run: &[usize],
     next: &[NextCall],
 ) -> Result<(), AllocError>
     ensures { OnOk result (string_bytes out.new
-        ≡ string_bytes out.old ++ next_lines name.now calls.now next.now) }
+        ≡ string_bytes out.old ++ next_lines name.now calls.now run.now next.now) }
 {
     for one in next {
-        write_lines_of(out, name, calls, one)?;
+        write_lines_of(alloc, out, name, calls, run, one)?;
     }
     Ok(())
 }
 
 /// Appends the lines that tell why a run ends of these calls on the object of this name: the state after it, of a map with
 /// the keys that the next calls ask for alone; and each call that could come next, with the recorded reply and with what it
-/// would answer. `AllocError` where memory was refused.
+/// would answer; below it the calls that put or took the value that it asks for, or the call since which a mutex is held.
+/// `AllocError` where memory was refused.
 pub fn write_explanation(
     alloc: Global,
     out: &mut String,
     name: &str,
     calls: &[ProblemCall<Op, Reply>],
+    run: &[usize],
     explanation: &Explanation,
 ) -> Result<(), AllocError>
     ensures { OnOk result (string_bytes out.new
-        ≡ string_bytes out.old ++ explanation_text name.now calls.now explanation.now) }
+        ≡ string_bytes out.old ++ explanation_text name.now calls.now run.now explanation.now) }
 {
     let next = explanation.next.as_slice();
     let keys = asked_keys(alloc, calls, next)?;
     write_state_line(alloc, out, name, keys.as_slice(), &explanation.state)?;
-    write_next_lines(out, name, calls, next)
+    write_next_lines(alloc, out, name, calls, run, next)
 }

@@ -47,14 +47,14 @@ fn write_more(out: &mut String, count: usize) -> Result<(), AllocError>
     write!(out, ", .. and {more} more")
 }
 
-// Those that are shown.
-fn shown<T>(items: &[T]) -> &[T]
-    ensures { result.now ≡ take MAX_SHOWN items.now }
+/// The first of them, so many at most.
+pub(crate) fn front<T>(items: &[T], most: usize) -> &[T]
+    ensures { result.now ≡ take most items.now }
 {
-    if items.len() <= MAX_SHOWN {
+    if items.len() <= most {
         items
     } else {
-        &items[..MAX_SHOWN]
+        &items[..most]
     }
 }
 
@@ -62,7 +62,7 @@ fn shown<T>(items: &[T]) -> &[T]
 fn write_listed(out: &mut String, items: &[i64]) -> Result<(), AllocError>
     ensures { OnOk result (string_bytes out.new ≡ string_bytes out.old ++ listed items.now) }
 {
-    write_joined(out, shown(items))?;
+    write_joined(out, front(items, MAX_SHOWN))?;
     write_more(out, items.len())
 }
 
@@ -101,7 +101,7 @@ fn write_joined_pairs(out: &mut String, pairs: &[Pair]) -> Result<(), AllocError
 fn write_listed_pairs(out: &mut String, pairs: &[Pair]) -> Result<(), AllocError>
     ensures { OnOk result (string_bytes out.new ≡ string_bytes out.old ++ listed_pairs pairs.now) }
 {
-    write_joined_pairs(out, shown(pairs))?;
+    write_joined_pairs(out, front(pairs, MAX_SHOWN))?;
     write_more(out, pairs.len())
 }
 

@@ -1,4 +1,4 @@
-use Rattle.std.proofs.Common.{◌≡◌, ◌∙◌, [], append_assoc}
+use Rattle.std.proofs.Common.{◌≡◌, ◌∙◌, []}
 use Rattle.std.proofs.lemmas.Result.{on_ok_weaker}
 use Rattle.lin_explain.specs.ExplanationText.{keys_with, state_line}
 use Rattle.lin_explain.proofs.TextLemmas.{behind_both}
