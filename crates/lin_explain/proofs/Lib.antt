@@ -2,3 +2,4 @@ pub mod ListLemmas
 pub mod NextLemmas
 pub mod StateLemmas
 pub mod TextLemmas
+pub mod RunLemmas

@@ -9,7 +9,6 @@ use Rattle.lin_object.specs.Items.{is_in, with_in_order}
 use Rattle.lin_object.specs.PrintedForms.{op_text, reply_text}
 use Rattle.lin_history.specs.declared.problems.problem.ProblemCall.{ProblemCall}
 use Rattle.lin_explain.specs.declared.explanation.NextCall.{NextCall}
-use Rattle.lin_explain.specs.declared.explanation.Explanation.{Explanation}
 use Rattle.lin_explain.specs.StateText.{state_text}
 use Rattle.lin_explain.specs.TouchingText.{recorded_text, known_text_of}
 
@@ -65,5 +64,5 @@ next_lines name calls run [] = []
 next_lines name calls run (n ∷ ns) = lines_of name calls run n ++ next_lines name calls run ns
 
 -- The state after the run, of a map with the keys that the next calls ask for alone, and the calls that could come next.
-abbrev pub explanation_text : List ℕ → List (ProblemCall Op Reply) → List ℕ → Explanation → List ℕ
-explanation_text name calls run e = state_line name (keys_with calls [] e.next.items) e.state ++ next_lines name calls run e.next.items
+abbrev pub explanation_text : List ℕ → List (ProblemCall Op Reply) → List ℕ → ObjState → List NextCall → List ℕ
+explanation_text name calls run state next = state_line name (keys_with calls [] next) state ++ next_lines name calls run next

@@ -4,3 +4,4 @@ pub mod StateText
 pub mod ExplanationText
 pub mod Touching
 pub mod TouchingText
+pub mod RunExplained

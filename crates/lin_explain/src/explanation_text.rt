@@ -165,7 +165,8 @@ pub fn write_explanation(
     explanation: &Explanation,
 ) -> Result<(), AllocError>
     ensures { OnOk result (string_bytes out.new
-        ≡ string_bytes out.old ++ explanation_text name.now calls.now run.now explanation.now) }
+        ≡ string_bytes out.old ++ explanation_text name.now calls.now run.now
+        explanation.now.state explanation.now.next.items) }
 {
     let next = explanation.next.as_slice();
     let keys = asked_keys(alloc, calls, next)?;
