@@ -65,7 +65,13 @@ fn is_answered_with<R: AllocGlobal + Threads + Sync>(
     let status = status_of(rt, name)?;
     let text = text_of(rt, name, "jsonl")?;
     let answer = text_of(rt, name, "answer")?;
-    let given = gives(threads, text.as_slice(), options, explain, answer.as_slice());
+    let given = gives(
+        threads,
+        text.as_slice(),
+        options,
+        explain,
+        answer.as_slice(),
+    );
     Ok(given == Some(status))
 }
 
