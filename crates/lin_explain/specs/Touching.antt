@@ -38,6 +38,7 @@ entry_in key reply = None
 -- a key had. None where it asks for no value.
 abbrev pub asked_of : Op → Option (ℕ × Reply) → Option Asked
 asked_of (ops.Cas value new) returned = Some (Value value)
+asked_of (ops.Insert member) returned = Some (Member member)
 asked_of (ops.Contains member) returned = Some (Member member)
 asked_of (ops.Remove member) returned = Some (Member member)
 asked_of ops.Dequeue (Some returned) = item_in returned.1

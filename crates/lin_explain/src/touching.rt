@@ -50,6 +50,7 @@ pub(crate) fn asked_of(op: &Op, returned: &Option<(u32, Reply)>) -> Option<Asked
 {
     match (op, returned) {
         (Op::Cas(value, _), _) => Some(Asked::Value(*value)),
+        (Op::Insert(member), _) => Some(Asked::Member(*member)),
         (Op::Contains(member), _) => Some(Asked::Member(*member)),
         (Op::Remove(member), _) => Some(Asked::Member(*member)),
         (Op::Dequeue, Some((_, Reply::Int(item)))) => Some(Asked::Item(*item)),
