@@ -159,7 +159,7 @@ def asked_of(kind, call):
     op, args = call["op"], call["args"]
     reply = None if call["returned"] is PENDING else call["returned"][1]
     is_number = isinstance(reply, int) and not isinstance(reply, bool)
-    if op in ("cas", "contains") or kind == "set" and op == "remove":
+    if op == "cas" or kind == "set":
         return args[0]
     if kind == "map":
         return (args[0], reply) if op == "get" and is_number else None
@@ -272,6 +272,7 @@ CASES = {
         "stack", ["1 push 1", "1 = ok", "1 push 2", "1 = ok", "2 pop", "2 = 2", "3 pop", "2 pop", "2 = 2"]),
     "set_member_that_was_removed": history(
         "set", ["1 add 4", "1 = true", "2 remove 4", "2 = true", "1 add 1", "1 = true", "3 contains 4", "3 = true"]),
+    "set_member_added_twice": history("set", ["1 add 1", "1 = true", "2 add 1", "3 add 2", "2 = true", "3 = false"]),
     "mutex_held_by_another": history(
         "mutex", ["1 lock", "1 = ok", "2 lock", "3 try_lock", "2 = ok", "3 = true", "1 unlock", "1 = ok"]),
     "mutex_unlocked_by_who_does_not_hold_it": history("mutex", ["1 lock", "1 = ok", "2 unlock", "2 = ok"]),
