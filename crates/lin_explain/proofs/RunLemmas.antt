@@ -1,5 +1,5 @@
 -- The numbers of a run's calls, and the problem of an object as the part of its history.
-use Rattle.std.proofs.Common.{◌≡◌, ℕ, zero, suc, ◌+◌, ◌<◌, ◌==◌, Bool, true, false, cond, List, [], ◌∷◌, length, map, filter, take, Option, Some, None, inl, inr, refl, sym, ap, subst, ◌∙◌, arith, eqb-true}
+use Rattle.std.proofs.Common.{◌≡◌, ℕ, zero, suc, ◌+◌, ◌<◌, ◌==◌, Bool, true, false, cond, List, [], ◌∷◌, length, map, take, Option, Some, None, inl, inr, refl, sym, ap, subst, ◌∙◌, arith, eqb-true}
 use Rattle.std.specs.Prelude.{pos}
 use Rattle.std.specs.List.{slice_get}
 use Rattle.std.specs.Option.{option_map, option_map_or}
@@ -14,10 +14,9 @@ use Rattle.lin_history.specs.declared.problems.problem.ProblemCall.{ProblemCall}
 use Rattle.lin_history.specs.Problems.Problem.{Problem}
 use Rattle.lin_history.specs.Problems.ProblemParts.{ProblemParts}
 use Rattle.lin_history.specs.Recorder.Events.{Call}
-use Rattle.lin_history.specs.Recorder.RecordedHistory.{DeclaredObject, RecordedHistory, is_on}
+use Rattle.lin_history.specs.Recorder.RecordedHistory.{DeclaredObject, RecordedHistory}
 use Rattle.lin_history.specs.Recorder.Parts.{start_of, part_calls}
 use Rattle.lin_history.specs.Recorder.Views.{count_on}
-use Rattle.lin_history.specs.Locality.Whole.{Has}
 use Rattle.lin_history.specs.Locality.JoinedOrder.{indices_from, index_of, Places}
 use Rattle.lin_history.specs.Locality.PlaceLemmas.{at_number}
 use Rattle.lin_history.specs.Locality.RecordedWhole.{start_at, whole_of, part_of}
@@ -25,7 +24,7 @@ use Rattle.lin_history.specs.Verifier.Flags.{AreKnown}
 use Rattle.lin_history.specs.Problems.LegalLists.{Legal}
 use Rattle.lin_explain.specs.declared.explanation.Explanation.{Explanation}
 use Rattle.lin_explain.specs.declared.explanation.NextCall.{NextCall}
-use Rattle.lin_explain.specs.Explanation.{judged_problem, next_in, IsExplanation}
+use Rattle.lin_explain.specs.Explanation.{judged_problem, IsExplanation}
 use Rattle.lin_explain.specs.ExplanationText.{explanation_text}
 use Rattle.lin_explain.specs.RunExplained.{number_at, number_in, object_name, AreLinesOf}
 

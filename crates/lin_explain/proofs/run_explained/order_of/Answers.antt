@@ -1,4 +1,3 @@
-use Rattle.std.proofs.Common.{get_or}
 use Rattle.std.proofs.lemmas.Option.{slice_get-get_or}
 use Rattle.lin_object.specs.declared.reply.Reply.TheVariants.{Okay}
 use Rattle.lin_explain.proofs.RunLemmas.{known_at}
