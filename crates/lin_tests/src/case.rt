@@ -1,6 +1,6 @@
 //! A case: a text, what is printed of it, the exit status, and the options of the run.
 
-use crate::choice::options_of;
+use crate::choice::{explains, options_of};
 use crate::repeat::repeated;
 use lincheck::{Options, StdSink, StdSource, run, status_code};
 use std::thread::Threads;
@@ -30,14 +30,14 @@ fn words_of(rt: &HostRuntime, name: &str) -> io::Result<String> {
     Ok(fs::read_to_string(rt, path.as_str()).unwrap_or(String::new(rt.alloc())))
 }
 
-// Whether `run`, which starts workers with `threads`, answers the text with this status and prints this answer.
+// The status with which `run`, which starts workers with `threads`, answers the text, where it prints this answer.
 fn gives<R: AllocGlobal + Threads + Sync>(
     threads: &R,
     text: &[u8],
     options: &Options,
+    explain: bool,
     answer: &[u8],
-    status: u8,
-) -> bool {
+) -> Option<u8> {
     let mut written = Vec::new(threads.alloc());
     let mut source = StdSource::new(text);
     let ran = run(
@@ -45,21 +45,34 @@ fn gives<R: AllocGlobal + Threads + Sync>(
         &mut source,
         &mut StdSink::new(&mut written),
         options,
+        explain,
     );
-    status_code(&ran) == status && written.as_slice() == answer
+    if written.as_slice() == answer {
+        Some(status_code(&ran))
+    } else {
+        None
+    }
 }
 
-// The same of a case, with these options.
+// Whether a case is answered so, with these options.
 fn is_answered_with<R: AllocGlobal + Threads + Sync>(
     rt: &HostRuntime,
     threads: &R,
     name: &str,
     options: &Options,
+    explain: bool,
 ) -> io::Result<bool> {
     let status = status_of(rt, name)?;
     let text = text_of(rt, name, "jsonl")?;
     let answer = text_of(rt, name, "answer")?;
-    Ok(gives(threads, text.as_slice(), options, answer.as_slice(), status))
+    let given = gives(
+        threads,
+        text.as_slice(),
+        options,
+        explain,
+        answer.as_slice(),
+    );
+    Ok(given == Some(status))
 }
 
 /// Whether `run` answers the text of a case with its status and prints its answer, byte for byte.
@@ -68,8 +81,9 @@ pub fn is_answered<R: AllocGlobal + Threads + Sync>(
     threads: &R,
     name: &str,
 ) -> io::Result<bool> {
-    match options_of(words_of(rt, name)?.as_str()) {
-        Some(options) => is_answered_with(rt, threads, name, &options),
+    let words = words_of(rt, name)?;
+    match options_of(words.as_str()) {
+        Some(options) => is_answered_with(rt, threads, name, &options, explains(words.as_str())),
         None => Ok(false),
     }
 }

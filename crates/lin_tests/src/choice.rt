@@ -19,13 +19,20 @@ const USUAL: Choice = Choice {
     stats: false,
 };
 
-// The choice, with what a line says: a name and a number, or that statistics are told.
+// What a line says where it is told why a longest run ends.
+const EXPLAIN: &str = "--explain";
+
+// The choice, with what a line says: a name and a number, or that statistics are told. That an explanation is told is no part
+// of it.
 fn with_line(choice: Choice, line: &str) -> Option<Choice> {
     if line == "--stats" {
         return Some(Choice {
             stats: true,
             ..choice
         });
+    }
+    if line == EXPLAIN {
+        return Some(choice);
     }
     let (name, value) = line.split_once(' ')?;
     let value = value.parse::<u64>().ok()?;
@@ -53,4 +60,13 @@ pub fn options_of(lines: &str) -> Option<Options> {
         choice = with_line(choice, line)?;
     }
     Options::new(choice.workers, choice.shards, choice.limit, choice.stats).ok()
+}
+
+/// Whether the lines ask for an explanation.
+pub fn explains(lines: &str) -> bool {
+    let mut explains = false;
+    for line in lines.lines() {
+        explains = explains || line == EXPLAIN;
+    }
+    explains
 }

@@ -40,6 +40,14 @@ is_not_set : one_of (codes "stats") (matches_of program []) ≡ Some (codes "fal
 unfolding program clap_on_literals
 is_not_set = refl
 
+explain_is_set : one_of (codes "explain") (matches_of program (codes "--explain" ∷ [])) ≡ Some (codes "true")
+unfolding program clap_on_literals
+explain_is_set = refl
+
+explain_is_not_set : one_of (codes "explain") (matches_of program (codes "--stats" ∷ [])) ≡ Some (codes "false")
+unfolding program clap_on_literals
+explain_is_not_set = refl
+
 -- What is usual where nothing is given.
 is_usual : (DEFAULT_WORKERS ≡ 4) × (DEFAULT_SHARDS ≡ 16)
 is_usual = (refl, refl)
@@ -63,6 +71,10 @@ limit_refused = (refl, refl)
 twice_refused : fault_of program (codes "--workers" ∷ codes "2" ∷ codes "--workers" ∷ codes "3" ∷ []) ≡ ArgumentConflict ∷ []
 unfolding program clap_on_literals
 twice_refused = refl
+
+explain_twice_refused : fault_of program (codes "--explain" ∷ codes "--explain" ∷ []) ≡ ArgumentConflict ∷ []
+unfolding program clap_on_literals
+explain_twice_refused = refl
 
 word_refused : fault_of program (codes "extra" ∷ []) ≡ UnknownArgument ∷ []
 unfolding program clap_on_literals

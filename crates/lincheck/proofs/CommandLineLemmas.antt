@@ -25,7 +25,7 @@ use Rattle.clap.proofs.OnLiterals.{clap_on_literals}
 use Rattle.clap.proofs.CallerLemmas.{added_plain, entry_by_id}
 use Rattle.lin_workers.specs.Options.{Options, IsUpTo, is_outside, is_limit_outside, options_made}
 use Rattle.lin_workers.specs.declared.options.TheConstants.{MAX_WORKERS, MAX_SHARDS, MAX_LIMIT}
-use Rattle.lincheck.specs.CommandLine.{TakesUpTo, flag_rule, no_options, number_rule, program, IsBareLine, IsCommandLine, IsFlagOption, IsNumberOption, GivesUpTo, AreAsked, AreInRange, number_in}
+use Rattle.lincheck.specs.CommandLine.{TakesUpTo, flag_rule, no_options, number_rule, program, IsBareLine, IsCommandLine, IsExplainAsked, IsFlagOption, IsNumberOption, GivesUpTo, AreAsked, AreInRange, number_in}
 use Rattle.lincheck.specs.Request.{AnswersKind, IsAnswerTo}
 use Rattle.lincheck.specs.declared.request.Request.{Request}
 use Rattle.lincheck.specs.declared.request.Request.TheVariants.{Run, Help, Version, Refused}
@@ -197,8 +197,8 @@ named : (a : Arg) (name : List ℕ) (greatest : ℕ) → IsNumberOption name gre
 named a name greatest is = ap (λ (r : Rule). r.id) is.rule
 
 -- What the program's command line is made of.
-program_of : (c : Command) → app_of c ≡ with_rule (with_rule (with_rule (with_rule no_options (number_rule (codes "workers") MAX_WORKERS))
-    (number_rule (codes "shards") MAX_SHARDS)) (number_rule (codes "limit") MAX_LIMIT)) (flag_rule (codes "stats")) → app_of c ≡ program
+program_of : (c : Command) → app_of c ≡ with_rule (with_rule (with_rule (with_rule (with_rule no_options (number_rule (codes "workers") MAX_WORKERS))
+    (number_rule (codes "shards") MAX_SHARDS)) (number_rule (codes "limit") MAX_LIMIT)) (flag_rule (codes "stats"))) (flag_rule (codes "explain")) → app_of c ≡ program
 unfolding program
 program_of c is = is
 
@@ -208,12 +208,12 @@ unfolding program clap_on_literals
 is_plain_enough = (refl, refl)
 
 -- Where the words are taken, the options are those that they ask for.
-pub run_answers : (words : List Text) (c : Command) (m : ArgMatches) (o : Options) → IsCommandLine c → HasMatchesOf (app_of c) words m
-    → (is_simple_and_free (app_of c) ≡ true → fault_of (app_of c) words ≡ []) → AreAsked (rows_of (found_of m)) o → IsAnswerTo words (Run o)
-run_answers words c m o line matches fails asked =
+pub run_answers : (words : List Text) (c : Command) (m : ArgMatches) (o : Options) (explain : Bool) → IsCommandLine c → HasMatchesOf (app_of c) words m
+    → (is_simple_and_free (app_of c) ≡ true → fault_of (app_of c) words ≡ []) → AreAsked (rows_of (found_of m)) o → IsExplainAsked (rows_of (found_of m)) explain → IsAnswerTo words (Run o explain)
+run_answers words c m o explain line matches fails asked told =
     let faults = fails (ap is_simple_and_free line.app ∙ is_plain_enough.1) in
     let rows = (matches (ap is_simple line.app ∙ is_plain_enough.0)).0 in
-    (ap (λ a. fault_of a words) (sym line.app) ∙ faults, subst (λ r. AreAsked r o) (rows ∙ ap (λ a. matches_of a words) line.app) asked)
+    (ap (λ a. fault_of a words) (sym line.app) ∙ faults, subst (λ r. AreAsked r o) (rows ∙ ap (λ a. matches_of a words) line.app) asked, subst (λ r. IsExplainAsked r explain) (rows ∙ ap (λ a. matches_of a words) line.app) told)
 
 help_is_not_memory : kinds.DisplayHelp ≡ kinds.OutOfMemory → ⊥
 help_is_not_memory same = cc
@@ -228,7 +228,7 @@ other_answers {E} words c e r line fails answers =
     go r answers (subst (λ a. HasKind (fault_of a words) e) line.app (fails (ap is_simple_and_free line.app ∙ is_plain_enough.1)))
   where
     go : (r : Result Request E) → AnswersKind (kind_of e) r → HasKind (fault_of program words) e → IfOk r (IsAnswerTo words)
-    go (Ok (Run o)) answers kind = absurd answers
+    go (Ok (Run o explain)) answers kind = absurd answers
     go (Ok (Help text)) answers (inl memory) = absurd (help_is_not_memory (sym answers ∙ memory))
     go (Ok (Help text)) answers (inr among) = subst (λ k. IsAmong k (fault_of program words)) answers among
     go (Ok (Version text)) answers (inl memory) = absurd (version_is_not_memory (sym answers ∙ memory))
@@ -237,12 +237,12 @@ other_answers {E} words c e r line fails answers =
     go (Ok (Refused text)) answers (inr among) = (kind_of e, answers.0, answers.1, among)
     go (Err fault) answers kind = tt
 
--- A command to which the program's four options were added, one after another.
-pub line_of : (start first second third last : Command) (w s l t : Arg) → IsBareLine start
-    → AddsArg start w first → AddsArg first s second → AddsArg second l third → AddsArg third t last
+-- A command to which the program's five options were added, one after another.
+pub line_of : (start first second third fourth last : Command) (w s l t e : Arg) → IsBareLine start
+    → AddsArg start w first → AddsArg first s second → AddsArg second l third → AddsArg third t fourth → AddsArg fourth e last
     → IsNumberOption (codes "workers") MAX_WORKERS w → IsNumberOption (codes "shards") MAX_SHARDS s
-    → IsNumberOption (codes "limit") MAX_LIMIT l → IsFlagOption (codes "stats") t → IsCommandLine last
-line_of start first second third last w s l t bare to_w to_s to_l to_t is_w is_s is_l is_t =
+    → IsNumberOption (codes "limit") MAX_LIMIT l → IsFlagOption (codes "stats") t → IsFlagOption (codes "explain") e → IsCommandLine last
+line_of start first second third fourth last w s l t e bare to_w to_s to_l to_t to_e is_w is_s is_l is_t is_e =
     let plain0 : IsPlain start = (subst (All IsPlainArg) (sym bare.args) (All-nil IsPlainArg), bare.groups) in
     let plain1 = added_plain start first w to_w plain0 is_w.plain in
     let plain2 = added_plain first second s to_s plain1 is_s.plain in
@@ -250,36 +250,45 @@ line_of start first second third last w s l t bare to_w to_s to_l to_t is_w is_s
     let own1 = own_after start first w to_w bare.own is_w.own in
     let own2 = own_after first second s to_s own1 is_s.own in
     let own3 = own_after second third l to_l own2 is_l.own in
+    let plain4 = added_plain third fourth t to_t plain3 is_t.plain in
+    let own4 = own_after third fourth t to_t own3 is_t.own in
     let id = ap (λ (r : Rule). r.id) is_t.rule in
+    let id_e = ap (λ (r : Rule). r.id) is_e.rule in
     record {
-      app = program_of last (to_t.shape is_t.own ∙ ap₂ with_rule (to_l.shape is_l.own ∙ ap₂ with_rule (to_s.shape is_s.own ∙ ap₂ with_rule
-          (to_w.shape is_w.own ∙ ap₂ with_rule bare.app is_w.rule) is_s.rule) is_l.rule) is_t.rule);
-      plain = added_plain third last t to_t plain3 is_t.plain;
-      own = own_after third last t to_t own3 is_t.own;
-      workers = takes_push third last t (codes "workers") MAX_WORKERS to_t
+      app = program_of last (to_e.shape is_e.own ∙ ap₂ with_rule (to_t.shape is_t.own ∙ ap₂ with_rule (to_l.shape is_l.own ∙ ap₂ with_rule (to_s.shape is_s.own ∙ ap₂ with_rule
+          (to_w.shape is_w.own ∙ ap₂ with_rule bare.app is_w.rule) is_s.rule) is_l.rule) is_t.rule) is_e.rule);
+      plain = added_plain fourth last e to_e plain4 is_e.plain;
+      own = own_after fourth last e to_e own4 is_e.own;
+      workers = takes_push fourth last e (codes "workers") MAX_WORKERS to_e
+          (takes_push third fourth t (codes "workers") MAX_WORKERS to_t
           (takes_push second third l (codes "workers") MAX_WORKERS to_l
           (takes_push first second s (codes "workers") MAX_WORKERS to_s
           (takes_push start first w (codes "workers") MAX_WORKERS to_w (takes_none start (codes "workers") MAX_WORKERS bare.args)
           (λ is. takes_it w (codes "workers") MAX_WORKERS is_w))
           (other_name s (codes "workers") MAX_WORKERS 115 119 (ap (λ n. slice_index n 0) (named s (codes "shards") MAX_SHARDS is_s)) refl (λ e. absurd (omega arith))))
           (other_name l (codes "workers") MAX_WORKERS 108 119 (ap (λ n. slice_index n 0) (named l (codes "limit") MAX_LIMIT is_l)) refl (λ e. absurd (omega arith))))
-          (other_name t (codes "workers") MAX_WORKERS 115 119 (ap (λ n. slice_index n 0) id) refl (λ e. absurd (omega arith)));
-      shards = takes_push third last t (codes "shards") MAX_SHARDS to_t
+          (other_name t (codes "workers") MAX_WORKERS 115 119 (ap (λ n. slice_index n 0) id) refl (λ e. absurd (omega arith))))
+          (other_name e (codes "workers") MAX_WORKERS 101 119 (ap (λ n. slice_index n 0) id_e) refl (λ q. absurd (omega arith)));
+      shards = takes_push fourth last e (codes "shards") MAX_SHARDS to_e
+          (takes_push third fourth t (codes "shards") MAX_SHARDS to_t
           (takes_push second third l (codes "shards") MAX_SHARDS to_l
           (takes_push first second s (codes "shards") MAX_SHARDS to_s
           (takes_push start first w (codes "shards") MAX_SHARDS to_w (takes_none start (codes "shards") MAX_SHARDS bare.args)
           (other_name w (codes "shards") MAX_SHARDS 119 115 (ap (λ n. slice_index n 0) (named w (codes "workers") MAX_WORKERS is_w)) refl (λ e. absurd (omega arith))))
           (λ is. takes_it s (codes "shards") MAX_SHARDS is_s))
           (other_name l (codes "shards") MAX_SHARDS 108 115 (ap (λ n. slice_index n 0) (named l (codes "limit") MAX_LIMIT is_l)) refl (λ e. absurd (omega arith))))
-          (λ is. absurd (stats_is_not_shards (sym id ∙ is)));
-      limit = takes_push third last t (codes "limit") MAX_LIMIT to_t
+          (λ is. absurd (stats_is_not_shards (sym id ∙ is))))
+          (other_name e (codes "shards") MAX_SHARDS 101 115 (ap (λ n. slice_index n 0) id_e) refl (λ q. absurd (omega arith)));
+      limit = takes_push fourth last e (codes "limit") MAX_LIMIT to_e
+          (takes_push third fourth t (codes "limit") MAX_LIMIT to_t
           (takes_push second third l (codes "limit") MAX_LIMIT to_l
           (takes_push first second s (codes "limit") MAX_LIMIT to_s
           (takes_push start first w (codes "limit") MAX_LIMIT to_w (takes_none start (codes "limit") MAX_LIMIT bare.args)
           (other_name w (codes "limit") MAX_LIMIT 119 108 (ap (λ n. slice_index n 0) (named w (codes "workers") MAX_WORKERS is_w)) refl (λ e. absurd (omega arith))))
           (other_name s (codes "limit") MAX_LIMIT 115 108 (ap (λ n. slice_index n 0) (named s (codes "shards") MAX_SHARDS is_s)) refl (λ e. absurd (omega arith))))
           (λ is. takes_it l (codes "limit") MAX_LIMIT is_l))
-          (other_name t (codes "limit") MAX_LIMIT 115 108 (ap (λ n. slice_index n 0) id) refl (λ e. absurd (omega arith)));
+          (other_name t (codes "limit") MAX_LIMIT 115 108 (ap (λ n. slice_index n 0) id) refl (λ e. absurd (omega arith))))
+          (other_name e (codes "limit") MAX_LIMIT 101 108 (ap (λ n. slice_index n 0) id_e) refl (λ q. absurd (omega arith)));
     }
   where
     own_after : (old new : Command) (a : Arg) → AddsArg old a new → (out-Command old).has_globals ≡ false → a.global ≡ false

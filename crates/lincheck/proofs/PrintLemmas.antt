@@ -24,6 +24,7 @@ use Rattle.lincheck.specs.declared.fault.RunFault.TheVariants.{Read, Write, Memo
 use Rattle.lincheck.proofs.Bytes.{kept}
 use Rattle.lin_history.specs.declared.limits.TheConstants.{MAX_OBJECTS}
 use Rattle.lincheck.specs.Report.{with_stats}
+use Rattle.lincheck.specs.Explained.{WithExplanation, IsExplained}
 use Rattle.lincheck.specs.Stored.{IsStoredTold, judged_of}
 use Rattle.lincheck.specs.Prints.{IsReport, WithStats, Prints, status_of}
 use Rattle.std.specs.Result.{result_map_both, is_err}
@@ -41,11 +42,11 @@ means_fault text read line cause (inr long) (inl m) =
     inl (omega (arith, l, n), m.1, m.2)
 means_fault text read line cause (inr long) (inr m) = absurd (let s = m.2.short in let l = long.0 in omega (arith, s, l))
 
-pub prints_read : (options : Options) (text read : List ℕ) (status : Status) (printed : List ℕ) → IsReadOf text read → Prints options read status printed → Prints options text status printed
-prints_read options text read Yes printed r p = (p.0, means_history text read p.0 r p.1, p.2)
-prints_read options text read No printed r p = (p.0, means_history text read p.0 r p.1, p.2)
-prints_read options text read Undecided printed r p = (p.0, means_history text read p.0 r p.1, p.2)
-prints_read options text read Refused printed r p = (p.0, means_fault text read p.0.line p.0.cause r p.1, p.2)
+pub prints_read : (options : Options) (explain : Bool) (text read : List ℕ) (status : Status) (printed : List ℕ) → IsReadOf text read → Prints options explain read status printed → Prints options explain text status printed
+prints_read options explain text read Yes printed r p = (p.0, means_history text read p.0 r p.1, p.2)
+prints_read options explain text read No printed r p = (p.0, means_history text read p.0 r p.1, p.2)
+prints_read options explain text read Undecided printed r p = (p.0, means_history text read p.0 r p.1, p.2)
+prints_read options explain text read Refused printed r p = (p.0, means_fault text read p.0.line p.0.cause r p.1, p.2)
 
 -- the calls of a list are known where its first and the rest are
 known_more : (h : RecordedHistory) (x : Placed Reply) (xs : List (Placed Reply)) → x.call < length h.calls → AreKnown (whole_of h) xs → AreKnown (whole_of h) (x ∷ xs)
@@ -70,11 +71,17 @@ verdict_of h limit (verdicts.Yes l) v = replayed_known h (start_at h) l v.1.lega
 verdict_of h limit (verdicts.No object run) v = (v.0.0.declared, placed_known h object (start_at h object) v.0.1.order run.items v.0.1.placed)
 verdict_of h limit (verdicts.Undecided object) v = v.declared
 
--- the report of a right verdict is the report of the history
-report_of_verdict : (h : RecordedHistory) (limit : Option ℕ) (v : Verdict) (printed : List ℕ) → IsVerdict h limit v → printed ≡ report_of h v → IsReport limit h (status_of v) (judged_of h v) printed
-report_of_verdict h limit (verdicts.Yes l) printed v p = ((v.0.0, l, v.0.1, v.0.2, v.1, p), refl)
-report_of_verdict h limit (verdicts.No object run) printed v p = (object, (run.items, v.0.0, v.0.1, p), v.1, refl)
-report_of_verdict h limit (verdicts.Undecided object) printed v p = (object, (v, p), refl)
+-- the report of a right verdict, with what is told after it, is the report of the history
+report_of_verdict : (explain : Bool) (h : RecordedHistory) (limit : Option ℕ) (v : Verdict) (report printed : List ℕ) → IsVerdict h limit v → report ≡ report_of h v → IsExplained explain h v report printed → IsReport explain limit h (status_of v) (judged_of h v) printed
+report_of_verdict explain h limit (verdicts.Yes l) report printed v p e = ((v.0.0, l, v.0.1, v.0.2, v.1, e ∙ p), refl)
+report_of_verdict explain h limit (verdicts.No object run) report printed v p e = (object, (run.items, v.0.0, v.0.1, subst (λ (r : List ℕ). WithExplanation explain h object v.0.1.order r printed) p (e v.0.1)), v.1, refl)
+report_of_verdict explain h limit (verdicts.Undecided object) report printed v p e = (object, (v, e ∙ p), refl)
+
+-- where no explanation is asked for, the report stays as it is
+pub explained_not : (h : RecordedHistory) (v : Verdict) (report : List ℕ) → IsExplained false h v report report
+explained_not h (verdicts.Yes l) report = refl
+explained_not h (verdicts.No object run) report = λ longest. refl
+explained_not h (verdicts.Undecided object) report = refl
 
 -- no more objects are judged than there are
 pub judged_few : (h : RecordedHistory) (limit : Option ℕ) (v : Verdict) (most : ℕ) → IsVerdict h limit v → length h.objects ≤ most → judged_of h v ≤ most
@@ -89,20 +96,20 @@ stats_told true h n (Some stored) report printed e told few = (stored, told.is_s
 stats_told true h n None report printed e told few = absurd (let q = told.is_told few in cc)
 
 -- and the text prints it, with the statistics after it
-pub prints_verdict : (text : List ℕ) (h : RecordedHistory) (options : Options) (v : Verdict) (report printed : List ℕ) → MeansHistory text h → IsVerdict h options.limit v → report ≡ report_of h v → WithStats options.stats h (judged_of h v) report printed → Prints options text (status_of v) printed
-prints_verdict text h options (verdicts.Yes l) report printed m right is stats = (h, m, (length h.objects, report, report_of_verdict h options.limit (verdicts.Yes l) report right is, stats))
-prints_verdict text h options (verdicts.No object run) report printed m right is stats = (h, m, (object + 1, report, report_of_verdict h options.limit (verdicts.No object run) report right is, stats))
-prints_verdict text h options (verdicts.Undecided object) report printed m right is stats = (h, m, (object + 1, report, report_of_verdict h options.limit (verdicts.Undecided object) report right is, stats))
+pub prints_verdict : (text : List ℕ) (h : RecordedHistory) (options : Options) (explain : Bool) (v : Verdict) (report told printed : List ℕ) → MeansHistory text h → IsVerdict h options.limit v → report ≡ report_of h v → IsExplained explain h v report told → WithStats options.stats h (judged_of h v) told printed → Prints options explain text (status_of v) printed
+prints_verdict text h options explain (verdicts.Yes l) report told printed m right is why stats = (h, m, (length h.objects, told, report_of_verdict explain h options.limit (verdicts.Yes l) report told right is why, stats))
+prints_verdict text h options explain (verdicts.No object run) report told printed m right is why stats = (h, m, (object + 1, told, report_of_verdict explain h options.limit (verdicts.No object run) report told right is why, stats))
+prints_verdict text h options explain (verdicts.Undecided object) report told printed m right is why stats = (h, m, (object + 1, told, report_of_verdict explain h options.limit (verdicts.Undecided object) report told right is why, stats))
 
 -- ---- a run on what was read
 
-ran_ok : (options : Options) (source old new : Option (List ℕ)) (read : List ℕ) (status : Status) (printed : List ℕ) → IfSome source (λ text. IsReadOf text read) → Prints options read status printed → Appends old new printed → RanFrom options source old new (Ok status)
-ran_ok options None old new read status printed r p a = (read, tt, (printed, p, a))
-ran_ok options (Some text) old new read status printed r p a = (text, refl, (printed, prints_read options text read status printed r p, a))
+ran_ok : (options : Options) (explain : Bool) (source old new : Option (List ℕ)) (read : List ℕ) (status : Status) (printed : List ℕ) → IfSome source (λ text. IsReadOf text read) → Prints options explain read status printed → Appends old new printed → RanFrom options explain source old new (Ok status)
+ran_ok options explain None old new read status printed r p a = (read, tt, (printed, p, a))
+ran_ok options explain (Some text) old new read status printed r p a = (text, refl, (printed, prints_read options explain text read status printed r p, a))
 
-ran_write : (options : Options) (source old new : Option (List ℕ)) (read : List ℕ) (status : Status) (printed : List ℕ) → IfSome source (λ text. IsReadOf text read) → Prints options read status printed → ((n : ℕ) × Appends old new (take n printed)) → RanFrom options source old new (Err Write)
-ran_write options None old new read status printed r p a = (read, tt, (status, printed, a.0, p, a.1))
-ran_write options (Some text) old new read status printed r p a = (text, refl, (status, printed, a.0, prints_read options text read status printed r p, a.1))
+ran_write : (options : Options) (explain : Bool) (source old new : Option (List ℕ)) (read : List ℕ) (status : Status) (printed : List ℕ) → IfSome source (λ text. IsReadOf text read) → Prints options explain read status printed → ((n : ℕ) × Appends old new (take n printed)) → RanFrom options explain source old new (Err Write)
+ran_write options explain None old new read status printed r p a = (read, tt, (status, printed, a.0, p, a.1))
+ran_write options explain (Some text) old new read status printed r p a = (text, refl, (status, printed, a.0, prints_read options explain text read status printed r p, a.1))
 
 -- what the source had left, or no byte where that is not known
 text_left : (source : Option (List ℕ)) → (text : List ℕ) × IfSome source (λ left. text ≡ left)
@@ -110,15 +117,15 @@ text_left None = ([], tt)
 text_left (Some text) = (text, refl)
 
 -- a run that ended before the first write
-pub ran_nothing : (options : Options) (source old : Option (List ℕ)) (fault : RunFault) → (fault ≡ Write → ⊥) → RanFrom options source old old (Err fault)
-ran_nothing options source old Write other = absurd (other refl)
-ran_nothing options source old Read other = let left = text_left source in (left.0, left.1, kept old)
-ran_nothing options source old Memory other = let left = text_left source in (left.0, left.1, kept old)
+pub ran_nothing : (options : Options) (explain : Bool) (source old : Option (List ℕ)) (fault : RunFault) → (fault ≡ Write → ⊥) → RanFrom options explain source old old (Err fault)
+ran_nothing options explain source old Write other = absurd (other refl)
+ran_nothing options explain source old Read other = let left = text_left source in (left.0, left.1, kept old)
+ran_nothing options explain source old Memory other = let left = text_left source in (left.0, left.1, kept old)
 
 -- a run whose answer was written so
-pub ran_ended : {A E : Type 0} (options : Options) (source old new : Option (List ℕ)) (read : List ℕ) (status : Status) (printed : List ℕ) (written : Result A E) → IfSome source (λ text. IsReadOf text read) → Prints options read status printed → OnOk written (Appends old new printed) → OnErr written ((n : ℕ) × Appends old new (take n printed)) → RanFrom options source old new (result_map_both (λ (x : A). status) (λ (e : E). Write) written)
-ran_ended options source old new read status printed (Ok x) r p ok err = ran_ok options source old new read status printed r p ok
-ran_ended options source old new read status printed (Err e) r p ok err = ran_write options source old new read status printed r p err
+pub ran_ended : {A E : Type 0} (options : Options) (explain : Bool) (source old new : Option (List ℕ)) (read : List ℕ) (status : Status) (printed : List ℕ) (written : Result A E) → IfSome source (λ text. IsReadOf text read) → Prints options explain read status printed → OnOk written (Appends old new printed) → OnErr written ((n : ℕ) × Appends old new (take n printed)) → RanFrom options explain source old new (result_map_both (λ (x : A). status) (λ (e : E). Write) written)
+ran_ended options explain source old new read status printed (Ok x) r p ok err = ran_ok options explain source old new read status printed r p ok
+ran_ended options explain source old new read status printed (Err e) r p ok err = ran_write options explain source old new read status printed r p err
 
 -- no answer that was written so is a failed read; it is a failed write where the write failed
 pub no_read : {A E : Type 0} (status : Status) (written : Result A E) → is_fault is_read (result_map_both (λ (x : A). status) (λ (e : E). Write) written) ≡ false

@@ -1,5 +1,5 @@
 -- The options of the program's command line (this project's own).
-use Rattle.std.specs.Prelude.{◌≡◌, ℕ, true, false, List, [], Option, Some, IfSome, option_map, unwrap_or, codes}
+use Rattle.std.specs.Prelude.{◌≡◌, ℕ, Bool, true, false, List, [], Option, Some, IfSome, option_map, unwrap_or, codes}
 use Rattle.std.specs.List.{All}
 use Rattle.std.specs.Str.Parse.{digits_value, without_leading_plus}
 use Rattle.clap.specs.Simple.{on_top}
@@ -33,9 +33,9 @@ no_options = on_top (λ s. record s { no_binary_name = true; has_version = true 
 
 -- The program's command line.
 unfoldable pub program : App
-program = with_rule (with_rule (with_rule (with_rule no_options
+program = with_rule (with_rule (with_rule (with_rule (with_rule no_options
     (number_rule (codes "workers") MAX_WORKERS)) (number_rule (codes "shards") MAX_SHARDS))
-    (number_rule (codes "limit") MAX_LIMIT)) (flag_rule (codes "stats"))
+    (number_rule (codes "limit") MAX_LIMIT)) (flag_rule (codes "stats"))) (flag_rule (codes "explain"))
 
 -- The argument is the option of this name, and excludes no other.
 pub record IsNumberOption (name : List ℕ) (greatest : ℕ) (a : Arg) : Type 0 where
@@ -94,3 +94,8 @@ pub record AreAsked (rows : List Row) (o : Options) : Type 0 where
   pub limit : o.limit ≡ number_given rows (codes "limit")
   pub stats : one_of (codes "stats") rows ≡ Some (codes "true") → o.stats ≡ true
   pub silent : one_of (codes "stats") rows ≡ Some (codes "false") → o.stats ≡ false
+
+-- Whether an explanation is asked for is what the words gave.
+pub record IsExplainAsked (rows : List Row) (explain : Bool) : Type 0 where
+  pub asked : one_of (codes "explain") rows ≡ Some (codes "true") → explain ≡ true
+  pub silent : one_of (codes "explain") rows ≡ Some (codes "false") → explain ≡ false

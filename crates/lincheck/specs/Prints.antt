@@ -15,6 +15,7 @@ use Rattle.lincheck.specs.declared.status.Status.TheVariants.{Yes, No, Undecided
 use Rattle.lincheck.specs.declared.verdict.Verdict.{Verdict}
 use Rattle.lincheck.specs.declared.verdict.Verdict.TheVariants as verdicts
 use Rattle.lincheck.specs.Verdict.{AreLeast, IsFirstWithout, IsLongestRunOf, IsUndecidedAt}
+use Rattle.lincheck.specs.Explained.{WithExplanation}
 use Rattle.lincheck.specs.Stored.{IsStoredSum}
 use Rattle.lincheck.specs.Report.{yes_report, no_report, undecided_report, stored_line}
 
@@ -27,36 +28,37 @@ PrintsRefused text printed = (fault : TextFault) × MeansFault text fault.line f
 abbrev pub PrintsYes : RecordedHistory → List ℕ → Type 0
 PrintsYes h printed = (orders : List (List ℕ)) × (l : List (Placed Reply)) × AreLeast h orders × IsJoined (whole_of h) orders l × IsLinearizationOfWhole (whole_of h) l × (printed ≡ yes_report h l)
 
--- Otherwise it prints the first object that has none, with its longest run.
-abbrev pub PrintsNo : RecordedHistory → ℕ → List ℕ → Type 0
-PrintsNo h object printed = (run : List (Placed Reply)) × IsFirstWithout h object × IsLongestRunOf h object run × (printed ≡ no_report h object run)
+-- Otherwise it prints the first object that has none, with its longest run, and where that is asked for why the run ends.
+abbrev pub PrintsNo : Bool → RecordedHistory → ℕ → List ℕ → Type 0
+PrintsNo explain h object printed = (run : List (Placed Reply)) × IsFirstWithout h object × (longest : IsLongestRunOf h object run) × WithExplanation explain h object longest.order (no_report h object run) printed
 
 -- Within a limit it may print an object that is not decided.
 abbrev pub PrintsUndecided : RecordedHistory → Option ℕ → ℕ → List ℕ → Type 0
 PrintsUndecided h limit object printed = IsUndecidedAt h limit object × (printed ≡ undecided_report h object)
 
 -- The report of a history within the limit, with each status, where so many objects were judged: all, or those up to the one that is told.
-abbrev pub IsReport : Option ℕ → RecordedHistory → Status → ℕ → List ℕ → Type 0
-IsReport limit h Yes judged printed = PrintsYes h printed × (judged ≡ length h.objects)
-IsReport limit h No judged printed = (object : ℕ) × PrintsNo h object printed × ((l : List (Placed Reply)) → IsLinearizationOfWhole (whole_of h) l → ⊥) × (judged ≡ object + 1)
-IsReport limit h Undecided judged printed = (object : ℕ) × PrintsUndecided h limit object printed × (judged ≡ object + 1)
-IsReport limit h Refused judged printed = ⊥
+abbrev pub IsReport : Bool → Option ℕ → RecordedHistory → Status → ℕ → List ℕ → Type 0
+IsReport explain limit h Yes judged printed = PrintsYes h printed × (judged ≡ length h.objects)
+IsReport explain limit h No judged printed = (object : ℕ) × PrintsNo explain h object printed × ((l : List (Placed Reply)) → IsLinearizationOfWhole (whole_of h) l → ⊥) × (judged ≡ object + 1)
+IsReport explain limit h Undecided judged printed = (object : ℕ) × PrintsUndecided h limit object printed × (judged ≡ object + 1)
+IsReport explain limit h Refused judged printed = ⊥
 
 -- The report alone, or with the line of statistics after it: how many configurations were stored for the objects that were judged.
 abbrev pub WithStats : Bool → RecordedHistory → ℕ → List ℕ → List ℕ → Type 0
 WithStats false h judged report printed = printed ≡ report
 WithStats true h judged report printed = (stored : ℕ) × IsStoredSum h judged stored × (printed ≡ report ++ stored_line (Some stored))
 
--- What a history prints with these options, with each status: its report, and then statistics where they are asked for.
-abbrev pub PrintsWith : Options → RecordedHistory → Status → List ℕ → Type 0
-PrintsWith options h status printed = (judged : ℕ) × (report : List ℕ) × IsReport options.limit h status judged report × WithStats options.stats h judged report printed
+-- What a history prints with these options, with each status: its report, of one that is not linearizable why the longest run
+-- ends where that is asked for, and then statistics where they are asked for.
+abbrev pub PrintsWith : Options → Bool → RecordedHistory → Status → List ℕ → Type 0
+PrintsWith options explain h status printed = (judged : ℕ) × (report : List ℕ) × IsReport explain options.limit h status judged report × WithStats options.stats h judged report printed
 
 -- What a text prints with these options, with each status: what the history prints that it means, or the line of its fault, which no statistics follow.
-abbrev pub Prints : Options → List ℕ → Status → List ℕ → Type 0
-Prints options text Yes printed = (h : RecordedHistory) × MeansHistory text h × PrintsWith options h Yes printed
-Prints options text No printed = (h : RecordedHistory) × MeansHistory text h × PrintsWith options h No printed
-Prints options text Undecided printed = (h : RecordedHistory) × MeansHistory text h × PrintsWith options h Undecided printed
-Prints options text Refused printed = PrintsRefused text printed
+abbrev pub Prints : Options → Bool → List ℕ → Status → List ℕ → Type 0
+Prints options explain text Yes printed = (h : RecordedHistory) × MeansHistory text h × PrintsWith options explain h Yes printed
+Prints options explain text No printed = (h : RecordedHistory) × MeansHistory text h × PrintsWith options explain h No printed
+Prints options explain text Undecided printed = (h : RecordedHistory) × MeansHistory text h × PrintsWith options explain h Undecided printed
+Prints options explain text Refused printed = PrintsRefused text printed
 
 -- The status that tells a verdict.
 abbrev pub status_of : Verdict → Status

@@ -25,13 +25,13 @@ is_fault p (Err fault) = p fault
 
 -- What a run on the text with these options leaves written, which began with the bytes of old and ended with those of new: with a status
 -- what the text prints; after a failed write a prefix of it; after another fault nothing.
-abbrev pub Ran : Options → List ℕ → Option (List ℕ) → Option (List ℕ) → Result Status RunFault → Type 0
-Ran options text old new (Ok status) = (printed : List ℕ) × Prints options text status printed × Appends old new printed
-Ran options text old new (Err Write) = (status : Status) × (printed : List ℕ) × (n : ℕ) × Prints options text status printed × Appends old new (take n printed)
-Ran options text old new (Err Read) = Keeps old new
-Ran options text old new (Err Memory) = Keeps old new
+abbrev pub Ran : Options → Bool → List ℕ → Option (List ℕ) → Option (List ℕ) → Result Status RunFault → Type 0
+Ran options explain text old new (Ok status) = (printed : List ℕ) × Prints options explain text status printed × Appends old new printed
+Ran options explain text old new (Err Write) = (status : Status) × (printed : List ℕ) × (n : ℕ) × Prints options explain text status printed × Appends old new (take n printed)
+Ran options explain text old new (Err Read) = Keeps old new
+Ran options explain text old new (Err Memory) = Keeps old new
 
 -- The same of a run that read from a source: there is a text that it read, which is what the source had left where that
 -- is known.
-abbrev pub RanFrom : Options → Option (List ℕ) → Option (List ℕ) → Option (List ℕ) → Result Status RunFault → Type 0
-RanFrom options source old new result = (text : List ℕ) × IfSome source (λ left. text ≡ left) × Ran options text old new result
+abbrev pub RanFrom : Options → Bool → Option (List ℕ) → Option (List ℕ) → Option (List ℕ) → Result Status RunFault → Type 0
+RanFrom options explain source old new result = (text : List ℕ) × IfSome source (λ left. text ≡ left) × Ran options explain text old new result

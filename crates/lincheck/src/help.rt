@@ -31,6 +31,12 @@ pub(crate) const STATS: &str =
     "Print a last line `stored N` after the answer: how many refuted configurations (calls
 done, with the state after them) were kept, which tells how hard the search was";
 
+/// What `--explain` is good for.
+pub(crate) const EXPLAIN: &str =
+    "Tell after `not linearizable` why the longest run ends: the state after it, each call
+that could come next and what it would answer there, and which calls put or took
+the value that it asks for";
+
 /// What is read, what is printed, and how the program ends.
 pub(crate) const MANUAL: &str = "\
 Input: one JSON object a line, in the order in which the events happened.

@@ -2,6 +2,7 @@
 #![tactic(auto)]
 
 mod device;
+mod explanation_lines;
 mod fault;
 mod help;
 mod judgement;

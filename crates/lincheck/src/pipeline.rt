@@ -10,6 +10,7 @@ ghost use Rattle.lincheck.specs.Ran.{is_read, is_write, is_fault, RanFrom};
 ghost use Rattle.lincheck.specs.Reading.{IsReadOf, TakesAtMost};
 
 use crate::device::{DeviceFault, Sink, Source};
+use crate::explanation_lines::with_explanation;
 use crate::fault::RunFault;
 use crate::judgement::check;
 use crate::lines::{report, with_stats};
@@ -83,15 +84,17 @@ fn verdict_printed<R: AllocGlobal + Threads + Sync>(
     rt: &R,
     history: &History,
     options: &Options,
+    explain: bool,
 ) -> Result<(Status, Vec<u8>), AllocError>
     ensures { IfOk result (λ answer. (text : List ℕ) → MeansHistory text history.now
-        → Prints options.now text answer.0 answer.1.items) }
+        → Prints options.now explain text answer.0 answer.1.items) }
 {
     let Ok(checked) = check(rt, history, options, &FreeGate) else {
         return Err(AllocError);
     };
     let reported = report(rt.alloc(), history, &checked.verdict)?;
-    let printed = with_stats(rt.alloc(), reported, options.stats(), checked.stored)?;
+    let explained = with_explanation(rt.alloc(), history, &checked.verdict, explain, reported)?;
+    let printed = with_stats(rt.alloc(), explained, options.stats(), checked.stored)?;
     Ok((status_of(&checked.verdict), printed))
 }
 
@@ -100,11 +103,12 @@ fn answer<R: AllocGlobal + Threads + Sync>(
     rt: &R,
     text: &[u8],
     options: &Options,
+    explain: bool,
 ) -> Result<(Status, Vec<u8>), AllocError>
-    ensures { IfOk result (λ answer. Prints options.now text.now answer.0 answer.1.items) }
+    ensures { IfOk result (λ answer. Prints options.now explain text.now answer.0 answer.1.items) }
 {
     match read_history(rt.alloc(), text) {
-        Ok(history) => verdict_printed(rt, &history, options),
+        Ok(history) => verdict_printed(rt, &history, options, explain),
         Err(fault) => refused(rt.alloc(), &fault),
     }
 }
@@ -140,6 +144,8 @@ fn ended(status: Status, written: Result<(), DeviceFault>) -> Result<Status, Run
 /// once. Faults: `Read` where the source failed, `Memory` where memory was refused; nothing was written then. `Write`
 /// where the sink failed; a prefix of the answer was written.
 ///
+/// Where an explanation is asked for, the answer on a history that is not linearizable tells why the longest run ends.
+///
 /// Within a limit the answer may be `Undecided`. It may wait, for its workers.
 ///
 /// Condition: neither device has failed. Afterwards the source has failed exactly at `Read`, and the sink exactly at
@@ -149,10 +155,11 @@ pub fn run<R: AllocGlobal + Threads + Sync, S: Source, W: Sink>(
     source: &mut S,
     sink: &mut W,
     options: &Options,
+    explain: bool,
 ) -> Result<Status, RunFault>
     requires source { S.failed source.old ≡ false }
     requires sink { W.failed sink.old ≡ false }
-    ensures ran { RanFrom options.now (S.remaining source.old) (W.contents sink.old)
+    ensures ran { RanFrom options.now explain (S.remaining source.old) (W.contents sink.old)
         (W.contents sink.new) result }
     ensures taken { TakesAtMost ENOUGH (S.remaining source.old) (S.remaining source.new) }
     ensures source { S.failed source.new ≡ is_fault is_read result }
@@ -162,7 +169,7 @@ pub fn run<R: AllocGlobal + Threads + Sync, S: Source, W: Sink>(
         Ok(text) => text,
         Err(fault) => return Err(fault),
     };
-    let Ok((status, answer)) = answer(rt, text.as_slice(), options) else {
+    let Ok((status, answer)) = answer(rt, text.as_slice(), options, explain) else {
         return Err(RunFault::Memory);
     };
     ended(status, write_answer(sink, answer.as_slice()))

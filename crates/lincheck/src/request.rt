@@ -1,7 +1,7 @@
 //! What the words after the program's name ask for.
 ghost use Rattle.std.specs.Prelude.{◌≡◌, ◌≤◌, IfOk, map, string_bytes};
 ghost use Rattle.clap.specs.Words.{found_of, kind_of, rows_of};
-ghost use Rattle.lincheck.specs.CommandLine.{AreAsked, AreInRange, IsBareLine, IsCommandLine, IsFlagOption, IsNumberOption};
+ghost use Rattle.lincheck.specs.CommandLine.{AreAsked, AreInRange, IsBareLine, IsCommandLine, IsExplainAsked, IsFlagOption, IsNumberOption};
 ghost use Rattle.lincheck.specs.Request.{AnswersKind, IsAnswerTo};
 
 use crate::help;
@@ -21,7 +21,12 @@ pub const DEFAULT_SHARDS: u64 = 16;
 #[derive(Debug, Drop)]
 pub enum Request {
     /// A check with these options.
-    Run(Options),
+    Run {
+        /// How the check is run.
+        options: Options,
+        /// Whether it is told why the longest run ends of a history that is not linearizable.
+        explain: bool,
+    },
     /// This text, which tells how the program is used.
     Help(String),
     /// This text, which tells the program's name and version.
@@ -80,7 +85,8 @@ fn command_line<'a>(alloc: Global) -> Result<Command<'a>, AllocError>
         .arg(number_option(alloc, "workers", MAX_WORKERS, help::WORKERS))?
         .arg(number_option(alloc, "shards", MAX_SHARDS, help::SHARDS))?
         .arg(number_option(alloc, "limit", MAX_LIMIT, help::LIMIT))?
-        .arg(flag_option(alloc, "stats", help::STATS))
+        .arg(flag_option(alloc, "stats", help::STATS))?
+        .arg(flag_option(alloc, "explain", help::EXPLAIN))
 }
 
 // The options that were asked for.
@@ -97,6 +103,13 @@ fn options_asked(matches: &ArgMatches<'_>) -> Options
     options
 }
 
+// Whether an explanation was asked for.
+fn is_explain_asked(matches: &ArgMatches<'_>) -> bool
+    ensures { IsExplainAsked (rows_of (found_of matches.now)) result }
+{
+    matches.get_flag("explain")
+}
+
 // What is answered where the words are none of the command line's.
 fn answer_to(alloc: Global, error: &Error) -> Result<Request, AllocError>
     ensures { AnswersKind (kind_of error.now) result }
@@ -111,14 +124,17 @@ fn answer_to(alloc: Global, error: &Error) -> Result<Request, AllocError>
 }
 
 /// What the words after the program's name ask for: `--workers N` (1 to `MAX_WORKERS`, 4 where absent), `--shards N` (1
-/// to `MAX_SHARDS`, 16), `--limit N` (1 to `MAX_LIMIT`, none), `--stats`, each at most once and in any order; or
+/// to `MAX_SHARDS`, 16), `--limit N` (1 to `MAX_LIMIT`, none), `--stats`, `--explain`, each at most once and in any order; or
 /// `--help`, or `--version`. Each number is read as a `u64`. Any other words are refused. The texts are `clap`'s. `AllocError` where memory
 /// was refused.
 pub fn options_of(alloc: Global, words: &[String]) -> Result<Request, AllocError>
     ensures { IfOk result (IsAnswerTo (map string_bytes words.entry.now)) }
 {
     match command_line(alloc)?.try_get_matches_from(words) {
-        Ok(matches) => Ok(Request::Run(options_asked(&matches))),
+        Ok(matches) => Ok(Request::Run {
+            options: options_asked(&matches),
+            explain: is_explain_asked(&matches),
+        }),
         Err(error) => answer_to(alloc, &error),
     }
 }

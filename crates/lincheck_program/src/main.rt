@@ -28,10 +28,11 @@ fn check<R: AllocGlobal + Threads + Sync>(
     rt: &HostRuntime,
     threads: &R,
     options: &Options,
+    explain: bool,
 ) -> Result<Status, RunFault> {
     let mut source = StdSource::new(rt.reader());
     let mut sink = StdSink::new(io::writer(rt));
-    run(threads, &mut source, &mut sink, options)
+    run(threads, &mut source, &mut sink, options, explain)
 }
 
 // The exit status of an answer; a fault is told on standard error.
@@ -49,7 +50,7 @@ fn carry_out<R: AllocGlobal + Threads + Sync>(
     request: &Request,
 ) -> ExitCode {
     match request {
-        Request::Run(options) => ended(rt, check(rt, threads, options)),
+        Request::Run { options, explain } => ended(rt, check(rt, threads, options, *explain)),
         Request::Help(text) | Request::Version(text) => match print!(rt; "{text}") {
             Ok(()) => ExitCode::SUCCESS,
             Err(_) => ended(rt, Err(RunFault::Write)),

@@ -12,9 +12,17 @@ fn request(alloc: Global, words: &[&str]) -> Result<Request, AllocError> {
     options_of(alloc, texts.as_slice())
 }
 
-// Whether they ask for a run with these options.
-fn runs(alloc: Global, words: &[&str], wanted: &Options) -> Result<bool, AllocError> {
-    Ok(matches!(&request(alloc, words)?, Request::Run(options) if options == wanted))
+// Whether they ask for a run with these options, and with this for an explanation.
+fn runs(
+    alloc: Global,
+    words: &[&str],
+    wanted: &Options,
+    explained: bool,
+) -> Result<bool, AllocError> {
+    match &request(alloc, words)? {
+        Request::Run { options, explain } => Ok(options == wanted && *explain == explained),
+        _ => Ok(false),
+    }
 }
 
 // Whether they are refused.
@@ -34,12 +42,13 @@ fn is_told_version(alloc: Global, words: &[&str]) -> Result<bool, AllocError> {
     )
 }
 
-const GREATEST: [&str; 7] = [
+const GREATEST: [&str; 8] = [
     "--limit",
     "1000000000000",
     "--workers",
     "64",
     "--stats",
+    "--explain",
     "--shards",
     "256",
 ];
@@ -49,7 +58,7 @@ fn no_words_run(alloc: Global) -> Result<bool, AllocError> {
     let Ok(usual) = Options::new(4, 16, None, false) else {
         return Ok(false);
     };
-    runs(alloc, &[], &usual)
+    runs(alloc, &[], &usual, false)
 }
 
 // Whether the greatest numbers are taken.
@@ -57,7 +66,7 @@ fn greatest_run(alloc: Global) -> Result<bool, AllocError> {
     let Ok(greatest) = Options::new(64, 256, Some(1_000_000_000_000), true) else {
         return Ok(false);
     };
-    runs(alloc, &GREATEST, &greatest)
+    runs(alloc, &GREATEST, &greatest, true)
 }
 
 #[test]

@@ -302,7 +302,16 @@ fn a_task_that_was_refused_memory_has_no_value_and_the_worker_goes_on(rt: HostRu
 // Whether both ask for the same, with the same text.
 fn are_same(one: &Request, other: &Request) -> bool {
     match (one, other) {
-        (Request::Run(a), Request::Run(b)) => a == b,
+        (
+            Request::Run {
+                options: a,
+                explain: c,
+            },
+            Request::Run {
+                options: b,
+                explain: d,
+            },
+        ) => a == b && c == d,
         (Request::Help(a), Request::Help(b)) => a.as_str() == b.as_str(),
         (Request::Refused(a), Request::Refused(b)) => a.as_str() == b.as_str(),
         _ => false,

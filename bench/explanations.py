@@ -1,0 +1,322 @@
+#!/usr/bin/env python3
+"""What `lincheck --explain` prints of a small history that is not linearizable, by the definitions alone.
+
+    bench/explanations.py < HISTORY
+    bench/explanations.py --compare PROGRAM FILE..
+    bench/explanations.py --write FOLDER
+
+The runs of each object are all tried, so a history has few calls. The first object without a linearization is told with the
+first of its longest runs, and then the state after the run, the calls that could come next with what each would answer
+there, and the calls that put or took the value that such a call asks for. With --compare the answers of a program are
+compared with these; with --write the cases below are written, for `crates/lin_tests/data`.
+"""
+import json
+import subprocess
+import sys
+from pathlib import Path
+
+PENDING = None
+START = {"register": 0, "counter": 0, "queue": (), "stack": (), "set": (), "mutex": None, "map": ()}
+
+
+def step(kind, state, process, op, args):
+    """The next state and the reply, or None where there is no step."""
+    if kind == "register":
+        if op == "write":
+            return args[0], "ok"
+        if op == "read":
+            return state, state
+        return (args[1], True) if state == args[0] else (state, False)
+    if kind == "counter":
+        return (state + args[0], "ok") if op == "add" else (state, state)
+    if kind == "queue":
+        if op == "enq":
+            return state + (args[0],), "ok"
+        return (state[1:], state[0]) if state else (state, "empty")
+    if kind == "stack":
+        if op == "push":
+            return (args[0],) + state, "ok"
+        return (state[1:], state[0]) if state else (state, "empty")
+    if kind == "set":
+        there = args[0] in state
+        if op == "add":
+            return tuple(sorted(set(state) | {args[0]})), not there
+        if op == "remove":
+            return tuple(x for x in state if x != args[0]), there
+        return state, there
+    if kind == "mutex":
+        if op == "lock":
+            return (process, "ok") if state is None else None
+        if op == "unlock":
+            return (None, "ok") if state == process else None
+        return (process, True) if state is None else (state, False)
+    pairs = dict(state)
+    if op == "put":
+        pairs[args[0]] = args[1]
+        return tuple(sorted(pairs.items())), "ok"
+    if op == "get":
+        return state, pairs.get(args[0], "empty")
+    there = pairs.pop(args[0], None) is not None
+    return tuple(sorted(pairs.items())), there
+
+
+def same(a, b):
+    return type(a) is type(b) and a == b
+
+
+def read(text):
+    """The objects in their order, each with its name, its kind, its start and its calls."""
+    objects, order, open_calls, number = {}, [], {}, 0
+    for line in text.splitlines():
+        if not line.strip():
+            continue
+        event = json.loads(line)
+        what = event.get("event")
+        if what == "object":
+            kind = event["kind"]
+            objects[event["object"]] = (kind, event.get("start", START[kind]), [])
+            order.append(event["object"])
+        elif what == "call":
+            number += 1
+            call = {"process": event["process"], "op": event["op"], "args": event.get("args", []), "called": number}
+            call["returned"] = PENDING
+            objects[event["object"]][2].append(call)
+            open_calls[event["process"]] = call, objects[event["object"]]
+        elif what == "return":
+            number += 1
+            result = event["result"]
+            reply = "empty" if result is None else result
+            open_calls.pop(event["process"])[0]["returned"] = number, reply
+        elif what == "fail":
+            call, of = open_calls.pop(event["process"])
+            of[2][:] = [x for x in of[2] if x is not call]
+    return [(name, *objects[name]) for name in order]
+
+
+def precedes(a, b):
+    return a["returned"] is not PENDING and a["returned"][0] < b["called"]
+
+
+def runs_from(kind, calls, state, run):
+    """All runs that begin with this one, which leads to the state, in lexicographic order, each with its state."""
+    yield run, state
+    for c, call in enumerate(calls):
+        if c in run or any(precedes(x, call) and a not in run for a, x in enumerate(calls)):
+            continue
+        answer = step(kind, state, call["process"], call["op"], call["args"])
+        if answer is None or call["returned"] is not PENDING and not same(answer[1], call["returned"][1]):
+            continue
+        yield from runs_from(kind, calls, answer[0], run + [c])
+
+
+def refuted(objects):
+    """The first object without a linearization, its first longest run, and the state after it."""
+    for name, kind, start, calls in objects:
+        best, linear = None, False
+        for run, state in runs_from(kind, calls, start, []):
+            linear = linear or all(c in run for c, x in enumerate(calls) if x["returned"] is not PENDING)
+            if best is None or len(run) > len(best[0]):
+                best = run, state
+        if not linear:
+            return name, kind, start, calls, *best
+    return None
+
+
+def shown(value):
+    return {True: "true", False: "false"}[value] if isinstance(value, bool) else str(value)
+
+
+def call_text(call):
+    return f"{call['op']}({','.join(map(str, call['args']))})"
+
+
+def recorded(call):
+    return "" if call["returned"] is PENDING else f" = {shown(call['returned'][1])}"
+
+
+def listed(texts):
+    more = f", .. and {len(texts) - 16} more" if len(texts) > 16 else ""
+    return ", ".join(texts[:16]) + more
+
+
+def state_text(kind, state, keys):
+    if kind in ("register", "counter"):
+        return str(state)
+    if kind == "mutex":
+        return "free" if state is None else f"held by {state}"
+    if kind == "map":
+        return "{" + listed([f"{k}: {v}" for k, v in state if k in keys]) + "}"
+    text = listed([str(x) for x in state])
+    return "{" + text + "}" if kind == "set" else f"[{text}]"
+
+
+def may_change(call):
+    return call["returned"] is PENDING or call["returned"][1] is not False
+
+
+def asked_of(kind, call):
+    """What the call asks for: a value, or a key and its value; None where it asks for none."""
+    op, args = call["op"], call["args"]
+    reply = None if call["returned"] is PENDING else call["returned"][1]
+    is_number = isinstance(reply, int) and not isinstance(reply, bool)
+    if op == "cas" or kind == "set":
+        return args[0]
+    if kind == "map":
+        return (args[0], reply) if op == "get" and is_number else None
+    return reply if op in ("deq", "pop", "read") and is_number else None
+
+
+def did(kind, call, asked):
+    """Whether the call put or took what is asked for."""
+    op, args = call["op"], call["args"]
+    if op in ("enq", "push", "write"):
+        return "put" if args[0] == asked else None
+    if op in ("deq", "pop"):
+        return "taken" if call["returned"] is not PENDING and same(call["returned"][1], asked) else None
+    if op == "cas":
+        return "put" if args[1] == asked and may_change(call) else None
+    if kind == "set" and op in ("add", "remove"):
+        return {"add": "put", "remove": "taken"}[op] if args[0] == asked and may_change(call) else None
+    if op == "put":
+        return "put" if tuple(args) == asked else None
+    if op == "delete":
+        return "taken" if args[0] == asked[0] and may_change(call) else None
+    return None
+
+
+def about(word, c, calls, run):
+    call = calls[c]
+    place = "in the run" if c in run else "not in the run"
+    return f"  {word} by {call['process']}: {call_text(call)}{recorded(call)}, {place}\n"
+
+
+def known(kind, c, calls, run):
+    call = calls[c]
+    if kind == "mutex":
+        held = None
+        for r in run:
+            if calls[r]["op"] == "unlock":
+                held = None
+            elif held is None:
+                held = r
+        return "" if held is None else about("held", held, calls, run)
+    asked = asked_of(kind, call)
+    if asked is None:
+        return ""
+    found = [(did(kind, x, asked), a) for a, x in enumerate(calls) if a != c]
+    found = [(word, a) for word, a in found if word]
+    value = f"{asked[0]}: {asked[1]}" if isinstance(asked, tuple) else str(asked)
+    text = "" if any(word == "put" for word, _ in found) else f"  no call put {value}\n"
+    text += "".join(about(word, a, calls, run) for word, a in found[:8])
+    return text + (f"  .. and {len(found) - 8} more\n" if len(found) > 8 else "")
+
+
+def explained(text):
+    """The whole answer, with its explanation."""
+    name, kind, start, calls, run, state = refuted(read(text))
+    out = f"not linearizable: {name}\nlongest run: {len(run)} of {len(calls)} calls\n"
+    here = start
+    for place, c in enumerate(run):
+        call = calls[c]
+        here, reply = step(kind, here, call["process"], call["op"], call["args"])
+        mark = " completed" if call["returned"] is PENDING else ""
+        out += f"{place + 1} {call['process']} {name} {call_text(call)} = {shown(reply)}{mark}\n"
+    left = [c for c in range(len(calls)) if c not in run]
+    minimal = [c for c in left if not any(precedes(calls[a], calls[c]) for a in left)]
+    keys = {calls[c]["args"][0] for c in minimal} if kind == "map" else set()
+    out += f"after the run: {name} = {state_text(kind, state, keys)}\n"
+    for c in minimal:
+        call = calls[c]
+        answer = step(kind, state, call["process"], call["op"], call["args"])
+        would = "it cannot be done here" if answer is None else f"here it would be {shown(answer[1])}"
+        out += f"next {call['process']} {name} {call_text(call)}{recorded(call)}: {would}\n" + known(kind, c, calls, run)
+    return out
+
+
+def history(kind, events, start=None, format_2=False):
+    """The text of a history of one object: `1 enq 3` is a call, `1 = ok` a return, `1 fail` a failure, '' a blank line."""
+    name = {"register": "x", "counter": "n", "queue": "q", "stack": "s", "set": "e", "mutex": "m", "map": "d"}[kind]
+    lines = ['{"format":2}'] if format_2 else []
+    declared = {"event": "object", "object": name, "kind": kind}
+    lines.append(json.dumps(declared | ({} if start is None else {"start": start}), separators=(",", ":")))
+    for event in events:
+        words = event.split()
+        if not words:
+            lines.append("")
+            continue
+        process, what, *rest = words
+        line = {"event": "call", "process": int(process), "object": name}
+        if what == "=":
+            line |= {"event": "return", "result": json.loads(rest[0]) if rest[0] != "ok" else "ok"}
+        elif what == "fail":
+            line |= {"event": "fail"}
+        else:
+            line |= {"op": what} | ({"args": [int(x) for x in rest]} if rest else {})
+        lines.append(json.dumps(line, separators=(",", ":")))
+    return "\n".join(lines) + "\n"
+
+
+CASES = {
+    "register_read_of_an_old_value": history("register", ["1 write 1", "1 = ok", "1 write 2", "1 = ok", "2 read", "2 = 1"]),
+    "register_read_of_a_value_that_nobody_wrote": history("register", ["1 write 1", "1 = ok", "2 read", "3 read", "2 = 7", "3 = 1"], 5),
+    "register_two_compare_and_sets_of_one_value": history(
+        "register", ["1 cas 0 1", "2 cas 0 2", "1 = true", "2 = true", "3 read", "3 = 2"]),
+    "counter_that_lost_an_addition": history("counter", ["1 add 2", "2 add 3", "1 = ok", "2 = ok", "3 get", "3 = 3"]),
+    "queue_item_out_of_turn": history(
+        "queue", ["1 enq 3", "1 = ok", "1 enq 1", "1 = ok", "2 deq", "2 = 1", "3 deq", "3 = 3"]),
+    "queue_item_taken_twice": history(
+        "queue", ["1 enq 7", "1 = ok", "4 deq", "4 = 7", "1 enq 3", "1 = ok", "2 deq", "3 deq", "2 = 7", "3 = 7"]),
+    "queue_with_twenty_items_and_a_failure": history(
+        "queue", [e for n in range(20) for e in (f"1 enq {n}", "1 = ok")] + ["", "2 deq", "2 fail", "2 deq", "2 = null"], None, True),
+    "stack_pop_of_what_was_popped": history(
+        "stack", ["1 push 1", "1 = ok", "1 push 2", "1 = ok", "2 pop", "2 = 2", "3 pop", "2 pop", "2 = 2"]),
+    "set_member_that_was_removed": history(
+        "set", ["1 add 4", "1 = true", "2 remove 4", "2 = true", "1 add 1", "1 = true", "3 contains 4", "3 = true"]),
+    "set_member_added_twice": history("set", ["1 add 1", "1 = true", "2 add 1", "3 add 2", "2 = true", "3 = false"]),
+    "mutex_held_by_another": history(
+        "mutex", ["1 lock", "1 = ok", "2 lock", "3 try_lock", "2 = ok", "3 = true", "1 unlock", "1 = ok"]),
+    "mutex_unlocked_by_who_does_not_hold_it": history("mutex", ["1 lock", "1 = ok", "2 unlock", "2 = ok"]),
+    "map_value_of_another_key": history(
+        "map", ["1 put 1 5", "1 = ok", "1 put 2 7", "1 = ok", "2 get 1", "2 = 7", "3 get 2", "3 = 7"]),
+    "map_value_that_was_deleted": history(
+        "map", ["1 put 3 5", "1 = ok", "2 delete 3", "2 = true", "1 put 4 6", "1 = ok", "3 get 3", "4 put 3 8", "3 = 5"]),
+    "register_written_by_many": history(
+        "register", [e for p in range(1, 11) for e in (f"{p} write 5", f"{p} = ok")] + ["1 write 6", "1 = ok", "2 read", "2 = 5"]),
+}
+
+
+def compare(program, files):
+    wrong = 0
+    for file in files:
+        text = Path(file).read_text()
+        if refuted(read(text)) is None:
+            continue
+        answer = subprocess.run([program, "--explain"], input=text, capture_output=True, text=True).stdout
+        if answer != explained(text):
+            wrong += 1
+            print(f"differs: {file}\n{answer}---\n{explained(text)}", end="")
+    print(f"{wrong} differ")
+    return wrong
+
+
+def write(folder):
+    for name, text in CASES.items():
+        for workers in (1, 4):
+            base = Path(folder) / f"explained_{name}_by_{workers}"
+            base.with_suffix(".jsonl").write_text(text)
+            base.with_suffix(".answer").write_text(explained(text))
+            base.with_suffix(".status").write_text("1\n")
+            base.with_suffix(".options").write_text(f"--workers {workers}\n--explain\n")
+
+
+def main():
+    if sys.argv[1:2] == ["--write"]:
+        write(sys.argv[2])
+    elif sys.argv[1:2] == ["--compare"]:
+        sys.exit(1 if compare(sys.argv[2], sys.argv[3:]) else 0)
+    else:
+        print(explained(sys.stdin.read()), end="")
+
+
+if __name__ == "__main__":
+    main()

@@ -1,0 +1,5 @@
+pub mod ListLemmas
+pub mod NextLemmas
+pub mod StateLemmas
+pub mod TextLemmas
+pub mod RunLemmas

@@ -1,0 +1,6 @@
+use Rattle.std.proofs.Common.{◌≡◌, ◌++◌, drop, string_bytes}
+use Rattle.lin_explain.specs.TouchingText.{touch_lines}
+use Rattle.lin_explain.proofs.touching_text.write_touch_lines.Given as goal
+
+abbrev pub invariant-loop-one : goal.invariant-loop-one
+invariant-loop-one l = string_bytes l.out ++ touch_lines l.calls l.run (drop l.one-index l.found) ≡ string_bytes l.fn.out ++ touch_lines l.calls l.run l.found

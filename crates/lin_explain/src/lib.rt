@@ -1,0 +1,23 @@
+//! Why a run of an object's calls ends: the state after it, and the calls that could come next.
+//!
+//! - `next_calls`: the calls that a run leaves and that no other call it leaves precedes.
+//! - `explanation`: the state after a run, and what each next call would answer there.
+//! - `touching`: the calls that put or took the value that a call asks for, and the call since which a mutex is held.
+//! - `state_text`, `touching_text`: how a state and such calls are shown.
+//! - `explanation_text`: how an explanation is shown.
+//! - `run_explained`: the same of the run of an object of a history.
+#![tactic(auto)]
+
+mod explanation;
+mod explanation_text;
+mod next_calls;
+mod run_explained;
+mod state_text;
+mod touching;
+mod touching_text;
+
+pub use explanation::{Explanation, NextCall, explain};
+pub use explanation_text::write_explanation;
+pub use run_explained::write_run_explained;
+pub use state_text::MAX_SHOWN;
+pub use touching_text::MAX_TOUCHING;

@@ -1,0 +1,59 @@
+//! Why the longest run of an object of a history ends, as lines.
+ghost use Rattle.std.specs.Prelude.{◌≡◌, ◌++◌, ◌<◌, ℕ, List, map, length, string_bytes, IfOk, OnOk};
+ghost use Rattle.lin_object.specs.declared.state.ObjState.{ObjState as State};
+ghost use Rattle.lin_history.specs.Problems.LegalLists.{Legal};
+ghost use Rattle.lin_history.specs.Locality.JoinedOrder.{Places};
+ghost use Rattle.lin_history.specs.Locality.RecordedWhole.{whole_of, start_at, part_of};
+ghost use Rattle.lin_history.specs.Verifier.Flags.{AreKnown};
+ghost use Rattle.lin_explain.specs.RunExplained.{number_in, AreLinesOf};
+
+use crate::explanation::explain;
+use crate::explanation_text::write_explanation;
+use lin_history::{History, Order, Placed};
+use std::alloc::{AllocError, Global};
+
+// The numbers of the run's calls among those on their object.
+fn order_of(alloc: Global, history: &History, run: &[Placed]) -> Result<Order, AllocError>
+    requires { AreKnown (whole_of history.now) run.now }
+    ensures { IfOk result (λ order. order ≡ map (number_in history.now) run.now) }
+{
+    let mut numbers = Vec::new(alloc);
+    for placed in run {
+        numbers.push(history.call(placed.call).number)?;
+    }
+    Ok(Order::new(numbers))
+}
+
+/// Appends the lines that tell why a run of the object of this index ends: the state after it, and each call that could come
+/// next with what it would answer. `AllocError` where memory was refused.
+///
+/// Conditions: the object is declared, and the run is that of an order of its calls that is legal.
+pub fn write_run_explained(
+    alloc: Global,
+    out: &mut String,
+    history: &History,
+    object: usize,
+    run: &[Placed],
+) -> Result<(), AllocError>
+    requires object { object < length history.now.objects }
+    requires run { (order : List ℕ) × ((t : State) × Legal (part_of history.now object)
+        (start_at history.now object) order t)
+        × Places (whole_of history.now) object (start_at history.now object) order run.now }
+    ensures { OnOk result ((order : List ℕ)
+        → Places (whole_of history.now) object (start_at history.now object) order run.now
+        → (lines : List ℕ) × AreLinesOf history.now object order lines
+        × (string_bytes out.new ≡ string_bytes out.old ++ lines)) }
+{
+    let problem = history.problem(alloc, object)?;
+    let order = order_of(alloc, history, run)?;
+    let explanation = explain(alloc, &problem, &order)?;
+    let name = history.object(object).name;
+    write_explanation(
+        alloc,
+        out,
+        name,
+        problem.calls(),
+        order.calls(),
+        &explanation,
+    )
+}
