@@ -5,13 +5,13 @@ ghost use Rattle.lin_table.specs.Hand.{IsHandOf};
 ghost use Rattle.lin_workers.specs.Verdict.{IsNumberStored, IsObjectVerdict};
 ghost use Rattle.lin_workers.specs.declared.options.TheConstants.{MAX_WORKERS};
 
-use crate::tasks::cutting::cut;
-use crate::searches::deciding::verdict_of_tasks;
-use crate::workers::gate::Gate;
 use crate::options::Options;
-use crate::workers::sharing::share;
+use crate::searches::deciding::verdict_of_tasks;
 use crate::searches::stalling::{Patience, outcomes_unless_stalled};
+use crate::tasks::cutting::cut;
 use crate::verdict::{CheckFault, ObjectVerdict};
+use crate::workers::gate::Gate;
+use crate::workers::sharing::share;
 use lin_history::Problem;
 use lin_object::{SeqObject, SharedObject};
 use lin_search::{Memo, OwnMemo};

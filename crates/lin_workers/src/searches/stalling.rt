@@ -6,10 +6,10 @@ ghost use Rattle.lin_search.specs.Answer.{IsAnswer};
 ghost use Rattle.lin_workers.specs.Cut.{IsCut};
 ghost use Rattle.lin_workers.specs.Outcomes.{AreOutcomes};
 
-use crate::workers::gathering::{no_outcomes, place_value, was_stopped};
 use crate::searches::starving::search_unless_starved;
-use crate::tasks::task::Task;
 use crate::searches::watching::{UntilOver, Watch, WatchedMemo};
+use crate::tasks::task::Task;
+use crate::workers::gathering::{no_outcomes, place_value, was_stopped};
 use lin_history::Problem;
 use lin_object::SeqObject;
 use lin_search::{CallSet, Memo, NoStop, Outcome};

@@ -4,9 +4,9 @@ ghost use Rattle.lin_history.specs.Problems.Configurations.{IsReachable};
 ghost use Rattle.lin_history.specs.Problems.Problem.{problem_of};
 ghost use Rattle.lin_search.specs.Answer.{IsAnswer};
 
+use crate::searches::watching::{UntilOver, Watch, WatchedMemo};
 use crate::workers::gathering::was_stopped;
 use crate::workers::scouts::{Scouting, scout};
-use crate::searches::watching::{UntilOver, Watch, WatchedMemo};
 use lin_history::Problem;
 use lin_object::SeqObject;
 use lin_search::{Config, Memo, Noted, Outcome, Stop, search};

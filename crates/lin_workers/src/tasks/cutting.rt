@@ -87,30 +87,6 @@ impl<O: SeqObject> Levels<O> {
     }
 }
 
-// The levels that a cut is chosen of: one after another, up to the last that is made.
-fn all_levels<O: SeqObject>(
-    alloc: Global,
-    problem: &Problem<O>,
-    want: usize,
-) -> Result<Levels<O>, AllocError>
-    ensures { IfOk result (λ levels. (n : ℕ)
-        × AreLevels (problem_of O.after O.State.eq O.Reply.eq problem.now) want n
-        levels.widest.items levels.last.items
-        × IsLastLevel (problem_of O.after O.State.eq O.Reply.eq problem.now) LAST_LEVEL want n) }
-{
-    lawful::<O>();
-    let mut levels = Levels {
-        widest: Vec::new(alloc),
-        last: first_level(alloc, problem)?,
-    };
-    for _ in 0..LAST_LEVEL {
-        if !levels.make_next(alloc, problem, want)? {
-            return Ok(levels);
-        }
-    }
-    Ok(levels)
-}
-
 /// Cuts the search of a problem into tasks: all configurations that runs of some number of calls lead to, the *level*, each
 /// once, with the least run that leads there, in lexicographic order of these runs. No level below has a configuration with
 /// every completed call. So the problem has no linearization where no task has a completion, and else the least linearization
@@ -133,4 +109,28 @@ pub fn cut<O: SeqObject>(
     lawful::<O>();
     let levels = all_levels(alloc, problem, want)?;
     Ok(levels.into_widest())
+}
+
+// The levels that a cut is chosen of: one after another, up to the last that is made.
+fn all_levels<O: SeqObject>(
+    alloc: Global,
+    problem: &Problem<O>,
+    want: usize,
+) -> Result<Levels<O>, AllocError>
+    ensures { IfOk result (λ levels. (n : ℕ)
+        × AreLevels (problem_of O.after O.State.eq O.Reply.eq problem.now) want n
+        levels.widest.items levels.last.items
+        × IsLastLevel (problem_of O.after O.State.eq O.Reply.eq problem.now) LAST_LEVEL want n) }
+{
+    lawful::<O>();
+    let mut levels = Levels {
+        widest: Vec::new(alloc),
+        last: first_level(alloc, problem)?,
+    };
+    for _ in 0..LAST_LEVEL {
+        if !levels.make_next(alloc, problem, want)? {
+            return Ok(levels);
+        }
+    }
+    Ok(levels)
 }

@@ -37,83 +37,25 @@ pub(crate) fn first_level<O: SeqObject>(
     Ok(tasks)
 }
 
-// Whether the configuration is that of one of the tasks.
-fn is_among<O: SeqObject>(tasks: &[Task<O>], config: &Config<O>) -> bool
-    ensures { IsTrue result ↔ Among O.State.eq (configurations_of tasks.now) config.now.lifted
-        config.now.state }
-{
-    for task in tasks {
-        if *config == task.config {
-            return true;
-        }
-    }
-    false
-}
-
-// Lifts the calls of a run, one after another, where no call is lifted.
-fn lift_run<O: SeqObject>(entries: &mut Entries<'_, O>, run: &[usize])
-    requires none { entries.old.lifted ≡ [] }
-    requires run { IsRun (problem_of O.after O.State.eq O.Reply.eq entries.old.problem) run.now }
-    ensures { entries.new ≡ record { problem = entries.old.problem; lifted = run.now } }
-{
-    for call in run {
-        entries.lift(*call);
-    }
-}
-
-// Puts the calls of a run in again, the last first. They are all that are lifted.
-fn unlift_run<O: SeqObject>(entries: &mut Entries<'_, O>, run: &[usize])
-    requires { entries.old.lifted ≡ run.now }
-    ensures { entries.new ≡ record { problem = entries.old.problem; lifted = [] } }
-{
-    let mut left = run.len();
-    while left > 0 {
-        left -= 1;
-        entries.unlift(run[left]);
-    }
-}
-
-// The run, and then the call.
-fn run_through(alloc: Global, run: &[usize], call: usize) -> Result<Order, AllocError>
-    ensures { IfOk result (λ order. order ≡ run.now ++ call ∷ []) }
-{
-    let mut calls = Vec::new(alloc);
-    for before in run {
-        calls.push(*before)?;
-    }
-    calls.push(call)?;
-    Ok(Order::new(calls))
-}
-
-// Adds what the call leads to from the parent to the next level, where it can follow and its configuration is not there.
-fn add_child<O: SeqObject>(
+// The level that one call leads to from this one.
+pub(crate) fn next_level<O: SeqObject>(
     alloc: Global,
     problem: &Problem<O>,
-    parent: &Task<O>,
-    call: usize,
-    next: &mut Vec<Task<O>>,
-) -> Result<(), AllocError>
-    requires reachable { IsReachable (problem_of O.after O.State.eq O.Reply.eq problem.now)
-        parent.now.config.lifted parent.now.config.state }
-    requires call { call < length problem.now.calls }
-    ensures filled { IfOk result (λ done. (k i : ℕ) (parents : List (TaskOf O.State))
-        → AreLevel (problem_of O.after O.State.eq O.Reply.eq problem.now) k parents
-        → slice_get parents i ≡ Some parent.now
-        → IsFilled (problem_of O.after O.State.eq O.Reply.eq problem.now) k parents i call
-        next.old.items
-        → IsFilled (problem_of O.after O.State.eq O.Reply.eq problem.now) k parents i (call + 1)
-        next.new.items) }
+    level: &[Task<O>],
+) -> Result<Vec<Task<O>>, AllocError>
+    requires { (k : ℕ) × AreLevel (problem_of O.after O.State.eq O.Reply.eq problem.now) k
+        level.now }
+    ensures { IfOk result (λ next. (k : ℕ)
+        → AreLevel (problem_of O.after O.State.eq O.Reply.eq problem.now) k level.now
+        → AreLevel (problem_of O.after O.State.eq O.Reply.eq problem.now) (k + 1) next.items) }
 {
     lawful::<O>();
-    let Some(config) = parent.config.child(alloc, problem, call)? else {
-        return Ok(());
-    };
-    if is_among(next.as_slice(), &config) {
-        return Ok(());
+    let mut entries = Entries::new(alloc, problem)?;
+    let mut next = Vec::new(alloc);
+    for parent in level {
+        add_children(alloc, problem, parent, &mut entries, &mut next)?;
     }
-    let path = run_through(alloc, parent.path.calls(), call)?;
-    next.push(Task { path, config })?;
-    Ok(())
+    Ok(next)
 }
 
 // Adds what each call leads to from the parent. The entries are those of all calls, before, and after unless
@@ -148,25 +90,83 @@ fn add_children<O: SeqObject>(
     Ok(())
 }
 
-// The level that one call leads to from this one.
-pub(crate) fn next_level<O: SeqObject>(
+// Lifts the calls of a run, one after another, where no call is lifted.
+fn lift_run<O: SeqObject>(entries: &mut Entries<'_, O>, run: &[usize])
+    requires none { entries.old.lifted ≡ [] }
+    requires run { IsRun (problem_of O.after O.State.eq O.Reply.eq entries.old.problem) run.now }
+    ensures { entries.new ≡ record { problem = entries.old.problem; lifted = run.now } }
+{
+    for call in run {
+        entries.lift(*call);
+    }
+}
+
+// Adds what the call leads to from the parent to the next level, where it can follow and its configuration is not there.
+fn add_child<O: SeqObject>(
     alloc: Global,
     problem: &Problem<O>,
-    level: &[Task<O>],
-) -> Result<Vec<Task<O>>, AllocError>
-    requires { (k : ℕ) × AreLevel (problem_of O.after O.State.eq O.Reply.eq problem.now) k
-        level.now }
-    ensures { IfOk result (λ next. (k : ℕ)
-        → AreLevel (problem_of O.after O.State.eq O.Reply.eq problem.now) k level.now
-        → AreLevel (problem_of O.after O.State.eq O.Reply.eq problem.now) (k + 1) next.items) }
+    parent: &Task<O>,
+    call: usize,
+    next: &mut Vec<Task<O>>,
+) -> Result<(), AllocError>
+    requires reachable { IsReachable (problem_of O.after O.State.eq O.Reply.eq problem.now)
+        parent.now.config.lifted parent.now.config.state }
+    requires call { call < length problem.now.calls }
+    ensures filled { IfOk result (λ done. (k i : ℕ) (parents : List (TaskOf O.State))
+        → AreLevel (problem_of O.after O.State.eq O.Reply.eq problem.now) k parents
+        → slice_get parents i ≡ Some parent.now
+        → IsFilled (problem_of O.after O.State.eq O.Reply.eq problem.now) k parents i call
+        next.old.items
+        → IsFilled (problem_of O.after O.State.eq O.Reply.eq problem.now) k parents i (call + 1)
+        next.new.items) }
 {
     lawful::<O>();
-    let mut entries = Entries::new(alloc, problem)?;
-    let mut next = Vec::new(alloc);
-    for parent in level {
-        add_children(alloc, problem, parent, &mut entries, &mut next)?;
+    let Some(config) = parent.config.child(alloc, problem, call)? else {
+        return Ok(());
+    };
+    if is_among(next.as_slice(), &config) {
+        return Ok(());
     }
-    Ok(next)
+    let path = run_through(alloc, parent.path.calls(), call)?;
+    next.push(Task { path, config })?;
+    Ok(())
+}
+
+// Whether the configuration is that of one of the tasks.
+fn is_among<O: SeqObject>(tasks: &[Task<O>], config: &Config<O>) -> bool
+    ensures { IsTrue result ↔ Among O.State.eq (configurations_of tasks.now) config.now.lifted
+        config.now.state }
+{
+    for task in tasks {
+        if *config == task.config {
+            return true;
+        }
+    }
+    false
+}
+
+// The run, and then the call.
+fn run_through(alloc: Global, run: &[usize], call: usize) -> Result<Order, AllocError>
+    ensures { IfOk result (λ order. order ≡ run.now ++ call ∷ []) }
+{
+    let mut calls = Vec::new(alloc);
+    for before in run {
+        calls.push(*before)?;
+    }
+    calls.push(call)?;
+    Ok(Order::new(calls))
+}
+
+// Puts the calls of a run in again, the last first. They are all that are lifted.
+fn unlift_run<O: SeqObject>(entries: &mut Entries<'_, O>, run: &[usize])
+    requires { entries.old.lifted ≡ run.now }
+    ensures { entries.new ≡ record { problem = entries.old.problem; lifted = [] } }
+{
+    let mut left = run.len();
+    while left > 0 {
+        left -= 1;
+        entries.unlift(run[left]);
+    }
 }
 
 // Whether a configuration of the level has every completed call.

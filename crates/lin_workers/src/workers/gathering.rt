@@ -42,15 +42,6 @@ pub(crate) fn place_value(outcomes: &mut [Option<Outcome>], number: u64, outcome
     }
 }
 
-// Puts each value at the place of its task, but those of searches that were stopped.
-fn place_values(outcomes: &mut [Option<Outcome>], mut values: Vec<(u64, Outcome)>)
-    ensures { ArePlaced outcomes.old values.items outcomes.new }
-{
-    while let Some((number, outcome)) = values.pop() {
-        place_value(outcomes, number, outcome);
-    }
-}
-
 // Puts what the workers brought at the places of its tasks, and their hands to these.
 pub(crate) fn gather<O: SeqObject>(
     outcomes: &mut [Option<Outcome>],
@@ -76,5 +67,14 @@ pub(crate) fn gather<O: SeqObject>(
         } = worker;
         place_values(outcomes, values);
         hands.push_reserved(hand);
+    }
+}
+
+// Puts each value at the place of its task, but those of searches that were stopped.
+fn place_values(outcomes: &mut [Option<Outcome>], mut values: Vec<(u64, Outcome)>)
+    ensures { ArePlaced outcomes.old values.items outcomes.new }
+{
+    while let Some((number, outcome)) = values.pop() {
+        place_value(outcomes, number, outcome);
     }
 }

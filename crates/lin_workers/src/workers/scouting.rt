@@ -10,12 +10,12 @@ ghost use Rattle.lin_table.specs.Shared.{HasGrown};
 ghost use Rattle.lin_workers.specs.Cut.{IsCut};
 ghost use Rattle.lin_workers.specs.Heard.{HasHeard};
 
-use crate::workers::job::{Done, Job};
-use crate::workers::scouts::Scouting;
-use crate::workers::signals::{Member, UntilLeading};
 use crate::searches::starving::{scout_unless_starved, search_unless_starved};
 use crate::searches::stop::FoundBefore;
 use crate::tasks::task::Task;
+use crate::workers::job::{Done, Job};
+use crate::workers::scouts::Scouting;
+use crate::workers::signals::{Member, UntilLeading};
 use lin_history::Problem;
 use lin_object::SeqObject;
 use lin_search::{Config, Memo, Outcome, Stop};
@@ -82,6 +82,26 @@ pub(crate) fn scout_until_leading<O: SeqObject>(
     );
 }
 
+// Scouts from the configuration, unless the stop answers before. What is refuted on the way is in the memo. Want of memory
+// only ends it.
+fn scout_unless_told<O: SeqObject, M: Memo<O>, S: Stop>(
+    alloc: Global,
+    problem: &Problem<O>,
+    config: &Config<O>,
+    scouting: Scouting,
+    memo: &mut M,
+    stop: &mut S,
+)
+    requires { IsReachable (problem_of O.after O.State.eq O.Reply.eq problem.now) config.now.lifted
+        config.now.state }
+    ensures memo { M.changes memo.old memo.new }
+    ensures stop { S.follows stop.old stop.new }
+{
+    if stop.ask().is_none() {
+        scout_unless_starved(alloc, problem, config, scouting, memo, stop);
+    }
+}
+
 // Scouts from each task when all are claimed, up to the first that was not decided: so a worker without a task helps the
 // others at theirs. From a task that is refuted by then it goes on to the next at once. What its seat has brought stays as it is.
 pub(crate) fn scout_all<O: SeqObject>(
@@ -132,26 +152,6 @@ fn scout_one<O: SeqObject>(
         &mut memo,
         &mut stop,
     );
-}
-
-// Scouts from the configuration, unless the stop answers before. What is refuted on the way is in the memo. Want of memory
-// only ends it.
-fn scout_unless_told<O: SeqObject, M: Memo<O>, S: Stop>(
-    alloc: Global,
-    problem: &Problem<O>,
-    config: &Config<O>,
-    scouting: Scouting,
-    memo: &mut M,
-    stop: &mut S,
-)
-    requires { IsReachable (problem_of O.after O.State.eq O.Reply.eq problem.now) config.now.lifted
-        config.now.state }
-    ensures memo { M.changes memo.old memo.new }
-    ensures stop { S.follows stop.old stop.new }
-{
-    if stop.ask().is_none() {
-        scout_unless_starved(alloc, problem, config, scouting, memo, stop);
-    }
 }
 
 // How the worker of this number among so many scouts, where a search makes so many lifts at most.

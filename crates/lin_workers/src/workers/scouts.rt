@@ -39,117 +39,6 @@ impl<O: SeqObject> Model for Turn<O> {
     ghost view = { λ t. record { frame = t.frame; up = t.is_up } };
 }
 
-// The greatest minimal call below the bound.
-fn greatest_below<O: SeqObject>(entries: &Entries<'_, O>, bound: usize) -> Option<usize>
-    ensures some { IfSome result (λ greatest. IsMinimal
-        (problem_of O.after O.State.eq O.Reply.eq entries.now.problem)
-        (lifted_set (problem_of O.after O.State.eq O.Reply.eq entries.now.problem)
-        entries.now.lifted) greatest × (greatest < bound) × ((d : ℕ) → IsMinimal
-        (problem_of O.after O.State.eq O.Reply.eq entries.now.problem)
-        (lifted_set (problem_of O.after O.State.eq O.Reply.eq entries.now.problem)
-        entries.now.lifted) d → d < bound → d ≤ greatest)) }
-    ensures none { IfNone result ((d : ℕ) → IsMinimal
-        (problem_of O.after O.State.eq O.Reply.eq entries.now.problem)
-        (lifted_set (problem_of O.after O.State.eq O.Reply.eq entries.now.problem)
-        entries.now.lifted) d → d < bound → ⊥) }
-{
-    let mut greatest = None;
-    let mut candidate = entries.first_minimal();
-    while let Some(call) = candidate {
-        if call >= bound {
-            return greatest;
-        }
-        greatest = Some(call);
-        candidate = entries.next_minimal(call);
-    }
-    greatest
-}
-
-// The call that is tried first: upwards the least minimal one, downwards the greatest.
-fn first_turn<O: SeqObject>(entries: &Entries<'_, O>, is_up: bool) -> Option<usize>
-    ensures { IsNextTurn (problem_of O.after O.State.eq O.Reply.eq entries.now.problem)
-        (lifted_set (problem_of O.after O.State.eq O.Reply.eq entries.now.problem)
-        entries.now.lifted) is_up (λ d. ⊥) result }
-{
-    if is_up {
-        entries.first_minimal()
-    } else {
-        greatest_below(entries, entries.problem().len())
-    }
-}
-
-// The call that is tried after this one, which is minimal.
-fn turn_after<O: SeqObject>(entries: &Entries<'_, O>, is_up: bool, call: usize) -> Option<usize>
-    requires { IsMinimal (problem_of O.after O.State.eq O.Reply.eq entries.now.problem)
-        (lifted_set (problem_of O.after O.State.eq O.Reply.eq entries.now.problem)
-        entries.now.lifted) call }
-    ensures { IsNextTurn (problem_of O.after O.State.eq O.Reply.eq entries.now.problem)
-        (lifted_set (problem_of O.after O.State.eq O.Reply.eq entries.now.problem)
-        entries.now.lifted) is_up (IsThrough is_up call) result }
-{
-    if is_up {
-        entries.next_minimal(call)
-    } else {
-        greatest_below(entries, call)
-    }
-}
-
-// How a scout goes on at a configuration that it has entered.
-fn enter<O: SeqObject>(entries: &Entries<'_, O>, is_up: bool) -> Position
-    ensures up { result.is_up ≡ is_up }
-    ensures longest { result.longest ≡ record { more = 0; first = None } }
-    ensures candidate { IsNextTurn (problem_of O.after O.State.eq O.Reply.eq entries.now.problem)
-        (lifted_set (problem_of O.after O.State.eq O.Reply.eq entries.now.problem)
-        entries.now.lifted) is_up (λ d. ⊥) result.candidate }
-{
-    Position {
-        is_up,
-        longest: Longest::none(),
-        candidate: first_turn(entries, is_up),
-    }
-}
-
-// How it goes on after the call, which is minimal, with what the calls through it tell.
-fn after<O: SeqObject>(
-    entries: &Entries<'_, O>,
-    is_up: bool,
-    call: usize,
-    longest: Longest,
-) -> Position
-    requires { IsMinimal (problem_of O.after O.State.eq O.Reply.eq entries.now.problem)
-        (lifted_set (problem_of O.after O.State.eq O.Reply.eq entries.now.problem)
-        entries.now.lifted) call }
-    ensures up { result.is_up ≡ is_up }
-    ensures longest { result.longest ≡ longest }
-    ensures candidate { IsNextTurn (problem_of O.after O.State.eq O.Reply.eq entries.now.problem)
-        (lifted_set (problem_of O.after O.State.eq O.Reply.eq entries.now.problem)
-        entries.now.lifted) is_up (IsThrough is_up call) result.candidate }
-{
-    Position {
-        is_up,
-        longest,
-        candidate: turn_after(entries, is_up, call),
-    }
-}
-
-// What the calls through the frame's tell, where it led to a configuration that is refuted with this longest.
-fn with_turn<O: SeqObject>(frame: &Frame<O>, is_up: bool, deep: Longest) -> Longest
-    requires call { frame.now.call < MAX_CALLS_ON_OBJECT }
-    requires deep { deep.more < MAX_CALLS_ON_OBJECT }
-    ensures { IsWithTurn is_up frame.now.longest frame.now.call deep result }
-{
-    let longest = frame.longest();
-    let more = deep.more + 1;
-    if longest.more < more || (!is_up && longest.more == more) {
-        Longest {
-            more,
-            first: Some(frame.call() as u16),
-        }
-    } else {
-        longest
-    }
-}
-
 // The way of a scout: the path, without frames of its own, the turns that it will come back to, and in which direction it
 // tries the calls of a configuration: by a bit for each of 64 levels, 0 for upwards.
 #[derive(Drop)]
@@ -466,4 +355,115 @@ pub fn scout<O: SeqObject, M: Memo<O>, S: Stop>(
         is_for_problem,
     };
     walk.go(scouting.steps, memo, stop)
+}
+
+// The greatest minimal call below the bound.
+fn greatest_below<O: SeqObject>(entries: &Entries<'_, O>, bound: usize) -> Option<usize>
+    ensures some { IfSome result (λ greatest. IsMinimal
+        (problem_of O.after O.State.eq O.Reply.eq entries.now.problem)
+        (lifted_set (problem_of O.after O.State.eq O.Reply.eq entries.now.problem)
+        entries.now.lifted) greatest × (greatest < bound) × ((d : ℕ) → IsMinimal
+        (problem_of O.after O.State.eq O.Reply.eq entries.now.problem)
+        (lifted_set (problem_of O.after O.State.eq O.Reply.eq entries.now.problem)
+        entries.now.lifted) d → d < bound → d ≤ greatest)) }
+    ensures none { IfNone result ((d : ℕ) → IsMinimal
+        (problem_of O.after O.State.eq O.Reply.eq entries.now.problem)
+        (lifted_set (problem_of O.after O.State.eq O.Reply.eq entries.now.problem)
+        entries.now.lifted) d → d < bound → ⊥) }
+{
+    let mut greatest = None;
+    let mut candidate = entries.first_minimal();
+    while let Some(call) = candidate {
+        if call >= bound {
+            return greatest;
+        }
+        greatest = Some(call);
+        candidate = entries.next_minimal(call);
+    }
+    greatest
+}
+
+// The call that is tried first: upwards the least minimal one, downwards the greatest.
+fn first_turn<O: SeqObject>(entries: &Entries<'_, O>, is_up: bool) -> Option<usize>
+    ensures { IsNextTurn (problem_of O.after O.State.eq O.Reply.eq entries.now.problem)
+        (lifted_set (problem_of O.after O.State.eq O.Reply.eq entries.now.problem)
+        entries.now.lifted) is_up (λ d. ⊥) result }
+{
+    if is_up {
+        entries.first_minimal()
+    } else {
+        greatest_below(entries, entries.problem().len())
+    }
+}
+
+// The call that is tried after this one, which is minimal.
+fn turn_after<O: SeqObject>(entries: &Entries<'_, O>, is_up: bool, call: usize) -> Option<usize>
+    requires { IsMinimal (problem_of O.after O.State.eq O.Reply.eq entries.now.problem)
+        (lifted_set (problem_of O.after O.State.eq O.Reply.eq entries.now.problem)
+        entries.now.lifted) call }
+    ensures { IsNextTurn (problem_of O.after O.State.eq O.Reply.eq entries.now.problem)
+        (lifted_set (problem_of O.after O.State.eq O.Reply.eq entries.now.problem)
+        entries.now.lifted) is_up (IsThrough is_up call) result }
+{
+    if is_up {
+        entries.next_minimal(call)
+    } else {
+        greatest_below(entries, call)
+    }
+}
+
+// How a scout goes on at a configuration that it has entered.
+fn enter<O: SeqObject>(entries: &Entries<'_, O>, is_up: bool) -> Position
+    ensures up { result.is_up ≡ is_up }
+    ensures longest { result.longest ≡ record { more = 0; first = None } }
+    ensures candidate { IsNextTurn (problem_of O.after O.State.eq O.Reply.eq entries.now.problem)
+        (lifted_set (problem_of O.after O.State.eq O.Reply.eq entries.now.problem)
+        entries.now.lifted) is_up (λ d. ⊥) result.candidate }
+{
+    Position {
+        is_up,
+        longest: Longest::none(),
+        candidate: first_turn(entries, is_up),
+    }
+}
+
+// How it goes on after the call, which is minimal, with what the calls through it tell.
+fn after<O: SeqObject>(
+    entries: &Entries<'_, O>,
+    is_up: bool,
+    call: usize,
+    longest: Longest,
+) -> Position
+    requires { IsMinimal (problem_of O.after O.State.eq O.Reply.eq entries.now.problem)
+        (lifted_set (problem_of O.after O.State.eq O.Reply.eq entries.now.problem)
+        entries.now.lifted) call }
+    ensures up { result.is_up ≡ is_up }
+    ensures longest { result.longest ≡ longest }
+    ensures candidate { IsNextTurn (problem_of O.after O.State.eq O.Reply.eq entries.now.problem)
+        (lifted_set (problem_of O.after O.State.eq O.Reply.eq entries.now.problem)
+        entries.now.lifted) is_up (IsThrough is_up call) result.candidate }
+{
+    Position {
+        is_up,
+        longest,
+        candidate: turn_after(entries, is_up, call),
+    }
+}
+
+// What the calls through the frame's tell, where it led to a configuration that is refuted with this longest.
+fn with_turn<O: SeqObject>(frame: &Frame<O>, is_up: bool, deep: Longest) -> Longest
+    requires call { frame.now.call < MAX_CALLS_ON_OBJECT }
+    requires deep { deep.more < MAX_CALLS_ON_OBJECT }
+    ensures { IsWithTurn is_up frame.now.longest frame.now.call deep result }
+{
+    let longest = frame.longest();
+    let more = deep.more + 1;
+    if longest.more < more || (!is_up && longest.more == more) {
+        Longest {
+            more,
+            first: Some(frame.call() as u16),
+        }
+    } else {
+        longest
+    }
 }

@@ -8,13 +8,13 @@ ghost use Rattle.lin_workers.specs.Cut.{IsCut};
 ghost use Rattle.lin_workers.specs.Outcomes.{AreOutcomes};
 ghost use Rattle.lin_workers.specs.Values.{AreValues};
 
+use crate::options::MAX_WORKERS;
+use crate::tasks::task::Task;
 use crate::workers::gate::Gate;
 use crate::workers::gathering::{gather, no_outcomes};
 use crate::workers::job::{Done, Job};
-use crate::options::MAX_WORKERS;
 use crate::workers::scouting::{scout_all, scouting_of};
 use crate::workers::signals::{Member, Signals};
-use crate::tasks::task::Task;
 use crate::workers::worker::search_tasks;
 use lin_board::{Board, Seat};
 use lin_object::{SeqObject, SharedObject};

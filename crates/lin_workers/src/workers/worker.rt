@@ -11,12 +11,12 @@ ghost use Rattle.lin_search.specs.declared.outcome.Outcome.{Outcome as OutcomeOf
 ghost use Rattle.lin_workers.specs.Heard.{HasFound, HasHeard, IsTold};
 ghost use Rattle.lin_workers.specs.Values.{HasBrought, found_of};
 
+use crate::searches::stop::FoundBefore;
+use crate::tasks::task::Task;
 use crate::workers::gate::Gate;
 use crate::workers::job::{Done, Job};
 use crate::workers::scouting::{scout_until_leading, search_unless_told};
 use crate::workers::signals::{Member, is_left, tell_begun, tell_ended, tell_undecided};
-use crate::searches::stop::FoundBefore;
-use crate::tasks::task::Task;
 use lin_board::{Board, Seat};
 use lin_history::Problem;
 use lin_object::SeqObject;
