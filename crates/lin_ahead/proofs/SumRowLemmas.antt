@@ -277,8 +277,7 @@ module _ (p : Problem ObjState Op Reply) where
   module _ (events : List ProblemEvent) (timeline : IsTimeline p events) (start : ℤ) (up : Bool) (before through : List ℕ) (befores : AreSumsAt p up true events before) (throughs : AreSumsAt p (not up) false events through) where
     is_before : (g b : ℕ) → g < length p.calls → slice_get before g ≡ Some b → IsSumOfAll p up (λ a. Before p a g) b
     is_before g b within there =
-        let at = timeline.called g within in
-        (
+        let at = timeline.called g within in (
           counted true (take at.0 events),
           counted_distinct true (take at.0 events) (once_taken events at.0 timeline.once),
           (λ a. (
@@ -299,8 +298,7 @@ module _ (p : Problem ObjState Op Reply) where
 
     is_through : (g t : ℕ) → IsCompleted p g → slice_get through g ≡ Some t → IsSumOfAll p (not up) (MayStandBefore p g) t
     is_through g t done there =
-        let at = timeline.returned g done in
-        (
+        let at = timeline.returned g done in (
           counted false (take at.0 events),
           counted_distinct false (take at.0 events) (once_taken events at.0 timeline.once),
           (λ a. (

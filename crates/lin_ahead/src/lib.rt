@@ -1,4 +1,4 @@
-//! What the calls of a queue, a stack, a register or one key of a map tell before any search, and a first search that goes by it
+//! What the calls of a queue, a stack, a register, a counter or one key of a map tell before any search, and a first search that goes by it
 //! (this project's own).
 //!
 //! - `item_calls`: what the calls on a queue tell of one item: how many put it in, and when it was taken out; `each_item`: the
@@ -8,12 +8,15 @@
 //!   `needed_pairs`: two calls that need each other; `call_values`: the values of each call by numbers.
 //! - `key_value`: the calls of a map on one key, as calls of a register that holds the key's value.
 //! - `stack_rows`: the rows of a stack, whose calls are read as those on a queue.
+//! - `sum_rows`: the limits of a counter's `get`s, by one pass over the events for each sum.
 //! - `look_ahead`: what is known ahead of a whole problem; `impossible_items`: items that a call returned with before any call
 //!   put them there.
 //! - `first_search`: a search that passes over calls that need one left out, that would take a reply which is owed to
 //!   another, that are too late, that would change a state which is held, or that leave too few takers; `needed_calls`: the calls by how early they are needed;
 //!   `owed_replies`: the replies that are owed; `calls_in_turn`: calls in an order, and the first that is not lifted;
 //!   `late_pushes`: pushes that are too late, by the pushes that must lie above them; `stack_hints`: which of those to ask of;
+//!   `sums`: adds that are too much for a `get` of a counter; `sum_hints`: which `get` to ask of, and which calls to count;
+//!   `sum_tree`: the room that each `get` leaves;
 //!   `takers`: calls that leave too few dequeues for what must be taken out of a queue; `stack_takers`: the same of pops and a
 //!   stack; `taker_hints`: which calls to ask of;
 //!   `held_state`: calls until which the state is held; `finders`: the calls that found each value, in turn; `refuted_set`:

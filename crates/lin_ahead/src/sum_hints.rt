@@ -55,11 +55,7 @@ fn bounded(alloc: Global, row: &[Option<SumLimit>]) -> Result<Vec<usize>, AllocE
 }
 
 // The room that each of the `get`s leaves.
-fn rooms(
-    alloc: Global,
-    row: &[Option<SumLimit>],
-    gets: &[usize],
-) -> Result<Vec<i64>, AllocError> {
+fn rooms(alloc: Global, row: &[Option<SumLimit>], gets: &[usize]) -> Result<Vec<i64>, AllocError> {
     let mut rooms = Vec::with_capacity(alloc, gets.len())?;
     for get in gets {
         let room = match row.get(*get) {

@@ -1,7 +1,7 @@
 //! Of each `get` of a counter how far the calls before it can have added: by those that returned before it was called, which
 //! stand before it, and those that were called before it returned, which may.
 
-ghost use Rattle.std.specs.Prelude.{◌≡◌, ℕ, ◌≤◌, ◌<◌, ◌^◌, ◌+◌, ℤ, Bool, not, true, false, [], Some, None, length, replicate, slice_get, slice_set, IfOk, IfSome, IfNone};
+ghost use Rattle.std.specs.Prelude.{◌≡◌, ℕ, ◌≤◌, ◌^◌, ℤ, true, false, [], Some, length, replicate, slice_get, IfOk, IfSome, IfNone};
 ghost use Rattle.lin_object.specs.declared.op.Op.TheVariants.{Get};
 ghost use Rattle.lin_object.specs.declared.reply.Reply.TheVariants.{Int};
 ghost use Rattle.lin_history.specs.Problems.Timeline.{IsTimeline};
@@ -53,7 +53,11 @@ fn share_in(up: bool, value: i64) -> u64
     ensures share { result ≡ share_in up value }
     ensures few { result ≤ 2 ^ 63 }
 {
-    if (value >= 0) == up { value.unsigned_abs() } else { 0 }
+    if (value >= 0) == up {
+        value.unsigned_abs()
+    } else {
+        0
+    }
 }
 
 // What the operation adds in the direction.
@@ -179,11 +183,7 @@ fn limits(
 }
 
 // The limits of the problem's calls, on a counter that starts with the number.
-fn both_ways(
-    alloc: Global,
-    problem: &Problem<AnyObject>,
-    start: i64,
-) -> Result<SumRows, AllocError>
+fn both_ways(alloc: Global, problem: &Problem<AnyObject>, start: i64) -> Result<SumRows, AllocError>
     ensures up { IfOk result (λ rows. AreLimits (any_problem problem.now) start true
         rows.up.items) }
     ensures down { IfOk result (λ rows. AreLimits (any_problem problem.now) start false

@@ -1,4 +1,5 @@
-use Rattle.std.proofs.Common.{◌≡◌, [], rules}
+use Rattle.std.proofs.Common.{◌≡◌, [], rules, sym, ◌∙◌, ap, w64, to_z, of_z, FitsSigned}
+use Rattle.std.proofs.lemmas.Int.{to_z-of_z}
 use Rattle.lin_object.specs.declared.state.ObjState.TheVariants.{Queue, Register, Stack, Map, Counter}
 use Rattle.lin_ahead.specs.AnyProblem.{any_problem}
 use Rattle.lin_ahead.proofs.AheadLemmas.{is_right, is_told}
@@ -62,12 +63,16 @@ pub returns-in_ok-told_of_counter-in-Counter-clause-right :
     goal.returns-in_ok-told_of_counter-in-Counter-clause-right
 returns-in_ok-told_of_counter-in-Counter-clause-right c =
     let start : c.args.problem.now.start ≡ Counter c.in-Counter.start = search rules in
+    let fits : FitsSigned w64 c.in-Counter.start = search rules in
+    let passed : to_z w64 (of_z w64 c.in-Counter.start) ≡ c.in-Counter.start = to_z-of_z w64 c.in-Counter.start fits in
     let tells = c.in_ok-told_of_counter-in-Counter.ensures in
-    counter_right c.args.problem.now c.in-Counter.start start _ tells.by tells.from tells.taken tells.takers tells.owed tells.held tells.in_vain tells.late tells.up tells.down
+    counter_right c.args.problem.now _ (start ∙ ap Counter (sym passed)) _ tells.by tells.from tells.taken tells.takers tells.owed tells.held tells.in_vain tells.late tells.up tells.down
 
 pub returns-in_ok-told_of_counter-in-Counter-clause-told_of_counter :
     goal.returns-in_ok-told_of_counter-in-Counter-clause-told_of_counter
 returns-in_ok-told_of_counter-in-Counter-clause-told_of_counter c =
     let start : c.args.problem.now.start ≡ Counter c.in-Counter.start = search rules in
+    let fits : FitsSigned w64 c.in-Counter.start = search rules in
+    let passed : to_z w64 (of_z w64 c.in-Counter.start) ≡ c.in-Counter.start = to_z-of_z w64 c.in-Counter.start fits in
     let tells = c.in_ok-told_of_counter-in-Counter.ensures in
-    counter_told c.args.problem.now c.in-Counter.start start _ tells.from tells.taken tells.takers tells.owed tells.held tells.in_vain tells.up tells.down
+    counter_told c.args.problem.now _ (start ∙ ap Counter (sym passed)) _ tells.from tells.taken tells.takers tells.owed tells.held tells.in_vain tells.up tells.down
