@@ -1,5 +1,5 @@
 -- What is known ahead of a counter is right, and all of it is told.
-use Rattle.std.proofs.Common.{◌≡◌, ℕ, zero, suc, true, false, Some, [], length, replicate, sym, ◌∙◌, ap, subst}
+use Rattle.std.proofs.Common.{◌≡◌, ℕ, zero, suc, true, false, Some, [], length, replicate, sym, ◌∙◌, subst}
 use Rattle.std.specs.Prelude.{ℤ, slice_get}
 use Rattle.lin_object.specs.declared.op.Op.{Op}
 use Rattle.lin_object.specs.declared.reply.Reply.{Reply}

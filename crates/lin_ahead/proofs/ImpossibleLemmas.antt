@@ -3,12 +3,10 @@ use Rattle.std.proofs.Common.{◌≡◌, ℕ, ◌<◌, ◌+◌, Some, List, [], 
 use Rattle.std.specs.Prelude.{ℤ, slice_get}
 use Rattle.std.proofs.lemmas.Option.{slice_get_within}
 use Rattle.lin_object.specs.declared.op.Op.{Op}
-use Rattle.lin_object.specs.declared.op.Op.TheVariants.{Pop}
 use Rattle.lin_object.specs.declared.reply.Reply.{Reply}
 use Rattle.lin_object.specs.declared.reply.Reply.TheVariants.{Int}
 use Rattle.lin_object.specs.declared.state.ObjState.{ObjState}
-use Rattle.lin_object.specs.declared.state.ObjState.TheVariants.{Queue, Stack}
-use Rattle.lin_history.specs.declared.problems.problem.ProblemCall.{ProblemCall}
+use Rattle.lin_object.specs.declared.state.ObjState.TheVariants.{Stack}
 use Rattle.lin_history.specs.ReplyLemmas.{reply_same}
 use Rattle.lin_history.specs.Problems.ProblemParts.{ProblemParts}
 use Rattle.lin_history.specs.Problems.Problem.{Problem}
@@ -19,12 +17,12 @@ use Rattle.lin_history.specs.Problems.Precedence.{Before}
 use Rattle.lin_history.specs.Problems.Linearizations.{IsRun, IsLinearization}
 use Rattle.lin_ahead.specs.AnyProblem.{any_problem}
 use Rattle.lin_ahead.specs.Impossible.{AddsItem, CameTooEarly}
-use Rattle.lin_ahead.specs.Queue.{Item, IsOfQueue, Puts, Took}
+use Rattle.lin_ahead.specs.Queue.{IsOfQueue, Puts, Took}
 use Rattle.lin_ahead.specs.Stack.{Pushes, Popped}
 use Rattle.lin_ahead.proofs.AnyLemmas.{of_any}
 use Rattle.lin_ahead.proofs.ChainLemmas.{legal_split}
 use Rattle.lin_ahead.proofs.NeedsLemmas.{not_before, stands}
-use Rattle.lin_ahead.proofs.QueueLemmas.{PutAt, moment, put_place, queue_answered, replied}
+use Rattle.lin_ahead.proofs.QueueLemmas.{moment, put_place, queue_answered, replied}
 use Rattle.lin_ahead.proofs.StackLemmas.{IsExact, NeverThere, never_there, push_is_no_pop}
 
 -- a call that puts an item there is a call of the problem

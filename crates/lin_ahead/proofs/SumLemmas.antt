@@ -1,6 +1,6 @@
 -- What adds up on a counter: no call of a linearization is too much for a get that stands behind it.
-use Rattle.std.proofs.Common.{◌≡◌, ◌≢◌, ℕ, zero, suc, ◌+◌, ◌<◌, ◌≤◌, Bool, true, false, not, Option, Some, None, List, [], ◌∷◌, ◌++◌, length, ◌⊎◌, inl, inr, refl, sym, ◌∙◌, ap, subst, append_assoc, arith, if◌then◌else◌}
-use Rattle.std.specs.Prelude.{ℤ, pos, negsuc, ◌+ℤ◌, slice_get}
+use Rattle.std.proofs.Common.{◌≡◌, ◌≢◌, ℕ, ◌+◌, ◌<◌, ◌≤◌, Bool, true, false, not, Option, Some, None, List, [], ◌∷◌, ◌++◌, length, ◌⊎◌, inl, inr, refl, sym, ◌∙◌, ap, subst, append_assoc, arith, if◌then◌else◌}
+use Rattle.std.specs.Prelude.{ℤ, ◌+ℤ◌, slice_get}
 use Rattle.std.proofs.lemmas.Int.{ints}
 use Rattle.std.proofs.lemmas.Option.{slice_get_within}
 use Rattle.lin_object.specs.declared.op.Op.{Op}
@@ -21,7 +21,7 @@ use Rattle.lin_history.specs.Problems.Linearizations.{IsLinearization}
 use Rattle.lin_search.specs.CallSetLemmas.{no_calls_has}
 use Rattle.lin_ahead.specs.declared.sum_rows.SumLimit.{SumLimit}
 use Rattle.lin_ahead.specs.declared.sum_rows.SumRows.{SumRows}
-use Rattle.lin_ahead.specs.Sums.{share_in, share_of, share_of_call, total, sum_of_shares, IsSumOfAll, MayStandBefore, Got, IsLimit, AreLimits, row_of, IsLoad, IsOver, NoneIsOver}
+use Rattle.lin_ahead.specs.Sums.{share_in, share_of, share_of_call, total, sum_of_shares, Got, IsLimit, AreLimits, row_of, IsLoad, NoneIsOver}
 use Rattle.lin_ahead.proofs.ChainLemmas.{legal_split}
 use Rattle.lin_ahead.proofs.PlaceLemmas.{not_in_front}
 use Rattle.lin_ahead.proofs.StackLemmas.{IsExact}

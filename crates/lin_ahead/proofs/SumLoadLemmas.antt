@@ -1,15 +1,14 @@
 -- What lifted calls of a counter add at least, counted in the order of their numbers.
-use Rattle.std.proofs.Common.{◌≡◌, ◌≢◌, ℕ, zero, suc, ◌+◌, ◌-◌, ◌<◌, ◌≤◌, ◌^◌, min, Bool, true, false, Some, List, [], ◌∷◌, ◌++◌, ◌⊎◌, inl, inr, refl, sym, ◌∙◌, ap, subst, arith}
+use Rattle.std.proofs.Common.{◌≡◌, ◌≢◌, ℕ, ◌+◌, ◌≤◌, Bool, true, List, [], ◌∷◌, ◌++◌, inl, inr, refl, sym, subst, arith}
 use Rattle.std.specs.Prelude.{slice_get}
 use Rattle.lin_object.specs.declared.op.Op.{Op}
 use Rattle.lin_object.specs.declared.reply.Reply.{Reply}
 use Rattle.lin_object.specs.declared.state.ObjState.{ObjState}
 use Rattle.lin_history.specs.Problems.Problem.{Problem}
-use Rattle.lin_history.specs.Problems.Lists.{In, IsDistinct}
 use Rattle.lin_history.specs.Problems.ListLemmas.{in_either}
 use Rattle.lin_history.specs.Problems.Precedence.{Before}
 use Rattle.lin_history.specs.Problems.Continuations.{has}
-use Rattle.lin_ahead.specs.Sums.{share_of_call, sum_of_shares, AddFreely, IsFreeShare, IsLiftedShare, IsLoad}
+use Rattle.lin_ahead.specs.Sums.{share_of_call, AddFreely, IsFreeShare, IsLiftedShare, IsLoad}
 use Rattle.lin_ahead.proofs.SumLemmas.{total_append, distinct_both}
 
 module _ (p : Problem ObjState Op Reply) (set : List Bool) (up : Bool) (g c : ℕ) where

@@ -1,5 +1,5 @@
 -- The limits of a counter's gets, from sums by one pass over the events.
-use Rattle.std.proofs.Common.{◌≡◌, ◌≢◌, ℕ, zero, suc, ◌+◌, ◌*◌, ◌<◌, ◌≤◌, ◌^◌, ◌↔◌, Bool, true, false, not, Option, Some, None, List, [], ◌∷◌, ◌++◌, length, replicate, take, ◌⊎◌, inl, inr, refl, sym, ◌∙◌, ap, subst, arith}
+use Rattle.std.proofs.Common.{◌≡◌, ◌≢◌, ℕ, zero, suc, ◌+◌, ◌*◌, ◌<◌, ◌≤◌, ◌^◌, Bool, true, false, not, Option, Some, None, List, [], ◌∷◌, ◌++◌, length, replicate, take, ◌⊎◌, inl, inr, refl, sym, ◌∙◌, ap, subst, arith}
 use Rattle.std.specs.Prelude.{ℤ, slice_get, slice_set, IfSome, IfNone, IsSomeAnd, IsSome}
 use Rattle.std.proofs.lemmas.Option.{slice_get_within, slice_get-get_or, get_or_from_slice_get}
 use lib.ListN.{get_or}
@@ -20,7 +20,7 @@ use Rattle.lin_history.specs.Problems.Lists.{In, IsDistinct}
 use Rattle.lin_history.specs.Problems.Precedence.{Before, IsCompleted}
 use Rattle.lin_history.specs.Problems.Timeline.{IsTimeline}
 use Rattle.lin_ahead.specs.declared.sum_rows.SumLimit.{SumLimit}
-use Rattle.lin_ahead.specs.Sums.{share_of_call, sum_of_shares, total, IsSumOfAll, MayStandBefore, Got, IsLimit, IsLimitOf, AreLimits, event_of, counted, AreSumsAt}
+use Rattle.lin_ahead.specs.Sums.{share_of_call, sum_of_shares, IsSumOfAll, MayStandBefore, Got, IsLimit, IsLimitOf, AreLimits, event_of, counted, AreSumsAt}
 use Rattle.lin_ahead.proofs.SumLemmas.{total_append}
 
 -- ---- elements of lists

@@ -1,5 +1,4 @@
-use Rattle.std.proofs.Common.{◌≡◌, ℕ, ◌<◌, ◌+◌, sym, subst, arith, rules, w64, to_z, of_z}
-use Rattle.std.specs.Prelude.{IsFalse}
+use Rattle.std.proofs.Common.{◌≡◌, sym, subst, arith, rules, w64, to_z, of_z}
 use Rattle.lin_ahead.specs.AnyProblem.{any_problem}
 use Rattle.lin_ahead.specs.Impossible.{AddsItem}
 use Rattle.lin_ahead.proofs.ImpossibleLemmas.{after_more, adds_within}

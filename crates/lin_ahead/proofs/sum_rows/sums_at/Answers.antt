@@ -1,4 +1,4 @@
-use Rattle.std.proofs.Common.{◌≡◌, ◌<◌, ◌^◌, Some, Bool, true, false, subst, sym, ◌∙◌, rules, ap, arith, length}
+use Rattle.std.proofs.Common.{◌≡◌, ◌<◌, ◌^◌, Some, Bool, false, ◌∙◌, rules, ap, arith, length}
 use Rattle.std.specs.Prelude.{slice_get}
 use Rattle.lin_ahead.specs.AnyProblem.{any_problem}
 use Rattle.lin_ahead.specs.Sums.{event_of}

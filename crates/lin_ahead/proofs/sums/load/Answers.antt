@@ -1,4 +1,4 @@
-use Rattle.std.proofs.Common.{◌≤◌, ◌+◌, arith}
+use Rattle.std.proofs.Common.{arith}
 use Rattle.lin_ahead.specs.AnyProblem.{any_problem}
 use Rattle.lin_ahead.proofs.SumLoadLemmas.{load_is}
 use Rattle.lin_ahead.proofs.sums.load.Goals as goal

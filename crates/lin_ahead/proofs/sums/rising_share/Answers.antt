@@ -1,4 +1,4 @@
-use Rattle.std.proofs.Common.{◌≤◌, ◌<◌, ◌+◌, arith, rules}
+use Rattle.std.proofs.Common.{◌≤◌, ◌+◌, arith}
 use Rattle.std.specs.Prelude.{slice_index_or}
 use Rattle.lin_ahead.specs.AnyProblem.{any_problem}
 use Rattle.lin_ahead.proofs.SumLoadLemmas.{freely_more, freely_within}
