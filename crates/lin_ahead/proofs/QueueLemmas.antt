@@ -1,6 +1,6 @@
 -- What the order of dequeues tells of the order of enqueues, and that no two of them take an item that goes in once.
-use Rattle.std.proofs.Common.{◌≡◌, ◌≢◌, ℕ, Bool, true, false, Option, Some, None, List, [], ◌∷◌, ◌++◌, length, ◌⊎◌, inl, inr, refl, sym, ◌∙◌, ap, subst, append_assoc, append-nil}
-use Rattle.std.specs.Prelude.{ℤ, slice_get, IfSome, if◌then◌else◌}
+use Rattle.std.proofs.Common.{◌≡◌, ◌≢◌, ℕ, true, Option, Some, None, List, [], ◌∷◌, ◌++◌, length, ◌⊎◌, inl, inr, refl, sym, ◌∙◌, ap, subst, append_assoc, append-nil}
+use Rattle.std.specs.Prelude.{ℤ, slice_get, IfSome}
 use Rattle.lin_object.specs.declared.op.Op.{Op}
 use Rattle.lin_object.specs.declared.op.Op.TheVariants.{Write, Read, Cas, Add, Get, Enqueue, Dequeue, Push, Pop, Insert, Remove, Contains, Lock, Unlock, TryLock, Put, Lookup, Delete}
 use Rattle.lin_object.specs.declared.reply.Reply.{Reply}
@@ -19,6 +19,7 @@ use Rattle.lin_history.specs.Problems.Needs.{Needs}
 use Rattle.lin_ahead.specs.Queue.{Item, IsOfQueue, Puts, Took, FoundEmpty, MayTake, OnlyPuts, IsTakenAfter}
 use Rattle.lin_ahead.specs.Owed.{IsOwed}
 use Rattle.lin_ahead.specs.ToldAhead.{PutOnce}
+use Rattle.lin_ahead.proofs.AnswerLemmas.{Is, state_of, reply_of, fits_some}
 use Rattle.lin_ahead.proofs.NeedsLemmas.{not_before, place_split, stands}
 
 -- ---- items
@@ -72,19 +73,6 @@ either_first (x ∷ xs) a ys (z ∷ front) b rest e ne =
     elim (either_first xs a ys front b rest tail ne) [ inl q ↦ inl (inr q) | inr q ↦ inr (inr q) ]
 
 -- ---- one step of a queue
-
--- the answer is this state and this reply
-abbrev pub Is : Option (ObjState × Reply) → ObjState → Reply → Type 0
-Is answer m r = answer ≡ Some (m, r)
-
-inside : {x y : ObjState × Reply} → ◌≡◌ {A = Option (ObjState × Reply)} (Some x) (Some y) → x ≡ y
-inside e = cc
-
-state_of : {s m : ObjState} {a r : Reply} → Is (Some (s, a)) m r → s ≡ m
-state_of e = ap (λ (answer : ObjState × Reply). answer.0) (inside e)
-
-reply_of : {s m : ObjState} {a r : Reply} → Is (Some (s, a)) m r → a ≡ r
-reply_of e = ap (λ (answer : ObjState × Reply). answer.1) (inside e)
 
 -- what one step leaves in the queue, and what it took
 pub record QueueStep (items : List ℤ) (op : Op) (m : ObjState) (r : Reply) : Type 0 where
@@ -155,19 +143,11 @@ only_dequeues items (Lookup k) m v e = absurd (cc)
 only_dequeues items (Delete k) m v e = absurd (cc)
 
 module _ {p : Problem ObjState Op Reply} {start : List ℤ} (of_queue : IsOfQueue p start) where
-  fits_some : (answer : Option (ObjState × Reply)) (recorded : Option (ℕ × Reply)) (m : ObjState) → state_if_fits p.same_reply recorded answer ≡ Some m → (r : Reply) × Is answer m r × (fits p.same_reply r recorded ≡ true)
-  fits_some None recorded m e = absurd (cc)
-  fits_some (Some answer) recorded m e = go (fits p.same_reply answer.1 recorded) refl e
-    where
-      go : (b : Bool) → fits p.same_reply answer.1 recorded ≡ b → (if b then Some answer.0 else None) ≡ Some m → (r : Reply) × Is (Some answer) m r × (fits p.same_reply r recorded ≡ true)
-      go true f g = (answer.1, (let h : answer.0 ≡ m = cc in ap (λ (x : ObjState). Some (x, answer.1)) h), f)
-      go false f g = absurd (cc)
-
   -- a step of a call at a queue
   pub stepped : (items : List ℤ) (m : ObjState) (c : ℕ) (x : ProblemCall Op Reply) → slice_get p.calls c ≡ Some x → next p (Queue items) c ≡ Some m → (r : Reply) × Is (queue_step items x.op) m r × (fits p.same_reply r x.returned ≡ true)
   stepped items m c x e step =
       let step' : state_if_fits p.same_reply x.returned (p.after (Queue items) x.process x.op) ≡ Some m = rw e at step in
-      let k = fits_some (p.after (Queue items) x.process x.op) x.returned m step' in
+      let k = fits_some p.same_reply (p.after (Queue items) x.process x.op) x.returned m step' in
       (k.0, sym (of_queue.after_is (Queue items) x.process x.op) ∙ k.1, k.2)
 
   pub has_call : (s m : ObjState) (c : ℕ) → next p s c ≡ Some m → (x : ProblemCall Op Reply) × (slice_get p.calls c ≡ Some x)

@@ -22,21 +22,10 @@ use Rattle.lin_ahead.specs.Numbers.{ReturnsAt, CalledFrom}
 use Rattle.lin_ahead.specs.Register.{IsOfRegister, value_written, value_found, MayWrite, Finds, IsSingle, OfCluster, IsClusterBy, IsClusterFrom, AreClusterNumbers}
 use Rattle.lin_ahead.specs.Behind.{AreOtherNeeds}
 use Rattle.lin_ahead.specs.Held.{Changes, IsHeldUntil}
+use Rattle.lin_ahead.proofs.AnswerLemmas.{Is, state_of, reply_of, fits_some}
 use Rattle.lin_ahead.proofs.NeedsLemmas.{not_before, place_split}
 
 -- ---- one step of a register
-
-abbrev Is : Option (ObjState × Reply) → ObjState → Reply → Type 0
-Is answer m r = answer ≡ Some (m, r)
-
-inside : {x y : ObjState × Reply} → ◌≡◌ {A = Option (ObjState × Reply)} (Some x) (Some y) → x ≡ y
-inside e = cc
-
-state_of : {s m : ObjState} {a r : Reply} → Is (Some (s, a)) m r → s ≡ m
-state_of e = ap (λ (answer : ObjState × Reply). answer.0) (inside e)
-
-reply_of : {s m : ObjState} {a r : Reply} → Is (Some (s, a)) m r → a ≡ r
-reply_of e = ap (λ (answer : ObjState × Reply). answer.1) (inside e)
 
 no_step : {m : ObjState} {r : Reply} → Is None m r → ⊥
 no_step e = cc
@@ -93,14 +82,6 @@ step_tells w op back m r step k = absurd (no_step step)
 -- ---- runs of a register
 
 module _ {p : Problem ObjState Op Reply} {start : ℤ} (of : IsOfRegister p start) where
-  fits_some : (answer : Option (ObjState × Reply)) (recorded : Option (ℕ × Reply)) (m : ObjState) → state_if_fits p.same_reply recorded answer ≡ Some m → (r : Reply) × Is answer m r × (fits p.same_reply r recorded ≡ true)
-  fits_some None recorded m e = absurd (cc)
-  fits_some (Some answer) recorded m e = go (fits p.same_reply answer.1 recorded) refl e
-    where
-      go : (b : Bool) → fits p.same_reply answer.1 recorded ≡ b → (if b then Some answer.0 else None) ≡ Some m → (r : Reply) × Is (Some answer) m r × (fits p.same_reply r recorded ≡ true)
-      go true f g = (answer.1, (let h : answer.0 ≡ m = cc in ap (λ (x : ObjState). Some (x, answer.1)) h), f)
-      go false f g = absurd (cc)
-
   fits_recorded : (r : Reply) (recorded : Option (ℕ × Reply)) → fits p.same_reply r recorded ≡ true → IfSome recorded (λ q. q.1 ≡ r)
   fits_recorded r None e = tt
   fits_recorded r (Some q) e = sym (of.exact r q.1 e)
@@ -116,7 +97,7 @@ module _ {p : Problem ObjState Op Reply} {start : ℤ} (of : IsOfRegister p star
   tells : (w : ℤ) (m : ObjState) (c : ℕ) (x : ProblemCall Op Reply) → slice_get p.calls c ≡ Some x → next p (Register w) c ≡ Some m → Tells w x.op x.returned m
   tells w m c x e step =
       let step' : state_if_fits p.same_reply x.returned (p.after (Register w) x.process x.op) ≡ Some m = rw e at step in
-      let k = fits_some (p.after (Register w) x.process x.op) x.returned m step' in
+      let k = fits_some p.same_reply (p.after (Register w) x.process x.op) x.returned m step' in
       step_tells w x.op x.returned m k.0 (sym (of.after_is (Register w) x.process x.op) ∙ k.1) (fits_recorded k.0 x.returned k.2)
 
   -- what the register holds at the end was there, or some call of the list may write it

@@ -1,6 +1,6 @@
 -- In a legal run of a stack an item that is pushed once is popped by one call.
-use Rattle.std.proofs.Common.{◌≡◌, ℕ, Bool, true, false, Option, Some, None, List, [], ◌∷◌, ◌++◌, ◌⊎◌, inl, inr, refl, sym, ◌∙◌, ap, subst}
-use Rattle.std.specs.Prelude.{ℤ, slice_get, IfSome, if◌then◌else◌}
+use Rattle.std.proofs.Common.{◌≡◌, ℕ, true, Option, Some, None, List, [], ◌∷◌, ◌++◌, ◌⊎◌, inl, inr, refl, sym, ◌∙◌, ap, subst}
+use Rattle.std.specs.Prelude.{ℤ, slice_get, IfSome}
 use Rattle.lin_object.specs.declared.op.Op.{Op}
 use Rattle.lin_object.specs.declared.op.Op.TheVariants.{Write, Read, Cas, Add, Get, Enqueue, Dequeue, Push, Pop, Insert, Remove, Contains, Lock, Unlock, TryLock, Put, Lookup, Delete}
 use Rattle.lin_object.specs.declared.reply.Reply.{Reply}
@@ -16,6 +16,7 @@ use Rattle.lin_history.specs.Problems.ListLemmas.{in_early, in_either, in_late}
 use Rattle.lin_history.specs.Problems.LegalLists.{fits, state_if_fits, next, Legal}
 use Rattle.lin_ahead.specs.Queue.{Item}
 use Rattle.lin_ahead.specs.Stack.{Pushes, Popped}
+use Rattle.lin_ahead.proofs.AnswerLemmas.{Is, state_of, reply_of, fits_some}
 use Rattle.lin_ahead.proofs.PlaceLemmas.{not_in_front, distinct_late, not_within, not_empty, put_on, taken_off}
 
 -- a problem under the tables of the kinds, whose replies are equal where its test says so
@@ -50,19 +51,6 @@ module _ (p : Problem ObjState Op Reply) where
     pub popped : IsPopped [] item below mid j
 
 -- ---- one step of a stack
-
--- the answer is this state and this reply
-abbrev Is : Option (ObjState × Reply) → ObjState → Reply → Type 0
-Is answer m r = answer ≡ Some (m, r)
-
-inside : {x y : ObjState × Reply} → ◌≡◌ {A = Option (ObjState × Reply)} (Some x) (Some y) → x ≡ y
-inside e = cc
-
-state_of : {s m : ObjState} {a r : Reply} → Is (Some (s, a)) m r → s ≡ m
-state_of e = ap (λ (answer : ObjState × Reply). answer.0) (inside e)
-
-reply_of : {s m : ObjState} {a r : Reply} → Is (Some (s, a)) m r → a ≡ r
-reply_of e = ap (λ (answer : ObjState × Reply). answer.1) (inside e)
 
 abbrev PutsOn : List ℤ → Op → ObjState → Reply → Type 0
 PutsOn items op m r = (v : ℤ) × (op ≡ Push v) × (m ≡ Stack (v ∷ items)) × (r ≡ Okay)
@@ -103,14 +91,6 @@ only_pops items op m v e = elim (stack_moves items op m (Int v) e) [
 ]
 
 module _ (p : Problem ObjState Op Reply) (exact : IsExact p) where
-  fits_some : (answer : Option (ObjState × Reply)) (recorded : Option (ℕ × Reply)) (m : ObjState) → state_if_fits p.same_reply recorded answer ≡ Some m → (r : Reply) × Is answer m r × (fits p.same_reply r recorded ≡ true)
-  fits_some None recorded m e = absurd (cc)
-  fits_some (Some answer) recorded m e = go (fits p.same_reply answer.1 recorded) refl e
-    where
-      go : (b : Bool) → fits p.same_reply answer.1 recorded ≡ b → (if b then Some answer.0 else None) ≡ Some m → (r : Reply) × Is (Some answer) m r × (fits p.same_reply r recorded ≡ true)
-      go true f g = (answer.1, (let h : answer.0 ≡ m = cc in ap (λ (x : ObjState). Some (x, answer.1)) h), f)
-      go false f g = absurd (cc)
-
   fits_recorded : (r : Reply) (recorded : Option (ℕ × Reply)) → fits p.same_reply r recorded ≡ true → IfSome recorded (λ q. q.1 ≡ r)
   fits_recorded r None e = tt
   fits_recorded r (Some q) e = sym (exact.exact r q.1 e)
@@ -126,7 +106,7 @@ module _ (p : Problem ObjState Op Reply) (exact : IsExact p) where
   stepped : (items : List ℤ) (m : ObjState) (c : ℕ) (x : ProblemCall Op Reply) → slice_get p.calls c ≡ Some x → next p (Stack items) c ≡ Some m → (r : Reply) × Is (stack_step items x.op) m r × IfSome x.returned (λ q. q.1 ≡ r)
   stepped items m c x e step =
       let step' : state_if_fits p.same_reply x.returned (p.after (Stack items) x.process x.op) ≡ Some m = rw e at step in
-      let k = fits_some (p.after (Stack items) x.process x.op) x.returned m step' in
+      let k = fits_some p.same_reply (p.after (Stack items) x.process x.op) x.returned m step' in
       (k.0, sym (exact.after_is (Stack items) x.process x.op) ∙ k.1, fits_recorded k.0 x.returned k.2)
 
   -- the call may find the stack empty

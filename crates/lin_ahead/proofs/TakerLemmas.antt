@@ -29,7 +29,8 @@ use Rattle.lin_ahead.specs.Takers.{queue_of, AreApart, is_left, counted, is_left
 use Rattle.lin_ahead.specs.ToldAhead.{takers_from, IsTaker}
 use Rattle.lin_ahead.specs.Late.{ReturnsOutside}
 use Rattle.lin_ahead.proofs.AheadLemmas.{every_taker}
-use Rattle.lin_ahead.proofs.QueueLemmas.{Item_early, Item_late, Item_either, item_split, QueueStep, queue_leaves, queue_answered, queue_empty, stepped, has_call, only_dequeues, Is, fits_recorded, puts_by, puts, chain, put_place, put_there, legal_split, replied, took_completed}
+use Rattle.lin_ahead.proofs.AnswerLemmas.{Is}
+use Rattle.lin_ahead.proofs.QueueLemmas.{Item_early, Item_late, Item_either, item_split, QueueStep, queue_leaves, queue_answered, queue_empty, stepped, has_call, only_dequeues, fits_recorded, puts_by, puts, chain, put_place, put_there, legal_split, replied, took_completed}
 use Rattle.lin_ahead.proofs.PlaceLemmas.{not_in_front}
 
 -- ---- lists

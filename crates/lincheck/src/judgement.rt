@@ -12,8 +12,8 @@ ghost use Rattle.lincheck.specs.Stored.{IsStoredTold, judged_of};
 ghost use Rattle.lincheck.specs.Verdict.{AreLeastOf, IsVerdict};
 
 use crate::object_search::verdict_by_searches;
-use crate::order_ahead::order_ahead;
 use crate::verdict::{Checked, Verdict};
+use crate::verdict_ahead::verdict_ahead;
 use lin_history::{History, Order, Problem, join, place};
 use lin_object::AnyObject;
 use lin_workers::{CheckFault, Gate, ObjectVerdict, Options};
@@ -23,7 +23,7 @@ use std::thread;
 use std::thread::Threads;
 
 // The verdict on the object of this index, where the part of the history on it is known; and how many configurations were
-// stored: none by a search by key or a first search, which go before unless workers are wanted at once.
+// stored: none where the verdict is told ahead, which is tried unless workers are wanted at once.
 fn judge_object<R: AllocGlobal + Threads + Sync, G: Gate>(
     rt: &R,
     history: &History,
@@ -41,8 +41,8 @@ fn judge_object<R: AllocGlobal + Threads + Sync, G: Gate>(
         (IsNumberStored (part_of history.now object))) }
 {
     if !gate.wants_workers() {
-        if let Some(order) = order_ahead(rt.alloc(), problem, options.limit())? {
-            return Ok((ObjectVerdict::Yes(order), Some(0)));
+        if let Some(told) = verdict_ahead(rt.alloc(), problem, options.limit())? {
+            return Ok((told, Some(0)));
         }
     }
     let (verdict, stored) = verdict_by_searches(rt, problem, options, gate)?;
@@ -132,7 +132,8 @@ fn options_here<R: Threads, G: Gate>(rt: &R, options: &Options, gate: &G) -> Opt
 /// Checks a history. Its objects are searched in the order of declaration; the first that has no linearization, or that is not
 /// decided within the limit, ends the check. Unless the gate wants workers, a map or a set is searched by key first
 /// (`search_by_key`), and of an object of which something is known ahead a first search is made (`search_first`); where that
-/// finds the order, nothing is stored for the object. Then the calling thread searches by itself. Where its search stalls, it
+/// finds the order, nothing is stored for the object. So it is where a key of a map or a set of a thousand calls or more has no
+/// linearization, and searches of prefixes find the longest run. Then the calling thread searches by itself. Where its search stalls, it
 /// is tried whether searches of prefixes tell the answer (`search_by_prefixes`); where they do not, workers share the search, or
 /// the calling thread goes on where there is to be one worker. No more workers are started than the machine has cores for the
 /// program, however many the options say, unless the gate wants workers.

@@ -1,6 +1,7 @@
 //! Reads a recorded history as JSON Lines, tells whether it is linearizable, and writes the answer.
 #![tactic(auto)]
 
+mod by_prefixes;
 mod device;
 mod explanation_lines;
 mod fault;
@@ -8,11 +9,11 @@ mod help;
 mod judgement;
 mod lines;
 mod object_search;
-mod order_ahead;
 mod pipeline;
 mod request;
 mod status;
 mod verdict;
+mod verdict_ahead;
 
 pub use device::{DeviceFault, Sink, Source, StdSink, StdSource};
 pub use fault::RunFault;

@@ -4,29 +4,16 @@ ghost use Rattle.std.specs.Prelude.{◌≡◌, IfOk, IfSome};
 ghost use Rattle.lin_ahead.specs.AnyProblem.{any_problem};
 ghost use Rattle.lin_workers.specs.Verdict.{IsNumberStored, IsObjectVerdict};
 
+use crate::by_prefixes::verdict_by_prefixes;
 use lin_history::Problem;
 use lin_object::AnyObject;
-use lin_prefixes::{WholeAnswer, search_by_prefixes};
 use lin_search::OwnMemo;
 use lin_workers::{Gate, ObjectVerdict, Options, Patience, check_alone, check_over_table, number_stored};
 use std::alloc::{AllocError, AllocGlobal, Global};
 use std::thread::Threads;
 
-// The most lifts of all searches of prefixes together, for each call of the object.
-const LIFTS_BY_PREFIXES: u64 = 1_000;
-
-// How many lifts the searches of prefixes may make of so many calls: no more than the limit, where there is one.
-fn lifts_by_prefixes(calls: usize, limit: Option<u64>) -> u64 {
-    let lifts = LIFTS_BY_PREFIXES.saturating_mul(calls as u64);
-    match limit {
-        Some(most) => most.min(lifts),
-        None => lifts,
-    }
-}
-
-// The verdict by searches of prefixes, where they tell it within so many lifts; and how many configurations the memo has, which
-// they leave as it is.
-fn verdict_by_prefixes(
+// The verdict by searches of prefixes, where they tell it; and how many configurations the memo has, which they leave as it is.
+fn told_by_prefixes(
     alloc: Global,
     problem: &Problem<AnyObject>,
     memo: &OwnMemo<'_, AnyObject>,
@@ -41,10 +28,8 @@ fn verdict_by_prefixes(
     let Some(stored) = number_stored(memo) else {
         return Ok(None);
     };
-    let lifts = lifts_by_prefixes(problem.len(), limit);
-    match search_by_prefixes(alloc, problem, lifts)? {
-        Some(WholeAnswer::Found(order)) => Ok(Some((ObjectVerdict::Yes(order), stored))),
-        Some(WholeAnswer::Refuted(run)) => Ok(Some((ObjectVerdict::No(run), stored))),
+    match verdict_by_prefixes(alloc, problem, limit)? {
+        Some(verdict) => Ok(Some((verdict, stored))),
         None => Ok(None),
     }
 }
@@ -69,7 +54,7 @@ fn verdict_alone(
     if soon.is_some() {
         return Ok(soon);
     }
-    let told = verdict_by_prefixes(alloc, problem, memo, limit)?;
+    let told = told_by_prefixes(alloc, problem, memo, limit)?;
     if told.is_some() || options.workers() > 1 {
         return Ok(told);
     }

@@ -1,0 +1,39 @@
+//! The verdict on an object by searches of prefixes.
+
+ghost use Rattle.std.specs.Prelude.{IfOk, IfSome};
+ghost use Rattle.lin_ahead.specs.AnyProblem.{any_problem};
+ghost use Rattle.lin_workers.specs.Verdict.{IsObjectVerdict};
+
+use lin_history::Problem;
+use lin_object::AnyObject;
+use lin_prefixes::{WholeAnswer, search_by_prefixes};
+use lin_workers::ObjectVerdict;
+use std::alloc::{AllocError, Global};
+
+// The most lifts of all searches of prefixes together, for each call of the object.
+const LIFTS_BY_PREFIXES: u64 = 1_000;
+
+// How many lifts the searches of prefixes may make of so many calls: no more than the limit, where there is one.
+fn lifts_by_prefixes(calls: usize, limit: Option<u64>) -> u64 {
+    let lifts = LIFTS_BY_PREFIXES.saturating_mul(calls as u64);
+    match limit {
+        Some(most) => most.min(lifts),
+        None => lifts,
+    }
+}
+
+/// The verdict by searches of prefixes, where they tell it within their lifts. `AllocError` where memory was refused.
+pub(crate) fn verdict_by_prefixes(
+    alloc: Global,
+    problem: &Problem<AnyObject>,
+    limit: Option<u64>,
+) -> Result<Option<ObjectVerdict>, AllocError>
+    ensures { IfOk result (λ told. IfSome told (IsObjectVerdict (any_problem problem.now) limit)) }
+{
+    let lifts = lifts_by_prefixes(problem.len(), limit);
+    match search_by_prefixes(alloc, problem, lifts)? {
+        Some(WholeAnswer::Found(order)) => Ok(Some(ObjectVerdict::Yes(order))),
+        Some(WholeAnswer::Refuted(run)) => Ok(Some(ObjectVerdict::No(run))),
+        None => Ok(None),
+    }
+}
