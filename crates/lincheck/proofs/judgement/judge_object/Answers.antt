@@ -11,7 +11,7 @@ returns-in-Some-clause-stored g c = nothing_stored _
 pub returns-in-Some-clause-verdict : goal.returns-in-Some-clause-verdict
 returns-in-Some-clause-verdict g c =
     let part : IsPart c.args.history.now c.args.object c.args.problem.now.calls c.args.problem.now.start = record { calls_are = c.requires.calls; start_is = c.requires.start } in
-    at_part _ _ _ _ part (λ q. IsObjectVerdict q c.args.options.now.limit c.in-Some.told) (subst (λ l. IsObjectVerdict (any_problem c.args.problem.now) l c.in-Some.told) c.limit.ensures.limit c.in-Some.ensures)
+    at_part _ _ _ _ part (λ q. IsObjectVerdict q c.args.options.now.limit c.in-Some.told) (subst (λ l. IsObjectVerdict (any_problem c.args.problem.now) l c.in-Some.told) c.limit.ensures.limit (rw c.in-Some.is at c.in_ok-told.ensures))
 
 pub returns-clause-stored : goal.returns-clause-stored
 returns-clause-stored g c =
