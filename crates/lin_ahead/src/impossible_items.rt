@@ -141,10 +141,7 @@ fn first_early(
 
 /// Whether some call returned with an item that no call had put there by then, of a queue or a stack that starts empty: `true`
 /// only where there is no linearization. `AllocError` where memory was refused. The time is O(n) for n calls.
-pub fn some_came_too_early(
-    alloc: Global,
-    problem: &Problem<AnyObject>,
-) -> Result<bool, AllocError>
+pub fn some_came_too_early(alloc: Global, problem: &Problem<AnyObject>) -> Result<bool, AllocError>
     ensures { IfOk result (λ found. IsTrue found
         → (l : List ℕ) → IsLinearization (any_problem problem.now) l → ⊥) }
 {

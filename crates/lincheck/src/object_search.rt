@@ -8,7 +8,9 @@ use crate::by_prefixes::verdict_by_prefixes;
 use lin_history::Problem;
 use lin_object::AnyObject;
 use lin_search::OwnMemo;
-use lin_workers::{Gate, ObjectVerdict, Options, Patience, check_alone, check_over_table, number_stored};
+use lin_workers::{
+    Gate, ObjectVerdict, Options, Patience, check_alone, check_over_table, number_stored,
+};
 use std::alloc::{AllocError, AllocGlobal, Global};
 use std::thread::Threads;
 
