@@ -2,3 +2,4 @@ mod AnswerLemmas
 mod BoolLemmas
 mod NumberLemmas
 mod PlaceLemmas
+mod StepTableLemmas

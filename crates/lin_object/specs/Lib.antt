@@ -7,5 +7,6 @@ pub mod Laws
 pub mod Names
 pub mod Runs
 pub mod Kinds
+pub mod StepTables
 pub mod PrintedForms
 pub mod StepLemmas

@@ -1,5 +1,5 @@
 -- What the answer of a step tells.
-use Rattle.std.specs.Prelude.{◌≡◌, Bool, true, Option, Some, None, if◌then◌else◌}
+use Rattle.std.specs.Prelude.{◌≡◌, ℕ, Bool, true, Option, Some, None, if◌then◌else◌}
 
 -- Two answers of a step are alike: both have none, or both have a state and a reply, equal by the types' own `Eq`.
 abbrev pub SameStep : {S R : Type 0} → (S → S → Bool) → (R → R → Bool) → Option (S × R) → Option (S × R) → Type 0
@@ -17,3 +17,18 @@ step_reply (Some answer) = Some answer.1
 abbrev pub state_with : {S R : Type 0} → (R → R → Bool) → R → Option (S × R) → Option S
 state_with same reply None = None
 state_with same reply (Some answer) = if same answer.1 reply then Some answer.0 else None
+
+-- The reply is the recorded one, where one is recorded: by its return's number and the reply.
+abbrev pub fits : {R : Type 0} → (R → R → Bool) → R → Option (ℕ × R) → Bool
+fits same reply None = true
+fits same reply (Some recorded) = same reply recorded.1
+
+-- A step of this operation whose reply is the recorded one, where one is recorded, is that of any process (this project's own).
+abbrev pub IgnoresProcess : {S O R : Type 0} → (R → R → Bool) → (S → ℕ → O → Option (S × R)) → O → Option (ℕ × R) → Type 0
+IgnoresProcess {S} {O} {R} same_reply after op recorded =
+    (s : S) (a b : ℕ) (answer : S × R) → after s a op ≡ Some answer → fits same_reply answer.1 recorded ≡ true → after s b op ≡ Some answer
+
+-- A step of this operation whose reply is the recorded one, where one is recorded, leaves the state as it is (this project's own).
+abbrev pub ChangesNothing : {S O R : Type 0} → (S → S → Bool) → (R → R → Bool) → (S → ℕ → O → Option (S × R)) → O → Option (ℕ × R) → Type 0
+ChangesNothing {S} {O} {R} same_state same_reply after op recorded =
+    (s : S) (process : ℕ) (answer : S × R) → after s process op ≡ Some answer → fits same_reply answer.1 recorded ≡ true → same_state s answer.0 ≡ true

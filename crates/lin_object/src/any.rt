@@ -8,6 +8,7 @@ use crate::object::SeqObject;
 use crate::op::Op;
 use crate::reply::Reply;
 use crate::state::ObjState;
+use crate::step_tables::{changes_nothing, looks_at_process};
 use std::alloc::{AllocError, Global};
 
 // What the step replies. It needs no memory: no state with items is made.
@@ -48,7 +49,12 @@ fn copied(alloc: Global, state: &ObjState) -> Result<ObjState, AllocError>
 pub struct AnyObject;
 
 impl SeqObject for AnyObject {
+    ghost use Rattle.std.specs.Prelude.{◌≡◌, not, IsTrue};
     ghost use Rattle.lin_object.specs.Kinds.{after as step_of, holds_items};
+    ghost use Rattle.lin_object.specs.contracts.reply.ReplyPartialEq.TheImpl.{eq-value as reply_eq};
+    ghost use Rattle.lin_object.specs.contracts.state.ObjStatePartialEq.TheImpl.{eq-value as state_eq};
+    ghost use Rattle.lin_object.specs.StepAnswers.{IgnoresProcess, ChangesNothing};
+    ghost use Rattle.lin_object.specs.StepTables.{looks_at_process, changes_nothing};
 
     type State = ObjState;
 
@@ -98,6 +104,21 @@ impl SeqObject for AnyObject {
 
     fn copy_state(&self, alloc: Global, state: &ObjState) -> Result<ObjState, AllocError> {
         copied(alloc, state)
+    }
+
+    fn ignores_process(&self, op: &Op, returned: &Option<(u32, Reply)>) -> bool
+        ensures law { IsTrue result → IgnoresProcess reply_eq.it step_of op.now returned.now }
+        ensures exact { result ≡ not (looks_at_process op.now returned.now) }
+    {
+        !looks_at_process(op, returned)
+    }
+
+    fn changes_nothing(&self, op: &Op, returned: &Option<(u32, Reply)>) -> bool
+        ensures law { IsTrue result → ChangesNothing state_eq.it reply_eq.it step_of op.now
+            returned.now }
+        ensures exact { result ≡ changes_nothing op.now returned.now }
+    {
+        changes_nothing(op, returned)
     }
 
     ghost use Rattle.lin_object.specs.StepLemmas.{alike};

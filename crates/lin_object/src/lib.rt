@@ -4,11 +4,12 @@
 //! - `any`: `AnyObject`, the object that the checker judges histories by. It lists the kinds.
 //! - `kinds`: a file for each kind, with its operations by name and what each of them does.
 //! - `kind`, `op`, `reply`, `state`: what declarations, calls and returns are made of.
+//! - `step_tables`: which operations look at the process, and which calls change nothing.
 //! - `items`: the items that queues, stacks and sets hold.
 //! - `pairs`: the keys and values that maps hold.
 //!
 //! `specs/Kinds` has a file for each kind too, with its table and the law of its runs, and
-//! `proofs/kinds` shows that the table keeps the law. One kind more is one file in each of the
+//! `proofs/kinds` shows that the table keeps the law. Another kind is one file in each of the
 //! three, and a line in each list of the kinds.
 #![tactic(auto)]
 
@@ -21,6 +22,7 @@ mod op;
 mod pairs;
 mod reply;
 mod state;
+mod step_tables;
 
 pub use any::AnyObject;
 pub use items::Items;

@@ -1,6 +1,6 @@
 //! What a sequential object is: the trait that the search is generic over, with its laws.
-ghost use Rattle.std.specs.Prelude.{◌≡◌, ℕ, Bool, true, Option, IfOk, IfErr};
-ghost use Rattle.lin_object.specs.StepAnswers.{SameStep, state_with};
+ghost use Rattle.std.specs.Prelude.{◌≡◌, ℕ, Bool, true, Option, IfOk, IfErr, IsTrue};
+ghost use Rattle.lin_object.specs.StepAnswers.{SameStep, state_with, IgnoresProcess, ChangesNothing};
 ghost use Rattle.lin_object.specs.Laws.{IsLawful};
 
 use std::alloc::{AllocError, Global};
@@ -42,7 +42,7 @@ pub trait SeqObject: Eq + Drop {
     /// The next state, where the object has a step whose reply equals this one; `None` where it has none.
     /// `AllocError` where memory for the next state was refused.
     ///
-    /// An object that can tell the reply before it makes the next state does better with a body of its
+    /// An object that knows the reply before it makes the next state does better with a body of its
     /// own: most calls that a search tries have another reply than the recorded one.
     fn step_with(
         &self,
@@ -70,6 +70,30 @@ pub trait SeqObject: Eq + Drop {
     fn copy_state(&self, alloc: Global, state: &Self::State) -> Result<Self::State, AllocError>
         ensures copy { IfOk result (λ copy. Self.State.eq copy state.now ≡ true) }
         ensures memory { IfErr result (λ _. may_allocate state.now ≡ true) };
+
+    /// Whether a step of the operation is that of any process: each step of it, or where a call with it has returned,
+    /// each step with the reply that was returned (after the number of the return).
+    ///
+    /// `false` where that is not known, as it is where an object has no body of its own. A search leaves identical calls
+    /// untried where it is `true`.
+    fn ignores_process(&self, op: &Self::Op, returned: &Option<(u32, Self::Reply)>) -> bool
+        ensures { IsTrue result → IgnoresProcess Self.Reply.eq (after self.now) op.now
+            returned.now }
+    {
+        false
+    }
+
+    /// Whether a step of the operation leaves an equal state: each step of it, or where a call with it has returned, each
+    /// step with the reply that was returned (after the number of the return).
+    ///
+    /// `false` where that is not known, as it is where an object has no body of its own. A search tries no further call
+    /// after such a one where it is `true`.
+    fn changes_nothing(&self, op: &Self::Op, returned: &Option<(u32, Self::Reply)>) -> bool
+        ensures { IsTrue result → ChangesNothing Self.State.eq Self.Reply.eq (after self.now)
+            op.now returned.now }
+    {
+        false
+    }
 
     // Equal objects step alike on equal states and equal operations.
     ghost steps_alike: { (x y : Self) (s t : Self.State) (process : ℕ) (a b : Self.Op) →

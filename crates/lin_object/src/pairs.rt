@@ -73,7 +73,7 @@ fn first_not_lower(pairs: &[Pair], key: i64) -> Option<usize>
     pairs.iter().position(|pair| !(pair.key < key))
 }
 
-// Where the key stands, or goes, among keys in increasing order: at the first that is not lower.
+// Where the key is, or goes, among keys in increasing order: at the first that is not lower.
 fn place_of_key(pairs: &[Pair], key: i64) -> usize
     ensures place { result ≡ place_of_key key pairs.now }
     ensures within { result ≤ length pairs.now }

@@ -8,7 +8,7 @@ use std::fmt;
 /// What a call answers.
 #[derive(Clone, Copy, PartialEq, Eq, Hash, Debug)]
 pub enum Reply {
-    /// Done: the operation has nothing to tell.
+    /// Done: the operation has nothing to return.
     Okay,
     /// A value.
     Int(i64),

@@ -1,12 +1,8 @@
 -- Legal lists of calls (Herlihy and Wing 1990): each call in its turn has a step whose reply is the recorded one.
 use Rattle.std.specs.Prelude.{◌≡◌, ℕ, Bool, true, Option, Some, None, List, [], ◌∷◌, slice_get, if◌then◌else◌}
+pub use Rattle.lin_object.specs.StepAnswers.{fits}
 use Rattle.lin_history.specs.declared.problems.problem.ProblemCall.{ProblemCall}
 use Rattle.lin_history.specs.Problems.Problem.{Problem}
-
--- The reply is the recorded one, where one is recorded.
-abbrev pub fits : {Reply : Type 0} → (Reply → Reply → Bool) → Reply → Option (ℕ × Reply) → Bool
-fits same reply None = true
-fits same reply (Some recorded) = same reply recorded.1
 
 -- The state of a step's answer, where its reply fits.
 abbrev pub state_if_fits : {State Reply : Type 0} → (Reply → Reply → Bool) → Option (ℕ × Reply) → Option (State × Reply) → Option State
