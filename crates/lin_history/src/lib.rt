@@ -1,9 +1,9 @@
 //! Histories of concurrent objects, the part of a history on one object, and what makes an order of
 //! its calls a linearization (Herlihy and Wing 1990).
 //!
-//! Four rooms: `problems` has the part of a history on one object, which a search is given; `recorder`
+//! Four modules: `problems` has the part of a history on one object, which a search is given; `recorder`
 //! builds histories from their events; `locality` joins one order for each object in an order of the
-//! whole; `verifier` tells whether an order of the whole is a linearization.
+//! whole; `verifier` shows whether an order of the whole is a linearization.
 #![tactic(auto)]
 
 mod limits;

@@ -1,4 +1,4 @@
-//! The limits on a history. The definitions cite these constants; a limit stands nowhere else.
+//! The limits on a history. The definitions cite these constants; a limit is nowhere else.
 
 /// The most objects of a history.
 pub const MAX_OBJECTS: usize = 1024;

@@ -26,7 +26,7 @@ fn is_new(flags: &[bool], call: usize) -> bool
 }
 
 // A flag for each call of the history, set for those of the list; `None` where one of the list is no call of the history,
-// or stands there twice.
+// or is there twice.
 fn flags_of(
     alloc: Global,
     history: &History,

@@ -88,7 +88,7 @@ fn without_points(alloc: Global, pointed: &[Pointed]) -> Result<Vec<Placed>, All
 
 /// One order for each object, joined in one order of the whole history: a linearization of the history, since each is one
 /// of its object (locality: Herlihy and Wing 1990). The point of a call is the greatest number of a call event among the
-/// calls up to and with it in its object's order; the calls stand by their points, and those of one point, which are of
+/// calls up to and with it in its object's order; the calls are in the order of their points, and those of one point, which are of
 /// one object, in the object's own order.
 ///
 /// Conditions: there is one order for each object, in the order of declaration, and each is a linearization of its

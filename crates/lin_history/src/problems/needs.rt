@@ -4,8 +4,8 @@ ghost use Rattle.std.specs.Prelude.{◌≡◌};
 
 use std::marker::Model;
 
-/// Two numbers for each call of a problem, by which one call is known to need another: to stand behind it wherever it
-/// stands in a linearization (this project's own). A call needs every call whose number `by` is less than its own
+/// Two numbers for each call of a problem, by which one call is known to need another: to come after it wherever it
+/// is in a linearization (this project's own). A call needs every call whose number `by` is less than its own
 /// number `from`, where the rows are right for the problem. A number is that of an event, or beyond all events.
 #[derive(Debug, Drop)]
 pub struct NeedRows {

@@ -223,7 +223,7 @@ fn find_pending(
     Ok(call)
 }
 
-// Whether there is no room for one call more on the object.
+// Whether there is no room for another call on the object.
 fn is_full(calls: &[CallInfo], counts: &[usize], object: usize) -> bool
     requires within { object < length counts.now }
     requires counted { AreCounts counts.now calls.now }

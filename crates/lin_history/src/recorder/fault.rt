@@ -26,10 +26,10 @@ pub enum BuildFault {
     /// The pending call of the process is on another object.
     #[error("process {0} has its pending call on another object")]
     OtherObject(u32),
-    /// There is no room for one object more.
+    /// There is no room for another object.
     #[error("too many objects")]
     TooManyObjects,
-    /// There is no room for one call more.
+    /// There is no room for another call.
     #[error("too many calls")]
     TooManyCalls,
     /// Memory was refused.
