@@ -1,6 +1,7 @@
 -- The path of a search from its root to where it is: what its frames say, as one is put on or taken off at the end, and its steps.
 use Rattle.std.proofs.Common.{ControlFlow, Continue, Break, Result, Ok, Err, ◌≡◌, ℕ, zero, suc, ◌+◌, ◌-◌, ◌*◌, ◌<◌, ◌≤◌, Bool, true, Option, Some, None, List, [], ◌∷◌, ◌++◌, length, ◌⊎◌, refl, sym, ◌∙◌, ap, subst, arith, append-nil, map, false, inl, inr, ext_get_or}
 use Rattle.std.specs.Prelude.{IfOk, IfSome, IsSomeAnd}
+use Rattle.std.proofs.lemmas.Bool.{cases_lt}
 use Rattle.std.proofs.lemmas.Nat.{mul-le}
 use Rattle.std.proofs.lemmas.List.{length-set, length-replicate}
 use Rattle.lin_history.specs.Problems.Continuations.{has}
@@ -24,6 +25,7 @@ use Rattle.lin_search.specs.Progress.{IsContinuationBelow, IsSearchedTo, IsLevel
 use Rattle.lin_search.specs.Answer.{IsAnswer, IsDecision, IsRefutation}
 use Rattle.lin_search.specs.declared.outcome.Outcome.{Outcome}
 use Rattle.lin_search.specs.declared.outcome.Outcome.TheVariants.{Found, Refuted, Undecided, Stopped}
+use Rattle.lin_search.specs.NeedlessCalls.{AddsNothing, EndsTheList}
 use Rattle.lin_search.specs.AlikeLemmas.{AreAlike}
 use Rattle.lin_search.specs.FirstCallLemmas.{next_within}
 use Rattle.lin_search.proofs.ProgressLemmas.{free_less, searched_start, searched_skip, searched_to, searched_all, searched_after, found_least, least_none, room}
@@ -492,6 +494,49 @@ module _ {State Op Reply : Type 0} {p : Problem State Op Reply} where
     less_on p (levels root.lifted fs) here.lifted (Some c) c candidate refl k.at.minimal least,
   )
 
+  -- the candidate adds nothing to what the calls before it tell
+  pub step_past : (root : Configuration State) (limit : Option ℕ) (lifted : List ℕ) (fs : List (Frame State)) (left : Option ℕ) (here : Configuration State) (longest new : Longest) (c : ℕ) (candidate : Option ℕ) → new ≡ longest → AddsNothing p here.lifted here.state c → IsLeastMinimal p here.lifted (c + 1) candidate → IsProgress p root limit lifted fs left here longest (Some c) → GoesOn p root limit lifted fs left here new candidate (work (length p.calls) root.lifted fs here.lifted c)
+  step_past root limit lifted fs left here longest new c candidate same past least k = rw same (
+    record {
+      at = record {
+        path = k.at.path;
+        reachable = k.at.reachable;
+        searched = on_to here longest (c + 1) candidate k.at.reachable.flags (let h = k.at.minimal.within in omega (arith, h)) (past longest.more longest.first k.at.searched) least;
+        minimal = minimal_of p here.lifted (c + 1) candidate least;
+      };
+      calls = k.calls;
+      lifts = left_map (AreLifts p (levels root.lifted fs) here.lifted here.state c) (AreLifts p (levels root.lifted fs) here.lifted here.state (bound p candidate)) limit left (λ n. lifts_to p (levels root.lifted fs) here.lifted here.state c (bound p candidate) n (let on = way_on here.lifted c candidate k.at.minimal least in omega (arith, on))) k.lifts;
+    },
+    less_on p (levels root.lifted fs) here.lifted (Some c) c candidate refl k.at.minimal least,
+  )
+
+  -- the search goes on at the next call, or at none where the one before it changes nothing
+  pub on_unless_ended : (root : Configuration State) (limit : Option ℕ) (lifted : List ℕ) (fs : List (Frame State)) (left : Option ℕ) (here : Configuration State) (c : ℕ) (t : State) (before : ℕ) (was now : Position) → IsNext p here.lifted here.state c t → IsLeastMinimal p here.lifted (c + 1) was.candidate → (now ≡ was) ⊎ ((now ≡ record { longest = was.longest; candidate = None }) × EndsTheList p c) → GoesOn p root limit lifted fs left here was.longest was.candidate before → GoesOn p root limit lifted fs left here now.longest now.candidate before
+  on_unless_ended root limit lifted fs left here c t before was now next least (inl e) k = rw e k
+  on_unless_ended root limit lifted fs left here c t before was now next least (inr q) k =
+      let q1 = k.0 in
+      let up = way_on here.lifted c was.candidate (next_minimal p here.lifted here.state c t next) least in
+      let within = bound_within p here.lifted (c + 1) was.candidate least in
+      rw q.0 (
+        record {
+          at = record {
+            path = q1.at.path;
+            reachable = q1.at.reachable;
+            searched = q.1 here.lifted here.state t (bound p was.candidate) was.longest.more was.longest.first next (omega (arith, up)) within q1.at.searched;
+            minimal = tt;
+          };
+          calls = q1.calls;
+          lifts = left_map (AreLifts p (levels root.lifted fs) here.lifted here.state (bound p was.candidate)) (AreLifts p (levels root.lifted fs) here.lifted here.state (length p.calls)) limit left (λ n. lifts_to p (levels root.lifted fs) here.lifted here.state (bound p was.candidate) (length p.calls) n within) q1.lifts;
+        },
+        ended (bound p was.candidate) within k.1,
+      )
+    where
+      ended : (i : ℕ) → i ≤ length p.calls → work_below (length p.calls) (levels root.lifted fs) here.lifted i < before → work_below (length p.calls) (levels root.lifted fs) here.lifted (length p.calls) < before
+      ended i within less = elim (cases_lt i (length p.calls)) [
+        | inl h ↦ (let w = work_on (length p.calls) (levels root.lifted fs) here.lifted i (length p.calls) h (omega arith) in omega (arith, w, less))
+        | inr h ↦ (let e : i ≡ length p.calls = omega (arith, h, within) in rw e at less)
+      ]
+
   pub step_hit : (root : Configuration State) (limit : Option ℕ) (lifted unlifted : List ℕ) (fs : List (Frame State)) (left after : Option ℕ) (from here now : Configuration State) (f : Frame State) (deep new : Longest) (candidate : Option ℕ) → IsTaken left after → (k : IsLifted p root limit lifted fs left from f here) → unlifted ≡ k.before → now ≡ from → IsRefutedWith p here.lifted here.state deep → (f.longest.more < deep.more + 1 → new ≡ record { more = deep.more + 1; first = Some f.call }) → (deep.more + 1 ≤ f.longest.more → new ≡ f.longest) → IsLeastMinimal p now.lifted (f.call + 1) candidate → GoesOn p root limit unlifted fs after now new candidate (work (length p.calls) root.lifted fs from.lifted f.call)
   step_hit root limit lifted unlifted fs left after from here now f deep new candidate taken k back same refuted longer not_longer least =
       let q = k.progress in
@@ -584,6 +629,12 @@ module _ {State Op Reply : Type 0} {p : Problem State Op Reply} where
     -- the set that is left when the call is taken out again
     pub pop_set : (unlifted : List ℕ) (set : List Bool) → ((b : List ℕ) → lifted ≡ b ++ f.call ∷ [] → unlifted ≡ b) → lifted_set p unlifted ≡ set → with_calls root.lifted (calls_of fs) ≡ set
     pop_set unlifted set without_last is = sym set_before ∙ ap (λ (l : List ℕ). lifted_set p l) (sym (without_last unlifted_calls last_before)) ∙ is
+
+    -- the last frame's call leads here from where it was lifted
+    pub pop_next : (now : Configuration State) → with_calls root.lifted (calls_of fs) ≡ now.lifted → f.state ≡ now.state → IsNext p now.lifted now.state f.call here.state
+    pop_next now set state =
+        let at : IsAt p root (levels root.lifted fs ++ level_of now f ∷ []) here longest None = rw (levels_end root.lifted fs f now set state) at ((rw split at k).at) in
+        (leads_pop p (levels root.lifted fs) (level_of now f) root.lifted root.state here.lifted here.state at.path).1.next
 
     pub step_back : (unlifted : List ℕ) (now : Configuration State) (new : Longest) (candidate : Option ℕ) → ((b : List ℕ) → lifted ≡ b ++ f.call ∷ [] → unlifted ≡ b) → lifted_set p unlifted ≡ now.lifted → f.state ≡ now.state → (f.longest.more < longest.more + 1 → new ≡ record { more = longest.more + 1; first = Some f.call }) → (longest.more + 1 ≤ f.longest.more → new ≡ f.longest) → IsLeastMinimal p now.lifted (f.call + 1) candidate → GoesOn p root limit unlifted fs left now new candidate (work (length p.calls) root.lifted all here.lifted (length p.calls))
     step_back unlifted now new candidate without_last set state longer not_longer least =

@@ -23,3 +23,8 @@ pub mod ReachableLemmas
 pub mod CountLemmas
 pub mod Path
 pub mod Progress
+pub mod NeedlessCalls
+pub mod ExchangeLemmas
+pub mod AsWellLemmas
+pub mod FrontLemmas
+pub mod NeedlessLemmas

@@ -165,7 +165,7 @@ fn starts_full(words: &[u64]) -> bool
     !words.is_empty() && words[0] == u64::MAX
 }
 
-// Takes the leading full words out, and tells how many they were. There is seldom one, so that is asked first.
+// Takes the leading full words out, and returns how many they were. There is seldom one, so that is asked first.
 fn drop_full(words: &mut SmallVec<u64, 2>) -> usize
     ensures within { result ≤ length words.old.items }
     ensures rest { words.new.items ≡ drop result words.old.items }

@@ -1,24 +1,26 @@
 //! The depth-first search over a memo (Wing and Gong 1993; Lowe 2017), step by step.
 //!
 //! The parts of a step are inlined always, as those of a path are.
-ghost use Rattle.std.specs.Prelude.{◌≡◌, ℕ, ◌++◌, ◌∷◌, Bool, List, Option, Some, None, [], length, true, IfOk, IfSome, IfNone, IsTrue};
+ghost use Rattle.std.specs.Prelude.{◌≡◌, ℕ, ◌<◌, ◌++◌, ◌∷◌, ◌⊎◌, Bool, List, Option, Some, None, [], length, true, false, IfOk, IfSome, IfNone, IsTrue};
 ghost use Rattle.lin_history.specs.Problems.Problem.{problem_of};
 ghost use Rattle.lin_history.specs.Problems.Configurations.{IsReachable};
 ghost use Rattle.lin_search.specs.Answer.{IsAnswer, IsDecision, IsRefutation};
 ghost use Rattle.lin_search.specs.CallSet.{with_call, lifted_set};
 ghost use Rattle.lin_search.specs.Memo.{IsClosed, IsKept};
 ghost use Rattle.lin_search.specs.Configuration.{Configuration};
+ghost use Rattle.lin_search.specs.NeedlessCalls.{AddsNothing, EndsTheList};
 ghost use Rattle.lin_search.specs.NextCall.{IsNext, HasEveryCompleted};
 ghost use Rattle.lin_search.specs.Refutation.{IsRefutedWith};
 ghost use Rattle.lin_search.specs.Path.{Frame as PathFrame, calls_of};
 ghost use Rattle.lin_search.specs.declared.longest.Longest.{Longest};
 ghost use Rattle.lin_search.specs.declared.outcome.Outcome.TheVariants.{Found, Refuted, Undecided};
 ghost use Rattle.std.proofs.Common.{Break};
-ghost use Rattle.lin_search.specs.Progress.{IsProgress, IsStep, IsLifted, HoldsSearched, HoldsStep, IsTaken, IsRefusal, bound, work};
+ghost use Rattle.lin_search.specs.Progress.{GoesOn, IsProgress, IsStep, IsLifted, HoldsSearched, HoldsStep, IsTaken, IsRefusal, bound, work};
 
 use crate::config::Config;
 use crate::longest::Longest;
 use crate::memo::{Memo, Noted};
+use crate::needless_calls::{ends_the_list, repeated_calls, repeats};
 use crate::outcome::Outcome;
 use crate::path::{Frame, Path, Position};
 use crate::stop::Stop;
@@ -36,7 +38,7 @@ pub(crate) struct Ended {
 }
 
 impl Ended {
-    // The same, where this tells whether the memo has one configuration more.
+    // The same, where this shows whether the memo has one configuration more.
     fn with_note(self, is_kept: bool) -> Ended
         ensures outcome { result.outcome ≡ self.outcome }
         ensures whole { IsTrue result.whole → IsTrue self.whole × IsTrue is_kept }
@@ -48,7 +50,7 @@ impl Ended {
     }
 }
 
-/// What the memo tells of a configuration: its longest where it is refuted. `None` where the memo tells nothing: it does
+/// What the memo shows of a configuration: its longest where it is refuted. `None` where the memo says nothing: it does
 /// not have it, was not free, or names another problem. Where `is_for_problem` holds, no problems are compared.
 ///
 /// Condition: where `is_for_problem` holds, the memo names the problem.
@@ -75,7 +77,7 @@ pub fn look_at<O: SeqObject, M: Memo<O>>(
     }
 }
 
-/// Hands the memo a refuted configuration with its longest, and tells what the memo did with it. Where `is_for_problem`
+/// Hands the memo a refuted configuration with its longest, and returns what the memo did with it. Where `is_for_problem`
 /// holds, no problems are compared.
 ///
 /// Conditions: where `is_for_problem` holds, the memo names the problem; the configuration is refuted, and this is its
@@ -143,6 +145,108 @@ fn refusal<S: Stop>(left: &mut Option<u64>, stop: &mut S) -> Option<Outcome>
     }
 }
 
+// So many steps are made at first with each call tried, also where calls may be passed over: the search of a small object
+// notes each configuration that it comes to.
+const STEPS_AT_FIRST: u64 = 10_000;
+
+/// On what terms a search is made.
+#[derive(Clone, Copy)]
+pub(crate) struct Terms {
+    /// Where memory is asked for.
+    pub(crate) alloc: Global,
+    /// Whether the memo names the problem, so that it compares nothing.
+    pub(crate) is_for_problem: bool,
+    /// How many lifts may be made, where there is a limit.
+    pub(crate) limit: Option<u64>,
+    /// Whether the search ends for lack of memory where the memo does not keep what it is handed.
+    pub(crate) needs_all: bool,
+    /// Whether calls that add nothing may be passed over.
+    pub(crate) passes_over: bool,
+}
+
+// A call that is tried, and what the calls before it show.
+#[derive(Clone, Copy, Drop)]
+struct Candidate {
+    call: usize,
+    longest: Longest,
+}
+
+// Whether the call repeats one that is not lifted, as the hint has it.
+#[inline(always)]
+fn is_repeated<O: SeqObject>(path: &Path<'_, O>, call: usize, repeated: &[usize]) -> bool
+    requires { call < length path.now.entries.problem.calls }
+    ensures { IsTrue result → AddsNothing
+        (problem_of O.after O.State.eq O.Reply.eq path.now.entries.problem) path.now.config.lifted
+        path.now.config.state call }
+{
+    let Some(earlier) = repeated.get(call) else {
+        return false;
+    };
+    if *earlier >= call || path.config().has(*earlier) {
+        return false;
+    }
+    repeats(path.problem(), *earlier, call)
+}
+
+// The position after the candidate, where calls are passed over and it adds nothing.
+#[inline(always)]
+fn passed_over<O: SeqObject>(
+    path: &Path<'_, O>,
+    candidate: Candidate,
+    repeated: &[usize],
+    passes_over: bool,
+) -> Option<Position>
+    requires { (root : Configuration O.State) × (limit left : Option ℕ)
+        × IsProgress (problem_of O.after O.State.eq O.Reply.eq path.now.entries.problem) root limit
+        path.now.entries.lifted path.now.frames.items left path.now.config candidate.longest
+        (Some candidate.call) }
+    ensures step { IfSome result (λ position. (root : Configuration O.State)
+        (limit left : Option ℕ)
+        → IsProgress (problem_of O.after O.State.eq O.Reply.eq path.now.entries.problem) root limit
+        path.now.entries.lifted path.now.frames.items left path.now.config candidate.longest
+        (Some candidate.call)
+        → GoesOn (problem_of O.after O.State.eq O.Reply.eq path.now.entries.problem) root limit
+        path.now.entries.lifted path.now.frames.items left path.now.config position.longest
+        position.candidate (work (length path.now.entries.problem.calls) root.lifted
+        path.now.frames.items path.now.config.lifted candidate.call)) }
+    ensures none { passes_over ≡ false → result ≡ None }
+{
+    if !passes_over {
+        return None;
+    }
+    if !is_repeated(path, candidate.call, repeated) {
+        return None;
+    }
+    Some(path.after(candidate.call, candidate.longest))
+}
+
+// The position after the call, which was tried: where calls are passed over and it changes nothing, no other is tried.
+#[inline(always)]
+fn unless_ended<O: SeqObject>(
+    problem: &Problem<O>,
+    call: usize,
+    position: Position,
+    passes_over: bool,
+) -> Position
+    requires { call < length problem.now.calls }
+    ensures same { passes_over ≡ false → result ≡ position }
+    ensures ended { (result ≡ position) ⊎ ((result ≡ record {
+      longest = position.longest;
+      candidate = None;
+    }) × EndsTheList (problem_of O.after O.State.eq O.Reply.eq problem.now) call) }
+{
+    if !passes_over {
+        return position;
+    }
+    if !ends_the_list(problem, call) {
+        return position;
+    }
+    Position {
+        longest: position.longest,
+        candidate: None,
+    }
+}
+
 // Goes on from the configuration that the frame's call, which was lifted last, led to: asks the memo for it, and goes
 // on after the call where the memo has it, or else from there.
 #[inline(always)]
@@ -150,9 +254,9 @@ fn go_on<O: SeqObject, M: Memo<O>>(
     path: &mut Path<'_, O>,
     frame: Frame<O>,
     memo: &mut M,
-    is_for_problem: bool,
+    terms: Terms,
 ) -> Result<ControlFlow<Outcome, Position>, AllocError>
-    requires of { IsTrue is_for_problem → M.is_of memo.old path.old.entries.problem }
+    requires of { IsTrue terms.is_for_problem → M.is_of memo.old path.old.entries.problem }
     requires lifted { (root from : Configuration O.State) × (limit left : Option ℕ)
         × IsLifted (problem_of O.after O.State.eq O.Reply.eq path.old.entries.problem) root limit
         path.old.entries.lifted path.old.frames.items left from frame path.old.config }
@@ -168,7 +272,8 @@ fn go_on<O: SeqObject, M: Memo<O>>(
         path.new.entries.lifted path.new.frames.items after path.new.config (λ told. ⊥)
         (work (length path.old.entries.problem.calls) root.lifted path.old.frames.items from.lifted
         frame.call) step) }
-    ensures holds { IfOk result (λ step. (root from : Configuration O.State) (limit left : Option ℕ)
+    ensures holds { IfOk result (λ step. terms.passes_over ≡ false
+        → (root from : Configuration O.State) (limit left : Option ℕ)
         → IsLifted (problem_of O.after O.State.eq O.Reply.eq path.old.entries.problem) root limit
         path.old.entries.lifted path.old.frames.items left from frame path.old.config
         → HoldsSearched (problem_of O.after O.State.eq O.Reply.eq path.old.entries.problem)
@@ -177,10 +282,14 @@ fn go_on<O: SeqObject, M: Memo<O>>(
         (M.holds memo.new) path.new.frames.items path.new.config step) }
     ensures changes { M.changes memo.old memo.new }
 {
-    match look_at(path.problem(), path.config(), memo, is_for_problem) {
+    let problem = path.problem();
+    let call = frame.call();
+    match look_at(problem, path.config(), memo, terms.is_for_problem) {
         Some(deep) => {
             let mut left = frame;
-            Ok(ControlFlow::Continue(path.leave(&mut left, deep)?))
+            let position = path.leave(&mut left, deep)?;
+            let on = unless_ended(problem, call, position, terms.passes_over);
+            Ok(ControlFlow::Continue(on))
         }
         None => Ok(ControlFlow::Continue(path.descend(frame)?)),
     }
@@ -204,9 +313,9 @@ fn visit<O: SeqObject, M: Memo<O>>(
     path: &mut Path<'_, O>,
     next: Frame<O>,
     memo: &mut M,
-    is_for_problem: bool,
+    terms: Terms,
 ) -> Result<ControlFlow<Outcome, Position>, AllocError>
-    requires of { IsTrue is_for_problem → M.is_of memo.old path.old.entries.problem }
+    requires of { IsTrue terms.is_for_problem → M.is_of memo.old path.old.entries.problem }
     requires progress { (root : Configuration O.State) × (limit left : Option ℕ)
         × IsProgress (problem_of O.after O.State.eq O.Reply.eq path.old.entries.problem) root limit
         path.old.entries.lifted path.old.frames.items left path.old.config next.longest
@@ -226,7 +335,8 @@ fn visit<O: SeqObject, M: Memo<O>>(
         path.new.entries.lifted path.new.frames.items after path.new.config (λ told. ⊥)
         (work (length path.old.entries.problem.calls) root.lifted path.old.frames.items
         path.old.config.lifted next.call) step) }
-    ensures holds { IfOk result (λ step. (root : Configuration O.State) (limit left : Option ℕ)
+    ensures holds { IfOk result (λ step. terms.passes_over ≡ false
+        → (root : Configuration O.State) (limit left : Option ℕ)
         → IsProgress (problem_of O.after O.State.eq O.Reply.eq path.old.entries.problem) root limit
         path.old.entries.lifted path.old.frames.items left path.old.config next.longest
         (Some next.call)
@@ -241,20 +351,7 @@ fn visit<O: SeqObject, M: Memo<O>>(
     if path.is_complete() {
         return success(path, frame.call());
     }
-    go_on(path, frame, memo, is_for_problem)
-}
-
-/// On what terms a search is made.
-#[derive(Clone, Copy)]
-pub(crate) struct Terms {
-    /// Where memory is asked for.
-    pub(crate) alloc: Global,
-    /// Whether the memo names the problem, so that it compares nothing.
-    pub(crate) is_for_problem: bool,
-    /// How many lifts may be made, where there is a limit.
-    pub(crate) limit: Option<u64>,
-    /// Whether the search ends for want of memory where the memo does not keep what it is handed.
-    pub(crate) needs_all: bool,
+    go_on(path, frame, memo, terms)
 }
 
 // What a search keeps count of.
@@ -284,13 +381,6 @@ impl Tally {
     }
 }
 
-// A call that is tried, and what the calls before it tell.
-#[derive(Clone, Copy, Drop)]
-struct Candidate {
-    call: usize,
-    longest: Longest,
-}
-
 // Tries the call: passes it over where it can't follow, and else visits what it leads to, where another call may be
 // lifted.
 #[inline(always)]
@@ -316,7 +406,8 @@ fn try_call<O: SeqObject, M: Memo<O>, S: Stop>(
         path.new.entries.lifted path.new.frames.items tally.new.left path.new.config
         (S.tells stop.new) (work (length path.old.entries.problem.calls) root.lifted
         path.old.frames.items path.old.config.lifted candidate.call) step) }
-    ensures holds { IfOk result (λ step. (root : Configuration O.State) (limit : Option ℕ)
+    ensures holds { IfOk result (λ step. tally.old.terms.passes_over ≡ false
+        → (root : Configuration O.State) (limit : Option ℕ)
         → IsProgress (problem_of O.after O.State.eq O.Reply.eq path.old.entries.problem) root limit
         path.old.entries.lifted path.old.frames.items tally.old.left path.old.config
         candidate.longest (Some candidate.call)
@@ -337,7 +428,7 @@ fn try_call<O: SeqObject, M: Memo<O>, S: Stop>(
         return Ok(ControlFlow::Break(outcome));
     }
     let next = Frame::new(state, call, longest);
-    visit(path, next, memo, tally.terms.is_for_problem)
+    visit(path, next, memo, tally.terms)
 }
 
 // Goes back from a configuration all of whose calls were tried, and which is so refuted with this longest: hands it to
@@ -367,6 +458,7 @@ fn go_back<O: SeqObject, M: Memo<O>>(
         path.old.config.lifted (length path.old.entries.problem.calls)) step) }
     ensures whole { IsTrue tally.new.whole → IsTrue tally.old.whole }
     ensures holds { IfOk result (λ step. IsTrue tally.new.whole
+        → tally.old.terms.passes_over ≡ false
         → (root : Configuration O.State) (limit : Option ℕ)
         → IsProgress (problem_of O.after O.State.eq O.Reply.eq path.old.entries.problem) root limit
         path.old.entries.lifted path.old.frames.items tally.old.left path.old.config longest None
@@ -379,25 +471,28 @@ fn go_back<O: SeqObject, M: Memo<O>>(
     let Some(mut frame) = path.pop() else {
         return Ok(ControlFlow::Break(Outcome::Refuted(longest)));
     };
+    let call = frame.call();
     let lifted = path.copy_lifted()?;
     let position = path.leave(&mut frame, longest)?;
-    let refuted = Config::from_parts(lifted, frame.into_state());
     let problem = path.problem();
+    let on = unless_ended(problem, call, position, tally.terms.passes_over);
+    let refuted = Config::from_parts(lifted, frame.into_state());
     let noted = note_at(problem, refuted, longest, memo, tally.terms.is_for_problem);
     tally.add(noted);
     if tally.wants_memory() {
         return Err(AllocError);
     }
-    Ok(ControlFlow::Continue(position))
+    Ok(ControlFlow::Continue(on))
 }
 
-// One step of a search: tries the candidate, or goes back where none is left.
+// One step of a search: passes the candidate over where it adds nothing, or tries it, or goes back where none is left.
 #[inline(always)]
 fn step<O: SeqObject, M: Memo<O>, S: Stop>(
     path: &mut Path<'_, O>,
     position: Position,
     memo: &mut M,
     tally: &mut Tally,
+    repeated: &[usize],
     stop: &mut S,
 ) -> Result<ControlFlow<Outcome, Position>, AllocError>
     requires of { IsTrue tally.old.terms.is_for_problem
@@ -420,6 +515,7 @@ fn step<O: SeqObject, M: Memo<O>, S: Stop>(
         position.candidate)) step) }
     ensures whole { IsTrue tally.new.whole → IsTrue tally.old.whole }
     ensures holds { IfOk result (λ step. IsTrue tally.new.whole
+        → tally.old.terms.passes_over ≡ false
         → (root : Configuration O.State) (limit : Option ℕ)
         → IsProgress (problem_of O.after O.State.eq O.Reply.eq path.old.entries.problem) root limit
         path.old.entries.lifted path.old.frames.items tally.old.left path.old.config
@@ -433,9 +529,22 @@ fn step<O: SeqObject, M: Memo<O>, S: Stop>(
 {
     let longest = position.longest;
     match position.candidate {
-        Some(call) => try_call(path, Candidate { call, longest }, memo, tally, stop),
+        Some(call) => {
+            let candidate = Candidate { call, longest };
+            match passed_over(path, candidate, repeated, tally.terms.passes_over) {
+                Some(next) => Ok(ControlFlow::Continue(next)),
+                None => try_call(path, candidate, memo, tally, stop),
+            }
+        }
         None => go_back(path, longest, memo, tally),
     }
+}
+
+// Whether calls may be passed over after so many steps.
+fn passes_over_after(terms: Terms, steps: u64) -> bool
+    ensures { terms.passes_over ≡ false → result ≡ false }
+{
+    terms.passes_over && steps >= STEPS_AT_FIRST
 }
 
 // Searches on from a path without a frame until the search ends. Where the configuration there is refuted, the search
@@ -444,6 +553,7 @@ fn search_on<O: SeqObject, M: Memo<O>, S: Stop>(
     path: &mut Path<'_, O>,
     memo: &mut M,
     terms: Terms,
+    repeated: &[usize],
     stop: &mut S,
 ) -> Result<Ended, AllocError>
     requires of { IsTrue terms.is_for_problem → M.is_of memo.old path.old.entries.problem }
@@ -462,7 +572,8 @@ fn search_on<O: SeqObject, M: Memo<O>, S: Stop>(
         path.old.config.state terms.limit (S.tells stop.new) ended.outcome) }
     ensures back { IfOk result (λ ended. IsRefutation ended.outcome
         → path.new.config ≡ path.old.config) }
-    ensures holds { IfOk result (λ ended. IsTrue ended.whole → IsRefutation ended.outcome
+    ensures holds { IfOk result (λ ended. IsTrue ended.whole → terms.passes_over ≡ false
+        → IsRefutation ended.outcome
         → IsClosed (problem_of O.after O.State.eq O.Reply.eq path.old.entries.problem)
         (M.holds memo.old)
         → HoldsSearched (problem_of O.after O.State.eq O.Reply.eq path.old.entries.problem)
@@ -476,8 +587,11 @@ fn search_on<O: SeqObject, M: Memo<O>, S: Stop>(
         whole: true,
         terms,
     };
+    let mut steps: u64 = 0;
     loop {
-        match step(path, position, memo, &mut tally, stop)? {
+        tally.terms.passes_over = passes_over_after(terms, steps);
+        steps = steps.saturating_add(1);
+        match step(path, position, memo, &mut tally, repeated, stop)? {
             ControlFlow::Continue(next) => position = next,
             ControlFlow::Break(outcome) => {
                 return Ok(Ended {
@@ -520,7 +634,7 @@ fn known_of<O: SeqObject, M: Memo<O>>(
     }
 }
 
-// Hands the memo the configuration that the search began at, where the outcome is that it is refuted, and tells whether
+// Hands the memo the configuration that the search began at, where the outcome is that it is refuted, and returns whether
 // the memo has it then.
 fn note_root<O: SeqObject, M: Memo<O>>(
     problem: &Problem<O>,
@@ -551,6 +665,7 @@ fn search_unknown<O: SeqObject, M: Memo<O>, S: Stop>(
     config: Config<O>,
     memo: &mut M,
     terms: Terms,
+    repeated: &[usize],
     stop: &mut S,
 ) -> Result<Ended, AllocError>
     requires reachable { IsReachable (problem_of O.after O.State.eq O.Reply.eq problem.now)
@@ -561,7 +676,8 @@ fn search_unknown<O: SeqObject, M: Memo<O>, S: Stop>(
     ensures answer { IfOk result (λ ended. IsAnswer
         (problem_of O.after O.State.eq O.Reply.eq problem.now) config.lifted config.state
         terms.limit (S.tells stop.new) ended.outcome) }
-    ensures closed { IfOk result (λ ended. IsTrue ended.whole → IsRefutation ended.outcome
+    ensures closed { IfOk result (λ ended. IsTrue ended.whole → terms.passes_over ≡ false
+        → IsRefutation ended.outcome
         → IsClosed (problem_of O.after O.State.eq O.Reply.eq problem.now) (M.holds memo.old)
         → IsClosed (problem_of O.after O.State.eq O.Reply.eq problem.now) (M.holds memo.new)
         × M.holds memo.new config.lifted config.state) }
@@ -569,19 +685,21 @@ fn search_unknown<O: SeqObject, M: Memo<O>, S: Stop>(
     ensures stop { S.follows stop.old stop.new }
 {
     let mut path = Path::new(terms.alloc, problem, config)?;
-    let searched = search_on(&mut path, memo, terms, stop);
+    let searched = search_on(&mut path, memo, terms, repeated, stop);
     let config = path.into_config();
     let ended = searched?;
     let is_kept = note_root(problem, config, &ended.outcome, memo, terms.is_for_problem);
     Ok(ended.with_note(is_kept))
 }
 
-// Searches a configuration and what it leads to, on these terms.
+// Searches a configuration and what it leads to, on these terms. The numbers show for each call one that it may repeat: a hint,
+// asked only where calls are passed over.
 pub(crate) fn search_from<O: SeqObject, M: Memo<O>, S: Stop>(
     problem: &Problem<O>,
     config: Config<O>,
     memo: &mut M,
     terms: Terms,
+    repeated: &[usize],
     stop: &mut S,
 ) -> Result<Ended, AllocError>
     requires reachable { IsReachable (problem_of O.after O.State.eq O.Reply.eq problem.now)
@@ -590,7 +708,8 @@ pub(crate) fn search_from<O: SeqObject, M: Memo<O>, S: Stop>(
     ensures answer { IfOk result (λ ended. IsAnswer
         (problem_of O.after O.State.eq O.Reply.eq problem.now) config.lifted config.state
         terms.limit (S.tells stop.new) ended.outcome) }
-    ensures closed { IfOk result (λ ended. IsTrue ended.whole → IsRefutation ended.outcome
+    ensures closed { IfOk result (λ ended. IsTrue ended.whole → terms.passes_over ≡ false
+        → IsRefutation ended.outcome
         → IsClosed (problem_of O.after O.State.eq O.Reply.eq problem.now) (M.holds memo.old)
         → IsClosed (problem_of O.after O.State.eq O.Reply.eq problem.now) (M.holds memo.new)
         × M.holds memo.new config.lifted config.state) }
@@ -603,7 +722,7 @@ pub(crate) fn search_from<O: SeqObject, M: Memo<O>, S: Stop>(
             whole: true,
         });
     }
-    search_unknown(problem, config, memo, terms, stop)
+    search_unknown(problem, config, memo, terms, repeated, stop)
 }
 
 /// The depth-first search from a configuration over a memo (Wing and Gong 1993; Lowe 2017): a complete
@@ -613,7 +732,7 @@ pub(crate) fn search_from<O: SeqObject, M: Memo<O>, S: Stop>(
 /// A *lift* is one child that was made, whether or not the memo has it. `Undecided` where a limit is given
 /// and as many lifts were made and another was to be made. Before each lift that the limit allows, the stop
 /// is asked: `Stopped` with its number where it answers one. `Found` is the least completion, and `Refuted`
-/// stands only where there is none, whatever the memo forgets or who else writes to it. No answer of the
+/// is returned only where there is none, whatever the memo forgets or who else writes to it. No answer of the
 /// memo ends a search. `AllocError` where memory was refused; what was noted before stays in the memo.
 ///
 /// Condition: the configuration is reachable in the problem.
@@ -638,8 +757,45 @@ pub fn search<O: SeqObject, M: Memo<O>, S: Stop>(
         is_for_problem: memo.is_for(problem),
         limit,
         needs_all: false,
+        passes_over: false,
     };
     let copy = config.copy(alloc, problem)?;
-    let ended = search_from(problem, copy, memo, terms, stop)?;
+    let ended = search_from(problem, copy, memo, terms, &[], stop)?;
+    Ok(ended.outcome)
+}
+
+/// `search`, but after its first 10,000 steps (a step tries a call, or goes back) calls that add nothing are passed over: one
+/// that repeats a call which is not lifted (`repeats`), and all that come after one that changes nothing (`ends_the_list`).
+/// Its answers are those of `search`. It makes no more lifts, often far fewer, and so it notes fewer configurations: not each
+/// that one call leads to from a configuration that is noted. `AllocError` also where memory for a number for each call was
+/// refused.
+///
+/// Condition: the configuration is reachable in the problem.
+pub fn search_passing_over<O: SeqObject, M: Memo<O>, S: Stop>(
+    alloc: Global,
+    problem: &Problem<O>,
+    config: &Config<O>,
+    memo: &mut M,
+    limit: Option<u64>,
+    stop: &mut S,
+) -> Result<Outcome, AllocError>
+    requires { IsReachable (problem_of O.after O.State.eq O.Reply.eq problem.now) config.now.lifted
+        config.now.state }
+    ensures answer { IfOk result (IsAnswer (problem_of O.after O.State.eq O.Reply.eq problem.now)
+        config.now.lifted config.now.state limit (S.tells stop.new)) }
+    ensures memo { M.changes memo.old memo.new }
+    ensures stop { S.follows stop.old stop.new }
+{
+    lawful::<O>();
+    let repeated = repeated_calls(alloc, problem)?;
+    let terms = Terms {
+        alloc,
+        is_for_problem: memo.is_for(problem),
+        limit,
+        needs_all: false,
+        passes_over: true,
+    };
+    let copy = config.copy(alloc, problem)?;
+    let ended = search_from(problem, copy, memo, terms, repeated.as_slice(), stop)?;
     Ok(ended.outcome)
 }

@@ -22,7 +22,7 @@ use std::marker::Model;
 /// calls that are lifted (Wing and Gong 1993). Contracts see the problem, and the calls lifted in the order in which
 /// they were.
 ///
-/// The entry of an event is its place in the timeline counted from 1, so that 0 stands before all entries and the
+/// The entry of an event is its place in the timeline counted from 1, so that 0 comes before all entries and the
 /// number after them behind.
 #[derive(Drop)]
 pub struct Entries<'p, O: SeqObject> {

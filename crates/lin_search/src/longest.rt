@@ -1,8 +1,8 @@
-//! What the longest continuations of a configuration tell.
+//! What the longest continuations of a configuration show.
 ghost use Rattle.std.specs.Prelude.{◌≡◌, ℕ, ◌+◌, ◌<◌, ◌≤◌, Some, None};
 ghost use Rattle.lin_history.specs.declared.limits.TheConstants.{MAX_CALLS_ON_OBJECT};
 
-/// What the longest continuations of a configuration tell of it. A memo keeps one for each configuration, so it is
+/// What the longest continuations of a configuration show of it. A memo keeps one for each configuration, so it is
 /// small: the calls of a problem are few enough to be numbered with 16 bits. `more` and `first` read the fields as numbers
 /// of calls.
 #[derive(Clone, Copy, PartialEq, Eq, Debug)]

@@ -20,8 +20,8 @@ use lin_history::{Order, Problem};
 use lin_object::{SeqObject, lawful};
 use std::alloc::{AllocError, Global};
 
-// What the longest continuations of a configuration with no completion tell: by a look, or by a search where
-// the memo does not know it. `is_for_problem` tells that the memo names the problem.
+// What the longest continuations of a configuration with no completion show: by a look, or by a search where
+// the memo does not know it. `is_for_problem` says that the memo names the problem.
 fn longest_of<O: SeqObject, M: Memo<O>>(
     alloc: Global,
     problem: &Problem<O>,
@@ -49,8 +49,9 @@ fn longest_of<O: SeqObject, M: Memo<O>>(
         is_for_problem,
         limit: None,
         needs_all: false,
+        passes_over: false,
     };
-    let ended = search_from(problem, copy, memo, terms, &mut NoStop)?;
+    let ended = search_from(problem, copy, memo, terms, &[], &mut NoStop)?;
     match ended.outcome {
         Outcome::Refuted(longest) => Ok(longest),
         Outcome::Found(_) => unreachable!(),

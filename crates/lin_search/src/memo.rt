@@ -43,11 +43,11 @@ impl Noted {
     }
 }
 
-/// A store of refuted configurations (Lowe 2017). It need not keep what it is handed, nor tell all that it
-/// has; what it tells is true.
+/// A store of refuted configurations (Lowe 2017). It need not keep what it is handed, nor show all that it
+/// has; what it shows is true.
 ///
 /// A memo names a relation from an old state to a new one that each of its calls keeps, and says which
-/// configurations it holds; one that can't tell says that it holds all.
+/// configurations it holds; one that does not know says that it holds all.
 pub trait Memo<O: SeqObject> {
     // What any calls may make of the memo: the old one, and then the new one.
     ghost changes: { Self → Self → Type 0 };
@@ -63,7 +63,7 @@ pub trait Memo<O: SeqObject> {
     ghost answers: { Self → ProblemParts O O.State O.Op O.Reply → Configuration O.State → Longest
         → Noted → Self → Type 0 };
 
-    /// What the longest continuations of the configuration tell, where the memo has it and names a problem
+    /// What the longest continuations of the configuration show, where the memo has it and names a problem
     /// that is the same: then the configuration is refuted in the asker's problem.
     fn look(&mut self, problem: &Problem<O>, config: &Config<O>) -> Option<Longest>
         ensures refuted { IfSome result (λ longest. IsRefutedWith

@@ -7,7 +7,7 @@ use lin_history::Order;
 pub enum Outcome {
     /// The least completion of the configuration.
     Found(Order),
-    /// The configuration has no completion; what its longest continuations tell.
+    /// The configuration has no completion; what its longest continuations show.
     Refuted(Longest),
     /// As many lifts were made as the limit allows, and another was to be made.
     Undecided,

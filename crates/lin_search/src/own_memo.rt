@@ -17,7 +17,7 @@ use lin_object::{SeqObject, lawful};
 use std::alloc::Global;
 use std::marker::Model;
 
-/// A memo of one problem that keeps all that it is handed, each configuration once, and tells all that it
+/// A memo of one problem that keeps all that it is handed, each configuration once, and shows all that it
 /// has. Contracts see the problem, and the pairs in order of storing.
 ///
 /// To `note` it answers `Stranger` exactly where it names a problem that is not the `same`; `Known` exactly
@@ -70,7 +70,7 @@ impl<'p, O: SeqObject> OwnMemo<'p, O> {
         self.pairs.len() as u64
     }
 
-    /// What the longest continuations of the configuration tell in the problem that the memo names: `Some`
+    /// What the longest continuations of the configuration show in the problem that the memo names: `Some`
     /// exactly where the configuration is stored. No problems are compared. It takes no memory.
     pub fn find(&self, config: &Config<O>) -> Option<Longest>
         ensures refuted { IfSome result (λ longest. IsRefutedWith
@@ -100,7 +100,7 @@ impl<'p, O: SeqObject> OwnMemo<'p, O> {
         }
     }
 
-    /// What the longest continuations of the configuration tell: `Some` exactly where the configuration is
+    /// What the longest continuations of the configuration show: `Some` exactly where the configuration is
     /// stored and the problem that the memo names is the `same` as this one. It takes no memory.
     pub fn look(&self, problem: &Problem<O>, config: &Config<O>) -> Option<Longest>
         ensures refuted { IfSome result (λ longest. IsRefutedWith

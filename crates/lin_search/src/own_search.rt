@@ -40,8 +40,9 @@ fn search_root<'p, O: SeqObject>(
         is_for_problem: true,
         limit: None,
         needs_all: true,
+        passes_over: false,
     };
-    let ended = search_from(problem, root, memo, terms, &mut NoStop)?;
+    let ended = search_from(problem, root, memo, terms, &[], &mut NoStop)?;
     if !ended.whole {
         return Err(AllocError);
     }

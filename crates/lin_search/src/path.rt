@@ -1,6 +1,6 @@
 //! The path of a search: where it is, the frames behind it, and the entries left.
 //!
-//! What a search does at each lift is inlined always: `docs/PERFORMANCE.md` tells what that gives.
+//! What a search does at each lift is inlined always: `docs/PERFORMANCE.md` shows what that gives.
 ghost use Rattle.std.specs.Prelude.{◌≡◌, ℕ, ◌+◌, ◌<◌, ◌≤◌, ◌↔◌, ◌++◌, ◌∷◌, [], List, Option, Some, None, length, IfOk, IfSome, IfNone, IsTrue};
 ghost use Rattle.lin_history.specs.Problems.Problem.{problem_of};
 ghost use Rattle.lin_history.specs.Problems.Configurations.{IsReachable};
@@ -19,7 +19,7 @@ use std::alloc::{AllocError, Global};
 use std::marker::Model;
 
 /// A state on the path of a search, the call that leads on from it, and what the continuations that begin with a call
-/// before that one tell. Its set of calls is not kept: it is the one that the search is at, without the calls since.
+/// before that one show. Its set of calls is not kept: it is the one that the search is at, without the calls since.
 #[derive(Drop)]
 pub struct Frame<O: SeqObject> {
     state: O::State,
@@ -36,7 +36,7 @@ impl<O: SeqObject> Model for Frame<O> {
 }
 
 impl<O: SeqObject> Frame<O> {
-    /// The state, the call, and what the calls before that one tell.
+    /// The state, the call, and what the calls before that one show.
     pub fn new(state: O::State, call: usize, longest: Longest) -> Self
         ensures { result ≡ record { state = state; call = call; longest = longest } }
     {
@@ -54,14 +54,14 @@ impl<O: SeqObject> Frame<O> {
         self.call
     }
 
-    /// What the calls before it tell.
+    /// What the calls before it show.
     pub fn longest(&self) -> Longest
         ensures { result ≡ self.now.longest }
     {
         self.longest
     }
 
-    // What the continuations up to the call tell, where it led to a configuration that is refuted with this longest.
+    // What the continuations up to the call show, where it led to a configuration that is refuted with this longest.
     fn longest_with(&self, deep: Longest) -> Longest
         requires call { self.now.call < MAX_CALLS_ON_OBJECT }
         requires deep { deep.more < MAX_CALLS_ON_OBJECT }
@@ -117,10 +117,10 @@ fn entries_without<'p, O: SeqObject>(
     Ok(entries)
 }
 
-/// Which call is tried next, the candidate, and what the calls before it tell.
+/// Which call is tried next, the candidate, and what the calls before it show.
 #[derive(Clone, Copy, Drop)]
 pub struct Position {
-    /// What the calls before the candidate tell.
+    /// What the calls before the candidate show.
     pub longest: Longest,
     /// The call that is tried next; `None` where each was tried.
     pub candidate: Option<usize>,
@@ -248,7 +248,7 @@ impl<'p, O: SeqObject> Path<'p, O> {
         }
     }
 
-    /// The position after the call, with what the calls up to it tell.
+    /// The position after the call, with what the calls up to it show.
     ///
     /// Conditions: the calls lifted from the entries are just those of the configuration, and the call is minimal in it.
     #[inline(always)]

@@ -1,4 +1,4 @@
-//! Refutations: refuted configurations, with what their longest continuations tell.
+//! Refutations: refuted configurations, with what their longest continuations show.
 ghost use Rattle.std.specs.Prelude.{◌≡◌};
 ghost use Rattle.lin_history.specs.Problems.Problem.{problem_of};
 ghost use Rattle.lin_search.specs.Refutation.{IsRefutedWith};
@@ -10,7 +10,7 @@ use lin_object::SeqObject;
 use std::marker::Model;
 
 /// A refuted configuration of a problem: it is reachable, and has no completion (Lowe 2017). With it goes
-/// what its longest continuations tell. The type keeps all three.
+/// what its longest continuations show. The type keeps all three.
 #[derive(Drop)]
 pub struct Refutation<'p, O: SeqObject> {
     problem: &'p Problem<O>,
@@ -40,7 +40,7 @@ impl<'p, O: SeqObject> Refutation<'p, O> {
     /// That the configuration is refuted in the problem.
     ///
     /// Conditions: it is reachable there and has no completion, and this is what its longest continuations
-    /// tell.
+    /// show.
     pub fn new(problem: &'p Problem<O>, config: Config<O>, longest: Longest) -> Self
         requires { IsRefutedWith (problem_of O.after O.State.eq O.Reply.eq problem.now)
             config.lifted config.state longest }
@@ -67,7 +67,7 @@ impl<'p, O: SeqObject> Refutation<'p, O> {
         &self.config
     }
 
-    /// What its longest continuations tell.
+    /// What its longest continuations show.
     pub fn longest(&self) -> Longest
         ensures longest { result ≡ self.now.longest }
         ensures refuted { IsRefutedWith (problem_of O.after O.State.eq O.Reply.eq self.now.problem)
@@ -76,7 +76,7 @@ impl<'p, O: SeqObject> Refutation<'p, O> {
         self.longest
     }
 
-    /// The problem, the configuration, and what its longest continuations tell.
+    /// The problem, the configuration, and what its longest continuations show.
     pub fn into_parts(self) -> (&'p Problem<O>, Config<O>, Longest)
         ensures problem { result.0.now ≡ self.entry.problem }
         ensures config { result.1 ≡ self.entry.config }

@@ -6,7 +6,7 @@ ghost use Rattle.std.specs.Prelude.{ℕ, IfSome};
 /// A stop names a fact about its state for each number that it may answer, and a relation from an old
 /// state to a new one that each of its calls keeps.
 pub trait Stop {
-    // The fact that an answer of this number tells.
+    // The fact that an answer of this number shows.
     ghost tells: { Self → ℕ → Type 0 };
 
     // What any number of calls may make of the stop: the old one, and then the new one.

@@ -1,5 +1,5 @@
 use Rattle.std.proofs.Common.{sym}
-use Rattle.lin_search.proofs.PathLemmas.{calls_here, pop_last, pop_room, pop_set, refuted_here, step_back, holds_pop, answer_refuted, holds_refuted}
+use Rattle.lin_search.proofs.PathLemmas.{on_unless_ended, calls_here, pop_last, pop_next, pop_room, pop_set, refuted_here, step_back, holds_pop, answer_refuted, holds_refuted}
 use Rattle.lin_search.proofs.depth_first.go_back.Goals as goal
 
 pub returns-in_default-clause-step : goal.returns-in_default-clause-step
@@ -11,7 +11,7 @@ returns-in_default-clause-step g c =
 
 pub returns-in_default-clause-holds : goal.returns-in_default-clause-holds
 returns-in_default-clause-holds g c =
-    λ w root limit k h refutation.
+    λ w off root limit k h refutation.
     let none = rw c.in_default.is at c.pop.ensures.none in
     holds_refuted _ root _ _ none.0 (answer_refuted root limit _ _ _ _ _ none.0 k).1 h
 
@@ -28,18 +28,28 @@ pub note_at-noted-requires-clause-refuted : goal.note_at-noted-requires-clause-r
 note_at-noted-requires-clause-refuted g c =
     rw (c.problem-problem.ensures, c.leave.ensures.problem, c.pop.ensures.entries, c.from_parts-refuted.ensures, c.in_ok-lifted.ensures, c.into_state.ensures, c.in_ok-position.ensures.after, c.pop.ensures.config) (refuted_here _ _ _ _ _ _ _ c.requires.progress.2)
 
+pub unless_ended-on-requires : goal.unless_ended-on-requires
+unless_ended-on-requires g c =
+    let last = pop_last _ _ _ _ _ c.in-Some.frame _ _ _ c.in-Some.ensures.some c.requires.progress.2 in
+    rw (c.problem-problem.ensures, c.leave.ensures.problem, c.pop.ensures.entries, c.call-call.ensures) last.2.within
+
 pub returns-clause-step : goal.returns-clause-step
 returns-clause-step g c =
     λ root limit k.
+    let set = pop_set root limit _ _ _ c.in-Some.frame _ _ _ c.in-Some.ensures.some k _ _ (rw c.pop.ensures.entries at c.leave.ensures.last) (rw c.pop.ensures.entries at c.in_ok-position.ensures.lifted) in
     rw c.leave.ensures.frames
-    (step_back root limit _ _ _ c.in-Some.frame _ _ _ c.in-Some.ensures.some k _ _ _ _ (rw c.pop.ensures.entries at c.leave.ensures.last) (rw c.pop.ensures.entries at c.in_ok-position.ensures.lifted) (sym c.in_ok-position.ensures.state) c.in_ok-position.ensures.longer c.in_ok-position.ensures.not_longer (rw c.pop.ensures.entries at c.in_ok-position.ensures.candidate))
+    (on_unless_ended root limit _ _ _ _ _ c.args.path.now.config.state _ c.in_ok-position.position _
+    (pop_next root limit _ _ _ c.in-Some.frame _ _ _ c.in-Some.ensures.some k _ set (sym c.in_ok-position.ensures.state))
+    (rw c.pop.ensures.entries at c.in_ok-position.ensures.candidate)
+    (rw (c.problem-problem.ensures, c.leave.ensures.problem, c.pop.ensures.entries, c.call-call.ensures) at c.unless_ended-on.ensures.ended)
+    (step_back root limit _ _ _ c.in-Some.frame _ _ _ c.in-Some.ensures.some k _ _ _ _ (rw c.pop.ensures.entries at c.leave.ensures.last) (rw c.pop.ensures.entries at c.in_ok-position.ensures.lifted) (sym c.in_ok-position.ensures.state) c.in_ok-position.ensures.longer c.in_ok-position.ensures.not_longer (rw c.pop.ensures.entries at c.in_ok-position.ensures.candidate)))
 
 pub returns-clause-holds : goal.returns-clause-holds
 returns-clause-holds g c =
-    λ w root limit k h.
+    λ w off root limit k h.
     let noted = (rw (c.problem-problem.ensures, c.leave.ensures.problem, c.pop.ensures.entries, c.from_parts-refuted.ensures, c.in_ok-lifted.ensures, c.into_state.ensures, c.in_ok-position.ensures.after, c.pop.ensures.config) at (c.note_at-noted.ensures.holds ((c.add.ensures.whole w).1))) root.lifted _ h in
     let set = pop_set root limit _ _ _ c.in-Some.frame _ _ _ c.in-Some.ensures.some k _ _ (rw c.pop.ensures.entries at c.leave.ensures.last) (rw c.pop.ensures.entries at c.in_ok-position.ensures.lifted) in
-    rw c.leave.ensures.frames
+    rw (c.unless_ended-on.ensures.same off, c.leave.ensures.frames)
     (holds_pop (g.M.Memo.holds c.note_at-noted.new.memo) root limit _ _ _ c.in-Some.frame _ _ _ _ _ c.in-Some.ensures.some set (sym c.in_ok-position.ensures.state) k noted.1 (rw c.pop.ensures.entries at c.in_ok-position.ensures.candidate) noted.0)
 
 pub note_at-noted-requires-clause-of : goal.note_at-noted-requires-clause-of

@@ -9,7 +9,7 @@ returns-in-Some-clause-answer g c =
 
 pub returns-in-Some-clause-closed : goal.returns-in-Some-clause-closed
 returns-in-Some-clause-closed g c =
-    λ w refutation closed. (
+    λ w off refutation closed. (
       closed_look (problem_of g.O.SeqObject.after g.O.State.PartialEq.eq g.O.Reply.PartialEq.eq c.args.problem.now) (g.M.Memo.holds c.args.memo.now) (g.M.Memo.holds c.known_of.new.memo) c.known_of.ensures.only (g.met.M.Memo.lasting _ _ c.known_of.ensures.changes) closed,
       c.in-Some.ensures.held refutation,
     )
@@ -23,8 +23,8 @@ search_unknown-requires-clause-of g c = λ h. g.met.M.Memo.keeps_problem _ _ c.k
 pub returns-clause-closed : goal.returns-clause-closed
 returns-clause-closed g c =
     ok_map _ _ c.search_unknown.result
-    (λ ended k w refutation closed.
-    k w refutation (closed_look (problem_of g.O.SeqObject.after g.O.State.PartialEq.eq g.O.Reply.PartialEq.eq c.args.problem.now) (g.M.Memo.holds c.args.memo.now) (g.M.Memo.holds c.known_of.new.memo) c.known_of.ensures.only (g.met.M.Memo.lasting _ _ c.known_of.ensures.changes) closed))
+    (λ ended k w off refutation closed.
+    k w off refutation (closed_look (problem_of g.O.SeqObject.after g.O.State.PartialEq.eq g.O.Reply.PartialEq.eq c.args.problem.now) (g.M.Memo.holds c.args.memo.now) (g.M.Memo.holds c.known_of.new.memo) c.known_of.ensures.only (g.met.M.Memo.lasting _ _ c.known_of.ensures.changes) closed))
     c.search_unknown.ensures.closed
 
 pub returns-clause-memo : goal.returns-clause-memo

@@ -1,11 +1,12 @@
-use Rattle.std.proofs.Common.{refl, ◌∙◌}
+use Rattle.std.proofs.Common.{refl, ◌∙◌, ap}
+use Rattle.lin_search.specs.declared.depth_first.Terms.{Terms}
 use Rattle.lin_search.proofs.PathLemmas.{progress_start, holds_start}
 use Rattle.lin_search.proofs.depth_first.search_on.Goals as goal
 
 pub step-requires-clause-of : goal.step-requires-clause-of
 step-requires-clause-of g c =
     λ h.
-    let here = rw c.loop-next.invariant.terms at h in
+    let here = rw c.loop-next.invariant.is_for at h in
     rw c.loop-next.invariant.problem (g.met.M.Memo.keeps_problem _ _ c.loop-next.invariant.memo _ (c.requires.of here))
 
 pub loop-next-init : goal.loop-next-init
@@ -13,9 +14,9 @@ loop-next-init g c = record {
   problem = refl;
   progress = progress_start _ _ _ _ _ _ c.requires.frames c.requires.lifted c.requires.reachable c.requires.incomplete c.enter-position.ensures.longest c.enter-position.ensures.candidate;
   memo = g.met.M.Memo.unchanged _;
-  holds = λ w closed. rw c.requires.frames (holds_start _ _ _ c.enter-position.ensures.candidate closed);
+  holds = λ w off closed. rw c.requires.frames (holds_start _ _ _ c.enter-position.ensures.candidate closed);
   stop = g.met.S.Stop.unchanged _;
-  terms = refl;
+  is_for = refl;
 }
 
 pub loop-next-smaller : goal.loop-next-smaller
@@ -26,10 +27,10 @@ loop-next-preserved g c = record {
   problem = c.step.ensures.problem ∙ c.loop-next.invariant.problem;
   progress = rw c.step.ensures.problem (((rw c.in-Continue.is at c.in_ok-next.ensures.step) c.args.path.now.config c.args.terms.limit c.loop-next.invariant.progress).0);
   memo = g.met.M.Memo.chained _ _ _ c.loop-next.invariant.memo c.step.ensures.changes;
-  holds = λ w closed.
-      rw c.step.ensures.problem ((rw c.in-Continue.is at c.in_ok-next.ensures.holds) w c.args.path.now.config c.args.terms.limit c.loop-next.invariant.progress (c.loop-next.invariant.holds (c.step.ensures.whole w) closed));
+  holds = λ w off closed.
+      rw c.step.ensures.problem ((rw c.in-Continue.is at c.in_ok-next.ensures.holds) w (c.passes_over_after-tally.ensures off) c.args.path.now.config c.args.terms.limit c.loop-next.invariant.progress (c.loop-next.invariant.holds (c.step.ensures.whole w) off closed));
   stop = g.met.S.Stop.chained _ _ _ c.loop-next.invariant.stop c.step.ensures.stop;
-  terms = c.step.ensures.terms ∙ c.loop-next.invariant.terms;
+  is_for = ap (λ (t : Terms). t.is_for_problem) c.step.ensures.terms ∙ c.loop-next.invariant.is_for;
 }
 
 pub returns-in-Break-clause-answer : goal.returns-in-Break-clause-answer
@@ -40,8 +41,8 @@ returns-in-Break-clause-back g c = ((rw c.in-Break.is at c.in_ok-next.ensures.st
 
 pub returns-in-Break-clause-holds : goal.returns-in-Break-clause-holds
 returns-in-Break-clause-holds g c =
-    λ w refutation closed.
-    rw c.loop-next.invariant.problem at ((rw c.in-Break.is at c.in_ok-next.ensures.holds) w c.args.path.now.config c.args.terms.limit c.loop-next.invariant.progress (c.loop-next.invariant.holds (c.step.ensures.whole w) closed) refutation)
+    λ w off refutation closed.
+    rw c.loop-next.invariant.problem at ((rw c.in-Break.is at c.in_ok-next.ensures.holds) w (c.passes_over_after-tally.ensures off) c.args.path.now.config c.args.terms.limit c.loop-next.invariant.progress (c.loop-next.invariant.holds (c.step.ensures.whole w) off closed) refutation)
 
 pub returns-in-Break-clause-memo : goal.returns-in-Break-clause-memo
 returns-in-Break-clause-memo g c = g.met.M.Memo.chained _ _ _ c.loop-next.invariant.memo c.step.ensures.changes

@@ -18,11 +18,11 @@ note_root-is_kept-requires-clause-refuted g c =
 
 pub returns-clause-closed : goal.returns-clause-closed
 returns-clause-closed g c =
-    λ w refutation closed.
+    λ w off refutation closed.
     let both = c.with_note.ensures.whole w in
     let refuted = rw c.with_note.ensures.outcome at refutation in
     let back = c.into_config-config.ensures ∙ c.in_ok-ended.ensures.back refuted ∙ c.in_ok-path.ensures.config in
-    let held = (rw (c.in_ok-path.ensures.problem, c.in_ok-path.ensures.config) at c.in_ok-ended.ensures.holds) both.0 refuted closed in
+    let held = (rw (c.in_ok-path.ensures.problem, c.in_ok-path.ensures.config) at c.in_ok-ended.ensures.holds) both.0 off refuted closed in
     (rw back at c.note_root-is_kept.ensures.closed) both.1 refuted held
 
 pub returns-clause-memo : goal.returns-clause-memo

@@ -13,7 +13,7 @@ returns-in_default-clause-step g c =
 
 pub returns-in_default-clause-holds : goal.returns-in_default-clause-holds
 returns-in_default-clause-holds g c =
-    λ root limit k h. holds_skip _ _ _ _ _ _ (rw c.in_default.is at c.in_ok-state.ensures.none) c.after.ensures.candidate h
+    λ off root limit k h. holds_skip _ _ _ _ _ _ (rw c.in_default.is at c.in_ok-state.ensures.none) c.after.ensures.candidate h
 
 pub returns-in-Some-refusal-clause-step : goal.returns-in-Some-refusal-clause-step
 returns-in-Some-refusal-clause-step g c =
@@ -23,7 +23,7 @@ returns-in-Some-refusal-clause-step g c =
     )
 
 pub returns-in-Some-refusal-clause-holds : goal.returns-in-Some-refusal-clause-holds
-returns-in-Some-refusal-clause-holds g c = λ root limit k h refutation. absurd (not_refusal _ _ c.in-Some-refusal.outcome c.in-Some-refusal.ensures.refused refutation)
+returns-in-Some-refusal-clause-holds g c = λ off root limit k h refutation. absurd (not_refusal _ _ c.in-Some-refusal.outcome c.in-Some-refusal.ensures.refused refutation)
 
 pub visit-requires-clause-progress : goal.visit-requires-clause-progress
 visit-requires-clause-progress g c =
@@ -38,7 +38,7 @@ returns-clause-step g c =
 
 pub returns-clause-holds : goal.returns-clause-holds
 returns-clause-holds g c =
-    ok_map _ _ c.visit.result (λ step k root limit progress h. k root limit c.args.tally.now.left progress h) (rw c.new-next.ensures at c.visit.ensures.holds)
+    ok_map _ _ c.visit.result (λ step k off root limit progress h. k off root limit c.args.tally.now.left progress h) (rw c.new-next.ensures at c.visit.ensures.holds)
 
 pub next_state-requires-clause-reachable : goal.next_state-requires-clause-reachable
 next_state-requires-clause-reachable g c = c.requires.progress.2.at.reachable

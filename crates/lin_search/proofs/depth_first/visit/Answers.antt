@@ -19,7 +19,7 @@ returns-then-is_complete-clause-step g c =
     c.success.ensures
 
 pub returns-then-is_complete-clause-holds : goal.returns-then-is_complete-clause-holds
-returns-then-is_complete-clause-holds g c = ok_map _ _ c.success.result (λ step is root limit left k h. rw is (λ refutation. absurd refutation)) c.success.ensures
+returns-then-is_complete-clause-holds g c = ok_map _ _ c.success.result (λ step is off root limit left k h. rw is (λ refutation. absurd refutation)) c.success.ensures
 
 pub returns-then-is_complete-clause-changes : goal.returns-then-is_complete-clause-changes
 returns-then-is_complete-clause-changes g c = g.met.M.Memo.unchanged _
@@ -48,6 +48,6 @@ returns-clause-step g c =
 pub returns-clause-holds : goal.returns-clause-holds
 returns-clause-holds g c =
     ok_map _ _ c.go_on.result
-    (λ step s root limit left k.
-    s root c.args.path.now.config limit left (lifted_now root limit _ _ _ left _ _ c.args.next _ k c.requires.next c.requires.reachable c.lift.ensures.last c.in_ok-lift.ensures.lifted c.in_ok-lift.ensures.state refl))
+    (λ step s off root limit left k.
+    s off root c.args.path.now.config limit left (lifted_now root limit _ _ _ left _ _ c.args.next _ k c.requires.next c.requires.reachable c.lift.ensures.last c.in_ok-lift.ensures.lifted c.in_ok-lift.ensures.state refl))
     (rw (c.lift.ensures.problem, c.lift.ensures.frames, c.in_ok-lift.ensures.before) at c.go_on.ensures.holds)

@@ -1,4 +1,4 @@
-use Rattle.std.proofs.Common.{None}
+use Rattle.std.proofs.Common.{None, refl}
 use Rattle.lin_history.specs.Problems.Problem.{problem_of}
 use Rattle.lin_search.specs.Store.{Holds}
 use Rattle.lin_search.specs.StoreLemmas.{held_at_equal}
@@ -18,6 +18,6 @@ returns-clause-answer g c =
 pub returns-clause-all : goal.returns-clause-all
 returns-clause-all g c =
     λ refuted closed.
-    let held = c.in_ok-ended.ensures.closed (was_true _ c.if-not-ended.false) refuted closed in
+    let held = c.in_ok-ended.ensures.closed (was_true _ c.if-not-ended.false) refl refuted closed in
     let root = held_at_equal g.O.State.PartialEq.eq c.lawful.ensures.states _ _ _ _ c.in_ok-root.ensures.state (rw c.in_ok-root.ensures.lifted at held.1) in
     closed_has_all (problem_of g.O.SeqObject.after g.O.State.PartialEq.eq g.O.Reply.PartialEq.eq c.args.problem.now) (Holds g.O.State.PartialEq.eq c.search_from.new.memo.pairs) (held_at_equal g.O.State.PartialEq.eq c.lawful.ensures.states c.search_from.new.memo.pairs) held.0 root

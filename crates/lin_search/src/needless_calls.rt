@@ -1,0 +1,158 @@
+//! Which candidates a search may leave untried: an identical call was tried, or one that changes nothing.
+ghost use Rattle.std.specs.Prelude.{◌≡◌, ◌<◌, List, Bool, true, false, length, IsTrue};
+ghost use Rattle.lin_object.specs.StepAnswers.{IgnoresProcess};
+ghost use Rattle.lin_history.specs.Problems.Problem.{problem_of};
+ghost use Rattle.lin_history.specs.Problems.Continuations.{has};
+ghost use Rattle.lin_search.specs.NextCall.{IsNext};
+ghost use Rattle.lin_search.specs.NeedlessCalls.{AddsNothing, ComesFirst, EndsTheList, LeavesStates, ReturnedAlike, StandsFor};
+
+use lin_history::{Problem, ProblemCall};
+use lin_object::{SeqObject, lawful};
+use std::alloc::{AllocError, Global};
+
+// Whether both returned with equal replies and the first not later, or neither returned.
+fn are_returned_alike<R: Eq>(first: &Option<(u32, R)>, second: &Option<(u32, R)>) -> bool
+    ensures { IsTrue result → ReturnedAlike R.eq first.now second.now }
+{
+    match (first, second) {
+        (Some((m, r)), Some((n, s))) => *m <= *n && *r == *s,
+        (None, Some(_)) => false,
+        (Some(_), None) => false,
+        (None, None) => true,
+    }
+}
+
+// Whether both returned with equal replies and the first not later, or the second is pending.
+fn comes_first<R: Eq>(first: &Option<(u32, R)>, second: &Option<(u32, R)>) -> bool
+    ensures { IsTrue result → ComesFirst R.eq first.now second.now }
+{
+    match (first, second) {
+        (Some(_), None) => true,
+        _ => are_returned_alike(first, second),
+    }
+}
+
+// Whether both have one operation, and a step of the first, where its reply fits, is that of any process.
+fn are_of_one_operation<O: SeqObject>(
+    object: &O,
+    first: &ProblemCall<O::Op, O::Reply>,
+    second: &ProblemCall<O::Op, O::Reply>,
+) -> bool
+    ensures op { IsTrue result → O.Op.eq first.now.op second.now.op ≡ true }
+    ensures ignores { IsTrue result → IgnoresProcess O.Reply.eq (O.after object.now) first.now.op
+        first.now.returned }
+{
+    if !(first.op == second.op) {
+        return false;
+    }
+    object.ignores_process(&first.op, &first.returned)
+}
+
+/// Whether the call repeats an earlier one: both are of one operation, whichever processes make them, and both returned
+/// with equal replies and the earlier one not later, or neither returned. While the earlier one is not lifted, the call
+/// need not be tried: what it begins, the earlier one begins as well. No step is made.
+///
+/// Conditions: the earlier call has the lower number, and both are calls of the problem.
+pub fn repeats<O: SeqObject>(problem: &Problem<O>, earlier: usize, call: usize) -> bool
+    requires earlier { earlier < call }
+    requires there { call < length problem.now.calls }
+    ensures stands { IsTrue result → (set : List Bool) (s : O.State) → has set earlier ≡ false
+        → StandsFor (problem_of O.after O.State.eq O.Reply.eq problem.now) set s earlier call }
+    ensures nothing { IsTrue result → (set : List Bool) (s : O.State) → has set earlier ≡ false
+        → AddsNothing (problem_of O.after O.State.eq O.Reply.eq problem.now) set s call }
+{
+    lawful::<O>();
+    let calls = problem.calls();
+    let first = &calls[earlier];
+    let second = &calls[call];
+    if !are_of_one_operation(problem.object(), first, second) {
+        return false;
+    }
+    are_returned_alike(&first.returned, &second.returned)
+}
+
+/// Whether the call adds nothing where an earlier one, which can follow, was tried: it repeats that one, or it is pending,
+/// and the earlier one, which has returned, has its operation, whichever processes make them.
+///
+/// Conditions: the earlier call has the lower number, and both are calls of the problem.
+pub fn adds_nothing<O: SeqObject>(problem: &Problem<O>, tried: usize, call: usize) -> bool
+    requires earlier { tried < call }
+    requires there { call < length problem.now.calls }
+    ensures { IsTrue result → (set : List Bool) (s t : O.State)
+        → IsNext (problem_of O.after O.State.eq O.Reply.eq problem.now) set s tried t
+        → AddsNothing (problem_of O.after O.State.eq O.Reply.eq problem.now) set s call }
+{
+    lawful::<O>();
+    let calls = problem.calls();
+    let first = &calls[tried];
+    let second = &calls[call];
+    if !are_of_one_operation(problem.object(), first, second) {
+        return false;
+    }
+    comes_first(&first.returned, &second.returned)
+}
+
+/// Whether no further call need be tried once this one, which can follow, was: it changes nothing.
+///
+/// Condition: it is a call of the problem.
+pub fn ends_the_list<O: SeqObject>(problem: &Problem<O>, call: usize) -> bool
+    requires { call < length problem.now.calls }
+    ensures leaves { IsTrue result
+        → LeavesStates (problem_of O.after O.State.eq O.Reply.eq problem.now) call }
+    ensures list { IsTrue result
+        → EndsTheList (problem_of O.after O.State.eq O.Reply.eq problem.now) call }
+{
+    lawful::<O>();
+    let taken = problem.call(call);
+    problem.object().changes_nothing(&taken.op, &taken.returned)
+}
+
+// So many calls are looked at for one that a call repeats.
+const WINDOW: usize = 32;
+
+// Whether the call had not returned yet when this event came.
+fn is_open_at<P, R>(call: &ProblemCall<P, R>, event: u32) -> bool {
+    match &call.returned {
+        Some((returned, _)) => *returned > event,
+        None => true,
+    }
+}
+
+// The latest of the last 32 of these calls that overlaps the call and that the call repeats, or else the call itself.
+fn latest_repeated<O: SeqObject>(problem: &Problem<O>, calls: &[usize], call: usize) -> usize
+    requires { call < length problem.now.calls }
+{
+    let called = problem.call(call).called;
+    for earlier in calls.iter().rev().take(WINDOW) {
+        if *earlier < call
+            && is_open_at(problem.call(*earlier), called)
+            && repeats(problem, *earlier, call)
+        {
+            return *earlier;
+        }
+    }
+    call
+}
+
+/// For each call of the problem one that it repeats, of the 32 before it that are completed or pending as it is, or the call
+/// itself. It is a hint: nothing is promised of the numbers, so who goes by them asks `repeats` again. `AllocError` where
+/// memory was refused.
+pub fn repeated_calls<O: SeqObject>(
+    alloc: Global,
+    problem: &Problem<O>,
+) -> Result<Vec<usize>, AllocError> {
+    let mut repeated = Vec::new(alloc);
+    let mut completed = Vec::new(alloc);
+    let mut pending = Vec::new(alloc);
+    for call in 0..problem.len() {
+        let earlier = if problem.call(call).returned.is_some() {
+            completed.push(call)?;
+            latest_repeated(problem, completed.as_slice(), call)
+        } else {
+            pending.push(call)?;
+            latest_repeated(problem, pending.as_slice(), call)
+        };
+        repeated.push(earlier)?;
+    }
+    Ok(repeated)
+}
