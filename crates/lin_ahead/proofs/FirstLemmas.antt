@@ -1,6 +1,6 @@
 -- What a first search knows of the calls that it has tried, and its steps.
 use Rattle.std.proofs.Common.{◌≡◌, ℕ, zero, suc, ◌+◌, ◌-◌, ◌*◌, ◌<◌, ◌≤◌, Bool, true, false, Option, Some, None, List, [], ◌∷◌, ◌++◌, length, length-append, ◌⊎◌, inl, inr, refl, sym, ◌∙◌, ap, subst, arith, append-nil, ◌||◌}
-use Rattle.std.specs.Prelude.{IfNone}
+use Rattle.std.specs.Prelude.{IfNone, IfSome}
 use Rattle.std.specs.List.{list_any}
 use Rattle.std.proofs.lemmas.Bool.{cases_lt}
 use Rattle.lin_history.specs.Problems.Problem.{Problem}
@@ -15,11 +15,14 @@ use Rattle.lin_search.specs.Configuration.{Configuration, same_configuration}
 use Rattle.lin_search.specs.Count.{Among}
 use Rattle.lin_search.specs.Entries.{IsMinimal, IsLeastMinimal}
 use Rattle.lin_search.specs.FirstCallLemmas.{completion_join, complete_none, none_completes, next_within, tail_completes, completion_split}
+use Rattle.lin_search.specs.ExchangeLemmas.{exchanged_completes}
+use Rattle.lin_search.specs.FrontLemmas.{front_completes}
+use Rattle.lin_search.specs.NeedlessCalls.{exchange, without, StandsFor}
 use Rattle.lin_search.specs.NextCall.{IsNext, HasEveryCompleted}
 use Rattle.lin_search.specs.Path.{Frame, Level, levels, calls_of}
 use Rattle.lin_search.specs.Progress.{IsContinuationBelow, HasLifts, AreLifts, bound}
 use Rattle.lin_search.specs.Size.{AllDifferent, EachOf, HasMany, HasMoreThan}
-use Rattle.lin_ahead.specs.FirstProgress.{BeginsNone, IsPassed, IsPassedLevel, IsPassedPath, AreRefuted, IsFirstProgress, IsFirstTurn, IsFirstLifted, left_to_try}
+use Rattle.lin_ahead.specs.FirstProgress.{BeginsNone, ComesAfter, IsPassed, IsPassedLevel, IsPassedPath, AreRefuted, IsFirstProgress, IsFirstTurn, IsFirstLifted, left_to_try}
 use Rattle.lin_search.proofs.LookupLemmas.{parts_same}
 use Rattle.lin_search.proofs.PathLemmas.{calls_along, level_of, levels_end, calls_levels, calls_pushed, next_minimal, none_between, bound_within, counted_pop, lifts_to, lifts_hit, lifts_push, minimal_of, way_on}
 use Rattle.lin_search.proofs.ProgressLemmas.{below_cases}
@@ -134,6 +137,25 @@ module _ {State Op Reply : Type 0} (p : Problem State Op Reply) where
   -- to the next minimal call, from one after a call that begins no completion
   passed_on : (here : Configuration State) (i : ℕ) (candidate : Option ℕ) → length here.lifted ≡ length p.calls → IsPassed p here.lifted here.state i → IsLeastMinimal p here.lifted i candidate → IsPassed p here.lifted here.state (bound p candidate)
   passed_on here i candidate flags passed least = passed_to here.lifted here.state i (bound p candidate) flags passed (none_between p here.lifted here.state i candidate least)
+
+  -- the same after a call that was tried and leads somewhere: behind one that leaves each state as it is nothing is left to try
+  passed_after : AreAlike p p → (here : Configuration State) (c : ℕ) (t : State) (candidate : Option ℕ) → length here.lifted ≡ length p.calls → IsPassed p here.lifted here.state (c + 1) → IsNext p here.lifted here.state c t → ComesAfter p here.lifted c candidate → IsPassed p here.lifted here.state (bound p candidate)
+  passed_after alike here c t candidate flags passed next (inl least) = passed_on here (c + 1) candidate flags passed least
+  passed_after alike here c t candidate flags passed next (inr (none, leaves)) = λ l k b. passed (c ∷ without c l) (front_completes p alike c leaves here.lifted here.state t next l k) (omega arith)
+
+  minimal_after : (set : List Bool) (c : ℕ) (candidate : Option ℕ) → ComesAfter p set c candidate → IfSome candidate (λ (d : ℕ). IsMinimal p set d)
+  minimal_after set c candidate (inl least) = minimal_of p set (c + 1) candidate least
+  minimal_after set c None (inr (none, leaves)) = tt
+  minimal_after set c (Some d) (inr (none, leaves)) = absurd (cc)
+
+  way_after : (set : List Bool) (c : ℕ) (candidate : Option ℕ) → IsMinimal p set c → ComesAfter p set c candidate → c + 1 ≤ bound p candidate
+  way_after set c candidate minimal (inl least) = way_on set c candidate minimal least
+  way_after set c None minimal (inr (none, leaves)) = let h = minimal.within in omega (arith, h)
+  way_after set c (Some d) minimal (inr (none, leaves)) = absurd (cc)
+
+  -- where a call that begins no completion stands for another one, that one begins none either
+  pub identical_begins_none : AreAlike p p → (set : List Bool) (s : State) (a b : ℕ) → StandsFor p set s a b → IsPassed p set s b → BeginsNone p set s b
+  identical_begins_none alike set s a b stands passed = λ cs k. passed (a ∷ exchange a b cs) (exchanged_completes p alike set s a b stands cs k) stands.less
 
 -- so many lists, of which there are more
 one_fewer : (P : List ℕ → Type 0) (n : ℕ) (lists : List (List ℕ)) → AllDifferent lists → EachOf (λ (l : List ℕ). P l × (l ≡ [] → ⊥)) lists → length lists ≡ suc n → HasMany P n
@@ -257,7 +279,7 @@ module _ {State Op Reply : Type 0} {p : Problem State Op Reply} where
     lifted_last = (k.before, k.last, rw from_set k.progress.minimal)
 
     -- the configuration is refuted, and the call was taken out again
-    pub first_hit : (unlifted : List ℕ) (now : Configuration State) (candidate : Option ℕ) → ((b : List ℕ) → lifted ≡ b ++ f.call ∷ [] → unlifted ≡ b) → lifted_set p unlifted ≡ now.lifted → now.state ≡ f.state → IsRefuted p here.lifted here.state → IsLeastMinimal p now.lifted (f.call + 1) candidate → IsFirstProgress p kept lifts unlifted fs now candidate
+    pub first_hit : (unlifted : List ℕ) (now : Configuration State) (candidate : Option ℕ) → ((b : List ℕ) → lifted ≡ b ++ f.call ∷ [] → unlifted ≡ b) → lifted_set p unlifted ≡ now.lifted → now.state ≡ f.state → IsRefuted p here.lifted here.state → ComesAfter p now.lifted f.call candidate → IsFirstProgress p kept lifts unlifted fs now candidate
     first_hit unlifted now candidate without_last set state refuted least =
         let back = without_last k.before k.last in
         let lifted_is : now.lifted ≡ k.from.lifted = sym set ∙ ap (λ (l : List ℕ). lifted_set p l) back ∙ from_set in
@@ -272,9 +294,9 @@ module _ {State Op Reply : Type 0} {p : Problem State Op Reply} where
           path = q.path;
           calls = q.calls;
           reachable = q.reachable;
-          passed = passed_on p k.from (f.call + 1) candidate q.reachable.flags (passed_step p k.from.lifted k.from.state f.call q.passed (begins_refuted p k.from.lifted k.from.state f.call here.state q.reachable.flags k.next (rw k.set at refuted.none))) (rw is at least);
-          minimal = minimal_of p k.from.lifted (f.call + 1) candidate (rw is at least);
-          count = lifts_to p (levels (no_calls p) fs) k.from.lifted k.from.state (f.call + 1) (bound p candidate) (k.made + 1) (way_on k.from.lifted f.call candidate q.minimal (rw is at least)) (lifts_hit p (levels (no_calls p) fs) k.from.lifted k.from.state f.call k.made here.state q.reachable.flags k.next q.count);
+          passed = passed_after p q.alike k.from f.call here.state candidate q.reachable.flags (passed_step p k.from.lifted k.from.state f.call q.passed (begins_refuted p k.from.lifted k.from.state f.call here.state q.reachable.flags k.next (rw k.set at refuted.none))) k.next (rw is at least);
+          minimal = minimal_after p k.from.lifted f.call candidate (rw is at least);
+          count = lifts_to p (levels (no_calls p) fs) k.from.lifted k.from.state (f.call + 1) (bound p candidate) (k.made + 1) (way_after p k.from.lifted f.call candidate q.minimal (rw is at least)) (lifts_hit p (levels (no_calls p) fs) k.from.lifted k.from.state f.call k.made here.state q.reachable.flags k.next q.count);
         })
 
     -- the search goes on from what the call led to
@@ -346,7 +368,7 @@ module _ {State Op Reply : Type 0} {p : Problem State Op Reply} where
         let q = passed_pop p (levels (no_calls p) fs) (level_of back f) (no_calls p) k.root here.lifted here.state path_back in
         (before_last, last_lifted, rw set_back (next_minimal p back.lifted back.state f.call here.state q.1.next))
 
-    pub first_back : (new : List (Configuration State)) (unlifted : List ℕ) (now : Configuration State) (candidate : Option ℕ) → AreRefuted p new → ((b : List ℕ) → lifted ≡ b ++ f.call ∷ [] → unlifted ≡ b) → lifted_set p unlifted ≡ now.lifted → now.state ≡ f.state → IsLeastMinimal p now.lifted (f.call + 1) candidate → IsFirstProgress p new lifts unlifted fs now candidate × (left_to_try (length p.calls) fs (bound p candidate) < left_to_try (length p.calls) all (length p.calls))
+    pub first_back : (new : List (Configuration State)) (unlifted : List ℕ) (now : Configuration State) (candidate : Option ℕ) → AreRefuted p new → ((b : List ℕ) → lifted ≡ b ++ f.call ∷ [] → unlifted ≡ b) → lifted_set p unlifted ≡ now.lifted → now.state ≡ f.state → ComesAfter p now.lifted f.call candidate → IsFirstProgress p new lifts unlifted fs now candidate × (left_to_try (length p.calls) fs (bound p candidate) < left_to_try (length p.calls) all (length p.calls))
     first_back new unlifted now candidate kept_refuted without_last set state least =
         let ls = levels (no_calls p) fs in
         let l = level_of now f in
@@ -366,9 +388,9 @@ module _ {State Op Reply : Type 0} {p : Problem State Op Reply} where
             path = q.0;
             calls = (k.calls.0, unlifted_is, k.calls.2);
             reachable = q.1.reachable;
-            passed = passed_on p now (f.call + 1) candidate q.1.reachable.flags (passed_step p now.lifted now.state f.call q.1.passed (begins_refuted p now.lifted now.state f.call here.state q.1.reachable.flags q.1.next (rw q.2 refuted.none))) least;
-            minimal = minimal_of p now.lifted (f.call + 1) candidate least;
-            count = lifts_to p ls now.lifted now.state (f.call + 1) (bound p candidate) lifts (way_on now.lifted f.call candidate minimal least) (passed_lifts p ls l here.lifted here.state (length p.calls) lifts q.1 q.2 count);
+            passed = passed_after p k.alike now f.call here.state candidate q.1.reachable.flags (passed_step p now.lifted now.state f.call q.1.passed (begins_refuted p now.lifted now.state f.call here.state q.1.reachable.flags q.1.next (rw q.2 refuted.none))) q.1.next least;
+            minimal = minimal_after p now.lifted f.call candidate least;
+            count = lifts_to p ls now.lifted now.state (f.call + 1) (bound p candidate) lifts (way_after p now.lifted f.call candidate minimal least) (passed_lifts p ls l here.lifted here.state (length p.calls) lifts q.1 q.2 count);
           },
           (let n = length p.calls in
               let longer : length all ≡ length fs + 1 = ap length split ∙ length-append fs (f ∷ []) in

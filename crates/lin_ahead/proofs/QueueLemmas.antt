@@ -546,6 +546,22 @@ module _ {p : Problem ObjState Op Reply} {start : List ℤ} (of_queue : IsOfQueu
           let again = queue_answered g.rest last.0 v (replied g.rest last.0 j took.0 took.3.0 (Int v) took.1 took.2 took.3.1 last.1) in
           twice early d mid s two.0 v taken.1.0 (subst IsDistinct e (distinct_early at.0 (j ∷ at.1) (subst IsDistinct at.2 distinct))) unique fresh (subst (λ (n : ℕ). puts_by (slice_get p.calls n) ≡ []) call (puts_none c x answer.1 taken.0)) f taken.1.1 g (subst (λ (m : List ℤ). Item v m) (sym again.1) (inl refl))
 
+  -- two calls of a run do not take an item that goes in once
+  pub not_taken_again : (xs : List ℕ) (a : ℕ) (mid : List ℕ) (b : ℕ) (late : List ℕ) → IsRun p (xs ++ a ∷ (mid ++ b ∷ late)) → (v : ℤ) → PutOnce p v → (Item v start → ⊥) → Took p a v → Took p b v → ⊥
+  not_taken_again xs a mid b late run v unique fresh one two =
+      let end = run.legal.0 in
+      let k = legal_split xs (a ∷ (mid ++ b ∷ late)) (Queue start) end (from_start (xs ++ a ∷ (mid ++ b ∷ late)) end run.legal.1) in
+      let f = fifo xs start k.0 k.1 in
+      let goes : Legal p (Queue f.rest) (a ∷ (mid ++ b ∷ late)) end = subst (λ (u : ObjState). Legal p u (a ∷ (mid ++ b ∷ late)) end) f.ends k.2 in
+      let front = queue_answered f.rest goes.0 v (replied f.rest goes.0 a one.0 one.3.0 (Int v) one.1 one.2 one.3.1 goes.1) in
+      let more : Legal p (Queue front.0) (mid ++ b ∷ late) end = subst (λ (u : ObjState). Legal p u (mid ++ b ∷ late) end) front.2 goes.2 in
+      let h = legal_split mid (b ∷ late) (Queue front.0) end more in
+      let g = fifo mid front.0 h.0 h.1 in
+      let last : Legal p (Queue g.rest) (b ∷ late) end = subst (λ (u : ObjState). Legal p u (b ∷ late) end) g.ends h.2 in
+      let again = queue_answered g.rest last.0 v (replied g.rest last.0 b two.0 two.3.0 (Int v) two.1 two.2 two.3.1 last.1) in
+      let distinct : IsDistinct ((xs ++ a ∷ mid) ++ b ∷ late) = subst (λ (m : List ℕ). IsDistinct m) (sym (append_assoc xs (a ∷ mid) (b ∷ late))) run.distinct in
+      twice xs a mid k.0 h.0 v front.0 (distinct_early (xs ++ a ∷ mid) (b ∷ late) distinct) unique fresh (puts_none a one.0 one.1 one.2) f front.1 g (subst (λ (m : List ℤ). Item v m) (sym again.1) (inl refl))
+
   -- ---- what stands behind an enqueue
 
   not_taker : (b j : ℕ) (v : ℤ) → Puts p b v → MayTake p j v → j ≡ b → ⊥

@@ -1,5 +1,5 @@
 -- How far a first search has come: with which calls no completion begins (this project's own).
-use Rattle.std.specs.Prelude.{◌≡◌, ℕ, ◌+◌, ◌-◌, ◌*◌, ◌<◌, Bool, true, Option, Some, None, List, [], ◌∷◌, ◌++◌, length, IfSome}
+use Rattle.std.specs.Prelude.{◌≡◌, ℕ, ◌+◌, ◌-◌, ◌*◌, ◌<◌, Bool, true, Option, Some, None, List, [], ◌∷◌, ◌++◌, ◌⊎◌, length, IfSome}
 use Rattle.std.proofs.Common.{ControlFlow, Continue, Break}
 use Rattle.lin_history.specs.Problems.Problem.{Problem}
 use Rattle.lin_history.specs.Problems.Lists.{IsLeast}
@@ -9,7 +9,8 @@ use Rattle.lin_history.specs.Problems.Configurations.{IsReachable, IsRefuted}
 use Rattle.lin_search.specs.AlikeLemmas.{AreAlike}
 use Rattle.lin_search.specs.CallSet.{with_call, with_calls}
 use Rattle.lin_search.specs.Configuration.{Configuration}
-use Rattle.lin_search.specs.Entries.{IsMinimal}
+use Rattle.lin_search.specs.Entries.{IsMinimal, IsLeastMinimal}
+use Rattle.lin_search.specs.NeedlessCalls.{LeavesStates}
 use Rattle.lin_search.specs.NextCall.{IsNext}
 use Rattle.lin_search.specs.Path.{Frame, Level, levels, calls_of}
 use Rattle.lin_search.specs.Progress.{IsBelow, AreLifts, bound}
@@ -21,6 +22,10 @@ BeginsNone p set s c = (cs : List ℕ) → IsCompletion p set s (c ∷ cs) → �
 -- No completion of the configuration is empty, or begins with a call below i.
 abbrev pub IsPassed : {State Op Reply : Type 0} → Problem State Op Reply → List Bool → State → ℕ → Type 0
 IsPassed p set s i = (l : List ℕ) → IsCompletion p set s l → IsBelow i l → ⊥
+
+-- The candidate after call c, which was tried: the next minimal call; or none, where c leaves each state as it is.
+abbrev pub ComesAfter : {State Op Reply : Type 0} → Problem State Op Reply → List Bool → ℕ → Option ℕ → Type 0
+ComesAfter p set c candidate = IsLeastMinimal p set (c + 1) candidate ⊎ ((candidate ≡ None) × LeavesStates p c)
 
 -- A level's configuration is reachable, no completion of it begins with a call before the level's own, and that one leads to this state.
 pub record IsPassedLevel {State Op Reply : Type 0} (p : Problem State Op Reply) (f : Level State) (t : State) : Type 0 where

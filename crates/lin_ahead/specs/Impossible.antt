@@ -1,5 +1,5 @@
 -- Replies of a queue's and a stack's calls that no order of the calls explains (this project's own).
-use Rattle.std.specs.Prelude.{◌≡◌, ℕ, ℤ, [], ◌⊎◌}
+use Rattle.std.specs.Prelude.{◌≡◌, ◌≢◌, ℕ, ℤ, [], ◌⊎◌}
 use Rattle.lin_object.specs.declared.op.Op.{Op}
 use Rattle.lin_object.specs.declared.reply.Reply.{Reply}
 use Rattle.lin_object.specs.declared.state.ObjState.{ObjState}
@@ -21,3 +21,7 @@ module _ (p : Problem ObjState Op Reply) where
   -- The call returned with an item that no call had put there by then: each that puts it there was called after that.
   abbrev pub CameTooEarly : ℕ → Type 0
   CameTooEarly z = (v : ℤ) × TookItem z v × ((a : ℕ) → AddsItem a v → Before p z a)
+
+  -- Two calls returned with one item, and no two calls put it there.
+  abbrev pub IsTakenTwice : Type 0
+  IsTakenTwice = (v : ℤ) × (y : ℕ) × (z : ℕ) × (y ≢ z) × TookItem y v × TookItem z v × ((a b : ℕ) → AddsItem a v → AddsItem b v → a ≡ b)

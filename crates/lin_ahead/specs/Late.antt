@@ -1,11 +1,16 @@
 -- Pushes that are too late on a stack, by rows of numbers of the calls (this project's own).
 use Rattle.std.specs.Prelude.{◌≡◌, ℕ, ◌<◌, Bool, true, false, Some, List, [], ◌∷◌, ◌++◌, ◌⊎◌, slice_get}
+use Rattle.lin_object.specs.declared.op.Op.{Op}
+use Rattle.lin_object.specs.declared.reply.Reply.{Reply}
+use Rattle.lin_object.specs.declared.state.ObjState.{ObjState}
 use Rattle.lin_history.specs.declared.problems.problem.ProblemCall.{ProblemCall}
 use Rattle.lin_history.specs.Problems.Problem.{Problem}
 use Rattle.lin_history.specs.Problems.Lists.{In}
+use Rattle.lin_history.specs.Problems.Precedence.{Before}
 use Rattle.lin_history.specs.Problems.Continuations.{has}
 use Rattle.lin_history.specs.Problems.Linearizations.{IsLinearization}
 use Rattle.lin_ahead.specs.declared.late_pushes.LateRows.{LateRows}
+use Rattle.lin_ahead.specs.Numbers.{ReturnsAt}
 
 -- The call, which is outside the set, returned at this event.
 abbrev pub ReturnsOutside : {State Op Reply : Type 0} → Problem State Op Reply → List Bool → ℕ → ℕ → Type 0
@@ -41,3 +46,12 @@ IsLate p late set b = (m : ℕ) × IsDeadline p late set b m × ((chain : List �
 -- No call of a linearization is late, where the set is that of the calls before it.
 abbrev pub NoneIsLate : {State Op Reply : Type 0} → Problem State Op Reply → LateRows → Type 0
 NoneIsLate p late = (l early rest : List ℕ) (b : ℕ) (set : List Bool) → IsLinearization p l → l ≡ early ++ b ∷ rest → ((c : ℕ) → (has set c ≡ true → In c early) × (In c early → has set c ≡ true)) → IsLate p late set b → ⊥
+
+-- Call z found the stack empty, or popped the item of a push that returned before push b was called.
+abbrev pub FindsUnder : {State Op Reply : Type 0} → Problem State Op Reply → LateRows → ℕ → ℕ → Type 0
+FindsUnder p late b z = (slice_get late.found_empty.items z ≡ Some true) ⊎ ((a : ℕ) × (slice_get late.poppers.items a ≡ Some (Some z)) × Before p a b)
+
+-- Push b returned before a call was called that found what is under its item, and the item was popped by a call that was called
+-- after that one returned.
+abbrev pub IsCrossed : Problem ObjState Op Reply → LateRows → ℕ → Type 0
+IsCrossed p late b = (z : ℕ) × (m : ℕ) × Before p b z × ReturnsAt p z m × IsPoppedAfter late b m × FindsUnder p late b z

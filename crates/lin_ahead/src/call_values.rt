@@ -9,7 +9,7 @@ pub(crate) struct CallValues {
     pub found: Option<usize>,
     /// The value that it writes, where it does.
     pub written: Option<usize>,
-    /// The value that has to be there for it to write, where its reply does not tell whether it wrote.
+    /// The value that has to be there for it to write, where its reply does not show whether it wrote.
     pub wanted: Option<usize>,
 }
 

@@ -1,4 +1,4 @@
-//! What the calls on a queue tell of each item, by one pass over them.
+//! What the calls on a queue show of each item, by one pass over them.
 
 ghost use Rattle.std.specs.Prelude.{◌≡◌, ◌≢◌, ℤ, Some, IfOk, OnOk};
 ghost use Rattle.std.specs.Ordering.{int_eq};
@@ -30,7 +30,7 @@ fn note(items: &mut IndexMap<i64, ItemCalls>, item: i64, told: ItemCalls) -> Res
     Ok(())
 }
 
-// Adds what the call tells of its item.
+// Adds what the call shows of its item.
 fn add_call(
     items: &mut IndexMap<i64, ItemCalls>,
     call: &ProblemCall<Op, Reply>,
@@ -45,7 +45,7 @@ fn add_call(
     note(items, item, told)
 }
 
-/// What the calls tell of each item. `AllocError` where memory was refused.
+/// What the calls show of each item. `AllocError` where memory was refused.
 pub(crate) fn told_by_calls(
     alloc: Global,
     calls: &[ProblemCall<Op, Reply>],

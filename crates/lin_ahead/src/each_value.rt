@@ -1,4 +1,4 @@
-//! What the calls on a register tell of each value, by one pass over them.
+//! What the calls on a register show of each value, by one pass over them.
 
 ghost use Rattle.std.specs.Prelude.{◌≡◌, ◌≢◌, ℤ, Some, IfOk, OnOk};
 ghost use Rattle.std.specs.Ordering.{int_eq};
@@ -34,7 +34,7 @@ fn note(
     Ok(())
 }
 
-// Adds what the call tells of the value that it may write.
+// Adds what the call shows of the value that it may write.
 fn add_writer(
     values: &mut IndexMap<i64, ValueCalls>,
     call: &ProblemCall<Op, Reply>,
@@ -49,7 +49,7 @@ fn add_writer(
     note(values, value, told)
 }
 
-// Adds what the call tells of the value that it found.
+// Adds what the call shows of the value that it found.
 fn add_finder(
     values: &mut IndexMap<i64, ValueCalls>,
     call: &ProblemCall<Op, Reply>,
@@ -64,7 +64,7 @@ fn add_finder(
     note(values, value, told)
 }
 
-// Adds what the call tells of each value.
+// Adds what the call shows of each value.
 fn add_call(
     values: &mut IndexMap<i64, ValueCalls>,
     call: &ProblemCall<Op, Reply>,
@@ -76,7 +76,7 @@ fn add_call(
     add_finder(values, call)
 }
 
-/// What the calls tell of each value. `AllocError` where memory was refused.
+/// What the calls show of each value. `AllocError` where memory was refused.
 pub(crate) fn values_told(
     alloc: Global,
     calls: &[ProblemCall<Op, Reply>],

@@ -1,4 +1,4 @@
-//! A first search: it passes over calls that are known to begin no completion, and tells nothing of longest runs.
+//! A first search: it passes over calls that are known to begin no completion, and says nothing of longest runs.
 ghost use Rattle.std.specs.Prelude.{◌≡◌, ℕ, ◌+◌, ◌<◌, ◌^◌, ◌++◌, ◌∷◌, [], List, Option, Some, None, length, IfOk, IfSome, IfNone, IsTrue};
 ghost use Rattle.lin_ahead.specs.AnyProblem.{any_problem};
 ghost use Rattle.lin_history.specs.Problems.Configurations.{IsReachable, IsRefuted};
@@ -8,7 +8,7 @@ ghost use Rattle.lin_search.specs.CallSet.{with_call, lifted_set};
 ghost use Rattle.lin_search.specs.Entries.{IsMinimal, IsLeastMinimal};
 ghost use Rattle.lin_ahead.specs.FirstAnswer.{IsFirstAnswer};
 ghost use Rattle.lin_ahead.specs.Behind.{IsRightAhead};
-ghost use Rattle.lin_ahead.specs.FirstProgress.{BeginsNone, IsFirstProgress, IsFirstTurn, IsFirstLifted, IsFirstStep, IsFirstVisit, left_to_try};
+ghost use Rattle.lin_ahead.specs.FirstProgress.{BeginsNone, ComesAfter, IsPassed, IsFirstProgress, IsFirstTurn, IsFirstLifted, IsFirstStep, IsFirstVisit, left_to_try};
 ghost use Rattle.lin_search.specs.NextCall.{IsNext, HasEveryCompleted};
 ghost use Rattle.lin_search.specs.Path.{calls_of};
 ghost use Rattle.lin_search.specs.Progress.{bound};
@@ -18,6 +18,7 @@ use crate::calls_in_turn::CallsInTurn;
 use crate::finders::Finders;
 use crate::first_answer::FirstAnswer;
 use crate::held_state::held_until;
+use crate::identical_calls::{changes_nothing, stands_for};
 use crate::late_pushes::is_late;
 use crate::look_ahead::{KnownAhead, is_empty};
 use crate::needed_calls::{left_out, needed_in_turn};
@@ -31,12 +32,12 @@ use crate::taker_hints::TakerHints;
 use crate::takers::{After, lacks_takers};
 use lin_history::{Order, Problem, ProblemCall};
 use lin_object::{AnyObject, ObjState, Op, Reply, lawful};
-use lin_search::{Config, Frame, Longest, Path};
+use lin_search::{Config, Frame, Longest, Path, repeated_calls};
 use std::alloc::{AllocError, Global};
 use std::ops::ControlFlow;
 
 // The state of a first search: its path, what it has refuted, the calls by how early they are needed, those that are owed
-// a reply, and how many lifts were made. Of longest continuations it tells nothing: those of its frames are left at none.
+// a reply, and how many lifts were made. Of longest continuations it says nothing: those of its frames are left at none.
 #[derive(Drop)]
 struct FirstSearch<'p> {
     alloc: Global,
@@ -48,12 +49,13 @@ struct FirstSearch<'p> {
     stack: StackHints,
     takers: TakerHints,
     sums: SumHints,
+    repeated: Vec<usize>,
     lifts: u64,
 }
 
 impl<'p> FirstSearch<'p> {
-    // Takes the frame's call, which was lifted last, back, and goes on after it. The state that the call led to comes into
-    // the frame.
+    // Takes the frame's call, which was lifted last, back, and goes on after it: behind a call that changes nothing no other one
+    // need be tried. The state that the call led to comes into the frame.
     fn leave(&mut self, frame: &mut Frame<AnyObject>) -> Result<Option<usize>, AllocError>
         requires lifted { lifted_set (any_problem
             self.old.path.entries.problem) self.old.path.entries.lifted
@@ -75,9 +77,8 @@ impl<'p> FirstSearch<'p> {
             self.new.path.entries.lifted ≡ self.new.path.config.lifted) }
         ensures state { IfOk result (λ next. self.new.path.config.state ≡ frame.old.state) }
         ensures after { IfOk result (λ next. frame.new.state ≡ self.old.path.config.state) }
-        ensures candidate { IfOk result (λ next. IsLeastMinimal
-            (any_problem self.old.path.entries.problem)
-            self.new.path.config.lifted (frame.old.call + 1) next) }
+        ensures candidate { IfOk result (ComesAfter (any_problem self.old.path.entries.problem)
+            self.new.path.config.lifted frame.old.call) }
     {
         self.path.unlift(frame)?;
         self.needed.unlifted(frame.call());
@@ -86,6 +87,9 @@ impl<'p> FirstSearch<'p> {
         self.stack.unlifted(frame.call());
         self.takers.unlifted(frame.call());
         self.sums.unlifted(frame.call());
+        if changes_nothing(self.path.problem(), frame.call()) {
+            return Ok(None);
+        }
         Ok(self.path.after(frame.call(), Longest::none()).candidate)
     }
 
@@ -311,6 +315,25 @@ impl<'p> FirstSearch<'p> {
         }
     }
 
+    // Whether an identical call that is left stands for the call: then that one was tried here before, and begins no completion.
+    fn repeats_one_left(&self, call: usize) -> bool
+        requires reachable { IsReachable (any_problem self.now.path.entries.problem)
+            self.now.path.config.lifted self.now.path.config.state }
+        requires passed { IsPassed (any_problem self.now.path.entries.problem)
+            self.now.path.config.lifted self.now.path.config.state call }
+        ensures { IsTrue result → BeginsNone (any_problem self.now.path.entries.problem)
+            self.now.path.config.lifted self.now.path.config.state call }
+    {
+        lawful::<AnyObject>();
+        let Some(earlier) = self.repeated.get(call) else {
+            return false;
+        };
+        if self.path.config().has(*earlier) {
+            return false;
+        }
+        stands_for(self.path.problem(), *earlier, call)
+    }
+
     // The state that the call, which is minimal, leads to. `None` where no completion begins with the call: where that is
     // known ahead, or it can't follow.
     fn follow(&self, ahead: &KnownAhead, call: usize) -> Result<Option<ObjState>, AllocError>
@@ -320,6 +343,8 @@ impl<'p> FirstSearch<'p> {
             self.now.path.entries.problem) self.now.path.config.lifted self.now.path.config.state }
         requires minimal { IsMinimal (any_problem
             self.now.path.entries.problem) self.now.path.config.lifted call }
+        requires passed { IsPassed (any_problem self.now.path.entries.problem)
+            self.now.path.config.lifted self.now.path.config.state call }
         ensures next { IfOk result (λ answer. IfSome answer
             (λ t. IsNext (any_problem self.now.path.entries.problem)
             self.now.path.config.lifted self.now.path.config.state call t)) }
@@ -330,7 +355,7 @@ impl<'p> FirstSearch<'p> {
             (any_problem self.now.path.entries.problem)
             self.now.path.config.lifted self.now.path.config.state call)) }
     {
-        if self.begins_none(ahead, call)? {
+        if self.repeats_one_left(call) || self.begins_none(ahead, call)? {
             return Ok(None);
         }
         let Some(state) = self.path.next_state(call)? else {
@@ -515,6 +540,7 @@ struct Hints {
     stack: StackHints,
     takers: TakerHints,
     sums: SumHints,
+    repeated: Vec<usize>,
 }
 
 // What the search of the problem goes by. It is made in a function of its own, where no path is dropped if memory is refused.
@@ -530,14 +556,16 @@ fn hints_of(
         stack: StackHints::new(alloc, problem, &ahead.late)?,
         takers: TakerHints::new(alloc, calls_on_queue(problem, ahead), ahead)?,
         sums: SumHints::new(alloc, problem, ahead)?,
+        repeated: repeated_calls(alloc, problem)?,
     })
 }
 
 /// The search from the root that only asks whether there is a linearization, and for the least one (this project's
-/// own). It makes at most so many lifts. It passes over each call that needs one that is not lifted, before a state is made,
-/// each push that is known to be too late, each pending call that would get a reply which is owed to another, and each call that
-/// leaves too few dequeues or pops for what must be taken out of a queue or off a stack; and it keeps of a refuted configuration only that it is
-/// refuted. So it may meet far fewer configurations than `search`, and what it keeps is of no use to that one.
+/// own). It makes at most so many lifts. It passes over each call that repeats one which is not lifted,
+/// and each that needs one which is not lifted, before a state is made; each push that is known to be too late, each pending call
+/// that would get a reply which is owed to another, and each call that leaves too few dequeues or pops for what must be taken
+/// out of a queue or off a stack. After a call that changes nothing it tries no other. It keeps of a refuted configuration only
+/// that it is refuted. So it may meet far fewer configurations than `search`, and what it keeps is of no use to that one.
 ///
 /// `Found` with the least linearization; `Refuted` where there is none; `Exhausted` where as many lifts were made and
 /// another was to be made. `AllocError` where memory was refused.
@@ -570,6 +598,7 @@ pub fn search_first(
         stack,
         takers,
         sums,
+        repeated,
     } = hints;
     let mut search = FirstSearch {
         alloc,
@@ -581,6 +610,7 @@ pub fn search_first(
         stack,
         takers,
         sums,
+        repeated,
         lifts: 0,
     };
     search.go(ahead, lifts)

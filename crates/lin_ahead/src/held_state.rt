@@ -1,4 +1,4 @@
-//! Calls that must stand before the state changes.
+//! Calls that must come before the state changes.
 
 ghost use Rattle.std.specs.Prelude.{◌≡◌, ◌<◌, length, IfOk, IfSome, IsTrue};
 ghost use Rattle.lin_history.specs.Problems.LegalLists.{next};
@@ -52,7 +52,7 @@ fn can_follow<O: SeqObject>(
     }
 }
 
-// Whether the configuration's state is held until the other call stands: this call, if it changes the state, begins no completion.
+// Whether the configuration's state is held until the other call is: this call, if it changes the state, begins no completion.
 fn waits_for<O: SeqObject>(
     alloc: Global,
     problem: &Problem<O>,

@@ -14,16 +14,16 @@ use lin_history::{Problem, ProblemCall};
 use lin_object::{AnyObject, ObjState, Op, Reply};
 use std::alloc::{AllocError, Global};
 
-// The item that the operation puts into a queue or onto a stack.
-fn added_by(op: &Op) -> Option<i64> {
+/// The item that the operation puts into a queue or onto a stack.
+pub(crate) fn added_by(op: &Op) -> Option<i64> {
     match op {
         Op::Enqueue(item) | Op::Push(item) => Some(*item),
         _ => None,
     }
 }
 
-// Whether the call puts the item into a queue or onto a stack.
-fn adds(problem: &Problem<AnyObject>, call: usize, item: i64) -> bool
+/// Whether the call puts the item into a queue or onto a stack.
+pub(crate) fn adds(problem: &Problem<AnyObject>, call: usize, item: i64) -> bool
     requires { call < length problem.now.calls }
     ensures { AddsItem (any_problem problem.now) call item → IsTrue result }
 {
@@ -46,8 +46,8 @@ fn item_popped(problem: &Problem<AnyObject>, call: usize) -> Option<i64>
     }
 }
 
-// The item that the call returned with, from a queue or a stack that starts empty.
-fn item_out(problem: &Problem<AnyObject>, call: usize) -> Option<i64>
+/// The item that the call returned with, from a queue or a stack that starts empty.
+pub(crate) fn item_out(problem: &Problem<AnyObject>, call: usize) -> Option<i64>
     requires { call < length problem.now.calls }
     ensures { IfSome result (TookItem (any_problem problem.now) call) }
 {

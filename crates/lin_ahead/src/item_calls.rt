@@ -1,4 +1,4 @@
-//! What the calls on a queue tell of one item.
+//! What the calls on a queue show of one item.
 
 ghost use Rattle.std.specs.Prelude.{◌≡◌};
 ghost use Rattle.lin_ahead.specs.ItemCalls.{one_more, item_of, with_call, nothing_told, goes_in_once, pending_at, least_pending};
@@ -20,7 +20,7 @@ pub(crate) enum Callers {
     Several,
 }
 
-/// What the calls on a queue tell of one item.
+/// What the calls on a queue show of one item.
 #[derive(Clone, Copy, Debug)]
 pub(crate) struct ItemCalls {
     /// How many calls put it in.
@@ -76,7 +76,7 @@ pub(crate) fn least_pending(calls: &[ProblemCall<Op, Reply>]) -> u64
 }
 
 impl ItemCalls {
-    /// What no call tells.
+    /// What no call shows.
     pub(crate) fn nothing() -> Self
         ensures { result ≡ nothing_told }
     {

@@ -178,8 +178,8 @@ fn is_returned_before<O: SeqObject>(problem: &Problem<O>, call: usize, event: u6
     }
 }
 
-// The event at which, or later, the call was called that pops the item of the push.
-fn popped_from(late: &LateRows, push: usize) -> u64
+/// The event at which, or later, the call was called that pops the item of the push.
+pub(crate) fn popped_from(late: &LateRows, push: usize) -> u64
     ensures { (result ≡ 0) ⊎ (slice_get late.now.from.items push ≡ Some result) }
 {
     match late.from.get(push) {

@@ -1,16 +1,17 @@
-//! What the calls of a queue, a stack, a register, a counter or one key of a map tell before any search, and a first search that goes by it
+//! What the calls of a queue, a stack, a register, a counter or one key of a map show before any search, and a first search that goes by it
 //! (this project's own).
 //!
-//! - `item_calls`: what the calls on a queue tell of one item: how many put it in, and when it was taken out; `each_item`: the
+//! - `item_calls`: what the calls on a queue show of one item: how many put it in, and when it was taken out; `each_item`: the
 //!   same of each item, by one pass over the calls; `numbers`: the two numbers of a call.
-//! - `value_calls`: what the calls on a register tell of one value: how many may write it, and when those that wrote or found
+//! - `value_calls`: what the calls on a register show of one value: how many may write it, and when those that wrote or found
 //!   it returned and were called; `each_value`: the same of each value, by one pass; `value_rows`: the rows of a register;
 //!   `needed_pairs`: two calls that need each other; `call_values`: the values of each call by numbers.
 //! - `key_value`: the calls of a map on one key, as calls of a register that holds the key's value.
 //! - `stack_rows`: the rows of a stack, whose calls are read as those on a queue.
 //! - `sum_rows`: the limits of a counter's `get`s, by one pass over the events for each sum.
 //! - `look_ahead`: what is known ahead of a whole problem; `impossible_items`: items that a call returned with before any call
-//!   put them there.
+//!   put them there; `taken_twice`: items that two calls returned with, though one put them there; `crossed_pushes`: items that
+//!   lie above one which is popped first.
 //! - `first_search`: a search that passes over calls that need one left out, that would take a reply which is owed to
 //!   another, that are too late, that would change a state which is held, or that leave too few takers; `needed_calls`: the calls by how early they are needed;
 //!   `owed_replies`: the replies that are owed; `calls_in_turn`: calls in an order, and the first that is not lifted;
@@ -19,18 +20,21 @@
 //!   `sum_tree`: the room that each `get` leaves;
 //!   `takers`: calls that leave too few dequeues for what must be taken out of a queue; `stack_takers`: the same of pops and a
 //!   stack; `taker_hints`: which calls to ask of;
-//!   `held_state`: calls until which the state is held; `finders`: the calls that found each value, in turn; `refuted_set`:
+//!   `held_state`: calls until which the state is held; `identical_calls`: calls that an identical one stands for, or that come
+//!   behind one that changes nothing; `finders`: the calls that found each value, in turn; `refuted_set`:
 //!   what it has refuted; `first_answer`: what it answers.
 #![tactic(auto)]
 
 mod call_values;
 mod calls_in_turn;
+mod crossed_pushes;
 mod each_item;
 mod each_value;
 mod finders;
 mod first_answer;
 mod first_search;
 mod held_state;
+mod identical_calls;
 mod impossible_items;
 mod item_calls;
 mod key_value;
@@ -48,14 +52,17 @@ mod sum_hints;
 mod sum_rows;
 mod sum_tree;
 mod sums;
+mod taken_twice;
 mod taker_hints;
 mod takers;
 mod value_calls;
 mod value_rows;
 
+pub use crossed_pushes::some_push_crosses;
 pub use first_answer::FirstAnswer;
 pub use first_search::search_first;
 pub use impossible_items::some_came_too_early;
 pub use late_pushes::LateRows;
 pub use look_ahead::{KnownAhead, known_ahead};
 pub use sum_rows::{SumLimit, SumRows};
+pub use taken_twice::some_was_taken_twice;

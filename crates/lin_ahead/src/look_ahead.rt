@@ -1,4 +1,4 @@
-//! What the calls of a queue's, a stack's, a register's, a counter's or a map's problem tell before any search: which calls need
+//! What the calls of a queue's, a stack's, a register's, a counter's or a map's problem show before any search: which calls need
 //! which, which are owed their replies, which are too late or too much, and until which of them the state is held.
 
 ghost use Rattle.std.specs.Prelude.{◌≡◌, ◌↔◌, ◌⊎◌, ℤ, [], false, Some, IfOk, IfSome, IsSome, IsTrue, map};
@@ -131,7 +131,7 @@ pub struct KnownAhead {
     pub taken: Vec<u64>,
     /// The pending calls that may take what a call puts in, whatever it is.
     pub takers: Vec<usize>,
-    /// Of a queue or a stack that starts empty, what its calls tell of each item.
+    /// Of a queue or a stack that starts empty, what its calls show of each item.
     pub(crate) items: IndexMap<i64, ItemCalls>,
     /// Of a stack, its calls read as those on a queue.
     pub(crate) on_queue: Vec<ProblemCall<Op, Reply>>,
@@ -165,7 +165,7 @@ impl fmt::Debug for KnownAhead {
     }
 }
 
-// What these calls tell, on a queue that starts empty.
+// What these calls show, on a queue that starts empty.
 fn told_of_queue(alloc: Global, calls: &[ProblemCall<Op, Reply>]) -> Result<KnownAhead, AllocError>
     ensures by { IfOk result (λ ahead. ahead.needs.by ≡ by_row (told calls.now) calls.now) }
     ensures from { IfOk result (λ ahead. ahead.needs.from
@@ -207,7 +207,7 @@ fn is_empty_map(alloc: Global, state: &ObjState) -> bool
     *state == start_state(alloc, Kind::Map, 0)
 }
 
-// What these calls tell, on an empty map, where all are on one key.
+// What these calls show, on an empty map, where all are on one key.
 fn told_of_key(
     alloc: Global,
     calls: &[ProblemCall<Op, Reply>],
@@ -225,7 +225,7 @@ fn told_of_key(
 }
 
 /// What is known of a problem before any search: of one that starts with an empty queue, an empty stack, or with a register
-/// or a counter, what its calls tell by real time, and all of that (as `IsToldAhead`, `IsToldOfStack`, `IsToldOfRegister` and
+/// or a counter, what its calls show by real time, and all of that (as `IsToldAhead`, `IsToldOfStack`, `IsToldOfRegister` and
 /// `IsToldOfCounter` say); of one that
 /// starts with an empty map and has calls on one key alone, what they tell as calls of a register that holds the key's value.
 /// `None` of every other problem. `AllocError` where memory was refused. (This project's own.)

@@ -44,7 +44,7 @@ fn sort_by_need(numbers: &mut Vec<CallNumbers>) -> Result<(), AllocError>
     Ok(())
 }
 
-// Of two calls in order the later one, if others than itself may stand between its numbers; else the earlier one.
+// Of two calls in order the later one, if others than itself may be between its numbers; else the earlier one.
 fn last_of(last: CallNumbers, next: CallNumbers) -> CallNumbers
     ensures { result ≡ last_of last next }
 {

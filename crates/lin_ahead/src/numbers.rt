@@ -1,4 +1,4 @@
-//! What is told of a call by what the calls tell of its item: its numbers, and whether it is owed its reply.
+//! What is told of a call by what the calls show of its item: its numbers, and whether it is owed its reply.
 
 ghost use Rattle.std.specs.Prelude.{◌≡◌};
 ghost use Rattle.std.specs.Ordering.{int_eq};

@@ -41,8 +41,8 @@ struct Returned {
     call: usize,
 }
 
-// When the call returned; beyond all events where it did not.
-fn returned_at<O: SeqObject>(problem: &Problem<O>, call: usize) -> u64 {
+/// When the call returned; beyond all events where it did not.
+pub(crate) fn returned_at<O: SeqObject>(problem: &Problem<O>, call: usize) -> u64 {
     if call >= problem.len() {
         return BEYOND;
     }

@@ -1,4 +1,4 @@
-//! What the calls on a stack tell: as those on a queue would, with a push read as what puts an item in and a pop as what takes
+//! What the calls on a stack show: as those on a queue would, with a push read as what puts an item in and a pop as what takes
 //! one.
 
 ghost use Rattle.std.specs.Prelude.{◌≡◌, ℕ, ℤ, [], false, Some, length, replicate, IfOk, IfSome, IsTrue};
@@ -185,7 +185,7 @@ fn no_needs(alloc: Global, calls: usize) -> Result<NeedRows, AllocError>
     Ok(NeedRows::new(by, from))
 }
 
-/// What these calls tell, on a stack that starts empty: which are owed their replies, and by which numbers pushes are too late.
+/// What these calls show, on a stack that starts empty: which are owed their replies, and by which numbers pushes are too late.
 pub(crate) fn told_of_stack(
     alloc: Global,
     calls: &[ProblemCall<Op, Reply>],

@@ -1,5 +1,5 @@
 //! Of each `get` of a counter how far the calls before it can have added: by those that returned before it was called, which
-//! stand before it, and those that were called before it returned, which may.
+//! come before it, and those that were called before it returned, which may.
 
 ghost use Rattle.std.specs.Prelude.{◌≡◌, ℕ, ◌≤◌, ◌^◌, ℤ, true, false, [], Some, length, replicate, slice_get, IfOk, IfSome, IfNone};
 ghost use Rattle.lin_object.specs.declared.op.Op.TheVariants.{Get};
@@ -16,7 +16,7 @@ use lin_history::{NeedRows, Problem, ProblemCall, ProblemEvent};
 use lin_object::{AnyObject, Op, Reply};
 use std::alloc::{AllocError, Global};
 
-/// Between which two heights a completed `get` leaves room for calls that need not stand before it. A height is a number counted
+/// Between which two heights a completed `get` leaves room for calls that need not come before it. A height is a number counted
 /// in a direction from 2^63 the other way, so that none is negative.
 #[derive(Clone, Copy, Debug)]
 pub struct SumLimit {
@@ -113,8 +113,8 @@ fn turn_of(event: &ProblemEvent, returns: bool) -> Turn
     }
 }
 
-// For each call the sum of what those calls add in the direction whose returns stand before its call event; or, where call
-// events are counted, of those whose call events stand before its return.
+// For each call the sum of what those calls add in the direction whose returns come before its call event; or, where call
+// events are counted, of those whose call events come before its return.
 fn sums_at(
     alloc: Global,
     problem: &Problem<AnyObject>,
@@ -196,7 +196,7 @@ fn both_ways(alloc: Global, problem: &Problem<AnyObject>, start: i64) -> Result<
     })
 }
 
-/// What the calls tell, on a counter that starts with the number: the limits of its `get`s.
+/// What the calls show, on a counter that starts with the number: the limits of its `get`s.
 pub(crate) fn told_of_counter(
     alloc: Global,
     problem: &Problem<AnyObject>,

@@ -14,7 +14,7 @@ struct Node {
     place: usize,
 }
 
-// Of two neighbours, the second of which stands behind the first.
+// Of two neighbours, the second of which comes after the first.
 fn joined(first: Node, second: Node) -> Node {
     let through = first.least.saturating_add(second.sum);
     let (least, place) = if through < second.least {
@@ -47,7 +47,7 @@ pub(crate) struct SumTree {
 }
 
 impl SumTree {
-    // The tree over these rooms.
+    // The tree over these places.
     pub(crate) fn new(alloc: Global, rooms: &[i64]) -> Result<Self, AllocError> {
         let mut levels = 0;
         let mut leaves: usize = 1;

@@ -33,7 +33,7 @@ fn precedes(problem: &Problem<AnyObject>, a: usize, b: usize) -> bool
     }
 }
 
-// What the call adds if it need not stand before the `get`; 0 if it must.
+// What the call adds if it need not come before the `get`; 0 if it must.
 fn free_share(problem: &Problem<AnyObject>, asked: Asked, call: usize) -> u64
     ensures { IsFreeShare (any_problem problem.now) asked.up asked.get call result }
 {
@@ -101,7 +101,7 @@ fn range_share(
     sum
 }
 
-// What is known to be added by calls that need not stand before the `get` but do, once the call is lifted.
+// What is known to be added by calls that need not come before the `get` but do, once the call is lifted.
 fn load(
     problem: &Problem<AnyObject>,
     hints: &SumHints,

@@ -169,7 +169,7 @@ fn needed_from(alloc: Global, by: &[u64]) -> Result<Vec<Option<usize>>, AllocErr
     Ok(row)
 }
 
-// The call that stands there in the row.
+// The call that is there in the row.
 fn at(row: &[Option<usize>], place: usize) -> Option<usize> {
     *row.get(place)?
 }

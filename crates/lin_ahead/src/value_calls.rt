@@ -1,4 +1,4 @@
-//! What the calls on a register tell of one value.
+//! What the calls on a register show of one value.
 
 ghost use Rattle.std.specs.Prelude.{◌≡◌};
 ghost use Rattle.lin_ahead.specs.Register.{value_written, value_found};
@@ -8,7 +8,7 @@ use crate::item_calls::{BEYOND, Callers, one_more};
 use lin_history::ProblemCall;
 use lin_object::{Op, Reply};
 
-/// What the calls on a register tell of one value.
+/// What the calls on a register show of one value.
 #[derive(Clone, Copy, Debug)]
 pub(crate) struct ValueCalls {
     /// How many calls may write it.
@@ -31,7 +31,7 @@ pub(crate) fn value_written(call: &ProblemCall<Op, Reply>) -> Option<i64>
     }
 }
 
-/// The value that the call found, as its reply tells: it read it, or is a `cas` from it that returned true.
+/// The value that the call found, as its reply shows: it read it, or is a `cas` from it that returned true.
 pub(crate) fn value_found(call: &ProblemCall<Op, Reply>) -> Option<i64>
     ensures { result ≡ value_found call.now.op call.now.returned }
 {
@@ -43,7 +43,7 @@ pub(crate) fn value_found(call: &ProblemCall<Op, Reply>) -> Option<i64>
 }
 
 impl ValueCalls {
-    /// What no call tells.
+    /// What no call shows.
     pub(crate) fn nothing() -> Self
         ensures { result ≡ no_value_told }
     {

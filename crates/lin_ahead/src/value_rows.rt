@@ -1,4 +1,4 @@
-//! What is told of each call on a register by what the calls tell of its values: its numbers, and whether it found a single
+//! What is told of each call on a register by what the calls show of its values: its numbers, and whether it found a single
 //! value.
 
 ghost use Rattle.std.specs.Prelude.{◌≡◌, [], Some, IfOk, map};
@@ -22,7 +22,7 @@ use lin_history::{NeedRows, ProblemCall};
 use lin_object::{Op, Reply};
 use std::alloc::{AllocError, Global};
 
-// What the calls tell of each value, and the value that the register starts with.
+// What the calls show of each value, and the value that the register starts with.
 #[derive(Drop)]
 struct Values {
     told: IndexMap<i64, ValueCalls>,
@@ -218,7 +218,7 @@ fn value_numbers(
     })
 }
 
-/// What these calls tell, on a register that starts with this value. `AllocError` where memory was refused.
+/// What these calls show, on a register that starts with this value. `AllocError` where memory was refused.
 pub(crate) fn told_of_register(
     alloc: Global,
     start: &i64,

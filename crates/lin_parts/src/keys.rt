@@ -4,7 +4,7 @@
 //! - `key_numbers`: which key each call has.
 //! - `calls_of_key`, `key_calls`: the calls of one key, and of each.
 //! - `key_parts`: their problems.
-//! - `part_order`, `part_orders`: what searches of one of them tell, and of all; `part_answer`: what such a search answers.
+//! - `part_order`, `part_orders`: what searches of one of them show, and of all; `part_answer`: what such a search answers.
 //! - `merge`: the orders of the keys, merged.
 //! - `key_search`: the search by key; `key_answer`: what it answers.
 

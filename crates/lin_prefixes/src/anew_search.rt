@@ -13,25 +13,28 @@ use crate::crossed_calls::some_cross;
 use crate::part_answer::PartAnswer;
 use crate::part_search::PartSearch;
 use crate::parts_anew::{is_loose_prefix, is_part, made_anew};
-use lin_ahead::{FirstAnswer, KnownAhead, known_ahead, search_first, some_came_too_early};
+use lin_ahead::{
+    FirstAnswer, KnownAhead, known_ahead, search_first, some_came_too_early, some_push_crosses,
+    some_was_taken_twice,
+};
 use lin_history::{Problem, ProblemEvent};
 use lin_object::{AnyObject, lawful};
 use lin_parts::{KeyAnswer, search_by_key};
 use lin_search::{Config, NoStop, Outcome, OwnMemo, search};
 use std::alloc::{AllocError, Global};
 
-// How many lifts for each call a search may make at first, and how many times as many each time that it tells nothing.
+// How many lifts for each call a search may make at first, and how many times as many each time that it says nothing.
 const FIRST_LIFTS: u64 = 2;
 
 const GROWTH: u64 = 4;
 
 // How often it is made at most. Where only a bound is asked for, seldom: without it more parts are searched, but each of those
-// tells more.
+// shows more.
 const ROUNDS: usize = 16;
 
 const ROUNDS_FOR_A_BOUND: usize = 2;
 
-// What a first search tells, with what is known ahead.
+// What a first search shows, with what is known ahead.
 fn first_answer(
     alloc: Global,
     part: &Problem<AnyObject>,
@@ -48,7 +51,7 @@ fn first_answer(
     })
 }
 
-// What the outcome of a search tells.
+// What the outcome of a search shows.
 fn told_by(outcome: Outcome) -> PartAnswer
     ensures { result ≡ answer_of outcome }
 {
@@ -60,7 +63,7 @@ fn told_by(outcome: Outcome) -> PartAnswer
     }
 }
 
-// What a search tells that keeps what it refuted.
+// What a search says that keeps what it refuted.
 fn full_answer(
     alloc: Global,
     part: &Problem<AnyObject>,
@@ -75,7 +78,7 @@ fn full_answer(
     Ok(told_by(outcome))
 }
 
-// What a search by key tells, of a map or a set; of another object what a search tells that keeps what it refuted.
+// What a search by key shows, of a map or a set; of another object what a search says that keeps what it refuted.
 fn answer_by_key(
     alloc: Global,
     part: &Problem<AnyObject>,
@@ -90,7 +93,7 @@ fn answer_by_key(
     }
 }
 
-// What a search of so many lifts tells: a first search where something is known ahead.
+// What a search of so many lifts shows: a first search where something is known ahead.
 fn answer_within(
     alloc: Global,
     part: &Problem<AnyObject>,
@@ -106,6 +109,22 @@ fn answer_within(
     }
 }
 
+// Whether some calls cross, of a queue by what they need, and of a stack by what lies on it.
+fn some_calls_cross(
+    alloc: Global,
+    part: &Problem<AnyObject>,
+    ahead: &KnownAhead,
+) -> Result<bool, AllocError>
+    requires { IsRightAhead (any_problem part.now) ahead.now }
+    ensures { IfOk result (λ crossed. IsTrue crossed
+        → (l : List ℕ) → IsLinearization (any_problem part.now) l → ⊥) }
+{
+    if some_push_crosses(alloc, part, ahead)? {
+        return Ok(true);
+    }
+    some_cross(alloc, part, &ahead.needs)
+}
+
 // Whether what is known ahead shows that there is no linearization, without a search.
 fn shows_none(
     alloc: Global,
@@ -119,8 +138,11 @@ fn shows_none(
     if some_came_too_early(alloc, part)? {
         return Ok(true);
     }
+    if some_was_taken_twice(alloc, part)? {
+        return Ok(true);
+    }
     match known {
-        Some(ahead) => some_cross(alloc, part, &ahead.needs),
+        Some(ahead) => some_calls_cross(alloc, part, ahead),
         None => Ok(false),
     }
 }
@@ -135,7 +157,7 @@ pub(crate) struct AnewSearch {
 }
 
 impl AnewSearch {
-    // Searches of parts of this problem, with so many lifts for all of them. Of another problem they tell nothing.
+    // Searches of parts of this problem, with so many lifts for all of them. Of another problem they say nothing.
     pub(crate) fn new(
         alloc: Global,
         problem: &Problem<AnyObject>,

@@ -10,7 +10,7 @@
 //! - `candidate`: the best run that lacks just these calls.
 //! - `by_prefixes`: the longest run, from the last call that a run may have downwards.
 //! - `parts_anew`: parts of a problem, made anew by their events; `anew_search`: searches of them, with a budget of lifts.
-//! - `crossed_calls`: two calls of which each would have to stand before the other.
+//! - `crossed_calls`: two calls of which each would have to come before the other.
 //! - `whole_search`: the search of a whole problem by its prefixes; `whole_answer`: what it answers.
 #![tactic(auto)]
 

@@ -1,7 +1,7 @@
 //! The answers of a search of a part.
 use lin_history::Order;
 
-/// What a search tells of the problem of some calls.
+/// What a search shows of the problem of some calls.
 #[derive(Drop)]
 pub enum PartAnswer {
     /// The least linearization, by the calls' numbers in that problem.

@@ -17,7 +17,7 @@ pub trait PartSearch<O: SeqObject> {
     /// The least linearization of the problem of these calls, by their numbers in that problem; or that it has none; or
     /// nothing. `AllocError` where memory was refused.
     ///
-    /// Conditions: the calls are calls of the problem, and stand in increasing order.
+    /// Conditions: the calls are calls of the problem, and are in increasing order.
     fn least_of_part(
         &mut self,
         alloc: Global,

@@ -129,7 +129,7 @@ fn add_event(
     }
 }
 
-// The problem of these calls, which stand in increasing order, by the events of the whole in the order of their numbers; the
+// The problem of these calls, which are in increasing order, by the events of the whole in the order of their numbers; the
 // returns from the event `until` on are left out. `None` where an event was refused.
 pub(crate) fn made_anew(
     alloc: Global,

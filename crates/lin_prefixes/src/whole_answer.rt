@@ -1,7 +1,7 @@
 //! The answers of a search by prefixes.
 use lin_history::Order;
 
-/// What a search by prefixes tells of a problem.
+/// What a search by prefixes shows of a problem.
 #[derive(Drop)]
 pub enum WholeAnswer {
     /// The least linearization.

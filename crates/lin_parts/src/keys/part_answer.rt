@@ -1,7 +1,7 @@
 //! The answers of searches of parts.
 use lin_history::Order;
 
-/// What a search of a part tells.
+/// What a search of a part shows.
 #[derive(Drop)]
 pub(crate) enum PartAnswer {
     /// The least linearization.
@@ -12,7 +12,7 @@ pub(crate) enum PartAnswer {
     Unknown,
 }
 
-/// What searches of all parts tell.
+/// What searches of all parts show.
 #[derive(Drop)]
 pub(crate) enum PartOrders {
     /// An order of each.

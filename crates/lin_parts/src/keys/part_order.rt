@@ -1,4 +1,4 @@
-//! What searches of one part tell.
+//! What searches of one part show.
 
 ghost use Rattle.std.specs.Prelude.{◌≡◌, ◌≤◌, ℕ, IfOk, IfSome, length};
 ghost use Rattle.lin_ahead.specs.AnyProblem.{any_problem};
@@ -35,7 +35,7 @@ fn budget(calls: usize, for_a_call: u64, more: u64, limit: Option<u64>) -> u64
     }
 }
 
-// What a first search tells, with what is known ahead.
+// What a first search shows, with what is known ahead.
 fn first_answer(
     alloc: Global,
     part: &Problem<AnyObject>,
@@ -53,7 +53,7 @@ fn first_answer(
     })
 }
 
-// What the outcome of a search tells.
+// What the outcome of a search shows.
 fn told_by(outcome: Outcome) -> PartAnswer
     ensures { result ≡ answer_of outcome }
 {
@@ -65,7 +65,7 @@ fn told_by(outcome: Outcome) -> PartAnswer
     }
 }
 
-// What a search tells that keeps what it refuted.
+// What a search says that keeps what it refuted.
 fn full_answer(
     alloc: Global,
     part: &Problem<AnyObject>,
@@ -81,7 +81,7 @@ fn full_answer(
     Ok(told_by(outcome))
 }
 
-// What searches of the part tell: a first search where something is known ahead, and where that tells nothing, one that keeps
+// What searches of the part show: a first search where something is known ahead, and where that says nothing, one that keeps
 // what it refuted.
 fn answer_to(
     alloc: Global,
@@ -113,7 +113,7 @@ fn full_order(alloc: Global, kept: &[usize], order: Order) -> Result<Option<Orde
     }
 }
 
-/// What searches of the part of these calls tell: its least linearization and behind it the pending calls that it lacks, by
+/// What searches of the part of these calls show: its least linearization and behind it the pending calls that it lacks, by
 /// their numbers in the whole; or that it has none; or nothing. `AllocError` where memory was refused.
 pub(crate) fn order_of_part(
     alloc: Global,

@@ -1,4 +1,4 @@
-//! What searches of all parts tell.
+//! What searches of all parts show.
 
 ghost use Rattle.std.specs.Prelude.{◌<◌, ℕ, IfOk, length};
 ghost use Rattle.lin_ahead.specs.AnyProblem.{any_problem};
@@ -14,7 +14,7 @@ use lin_history::Problem;
 use lin_object::AnyObject;
 use std::alloc::{AllocError, Global};
 
-/// What searches of all parts tell, one after another: an order of each, or that one has no linearization, or nothing. It ends
+/// What searches of all parts show, one after another: an order of each, or that one has no linearization, or nothing. It ends
 /// with the first part of which it is not the order that is known. `AllocError` where memory was refused.
 pub(crate) fn orders_of_parts(
     alloc: Global,
