@@ -1,0 +1,4 @@
+pub mod KindLemmas
+pub mod ImageLemmas
+pub mod RenamingLemmas
+pub mod ShownLemmas

@@ -1,0 +1,12 @@
+-- Values that are there or not, and names for values (this project's own).
+use Rattle.std.specs.Prelude.{ℤ, Bool, false, Option, Some, None, if◌then◌else◌}
+use Rattle.std.specs.Ordering.{int_eq}
+
+-- It is this value.
+abbrev pub is_value : Option ℤ → ℤ → Bool
+is_value None v = false
+is_value (Some w) v = int_eq w v
+
+-- The value itself where it is known, and this one in place of all others.
+abbrev pub name_of : (ℤ → Bool) → ℤ → ℤ → ℤ
+name_of known one v = if known v then v else one
