@@ -19,7 +19,7 @@ use std::marker::Model;
 ///
 /// Each call but `new` and `close` takes `&self`, so threads may share a board by reference; each
 /// thread steps with a seat of its own. What two threads do comes in some order, which no contract
-/// tells; every clause holds whatever it is.
+/// shows; every clause holds whatever it is.
 #[derive(Drop)]
 pub struct Board {
     table: Table<(), View, Plan, BoardRule, Global>,
@@ -134,7 +134,7 @@ impl Board {
         }
     }
 
-    /// Takes all seats back and tells what they did together. Each seat came with this board.
+    /// Takes all seats back and returns what they did together. Each seat came with this board.
     /// `SeatsMissing` where fewer seats are there than were made: it gives board and seats back as
     /// they were.
     pub fn close(self, mut seats: Vec<Seat>) -> Result<Tally, SeatsMissing>

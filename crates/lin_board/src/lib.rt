@@ -2,7 +2,7 @@
 //! found.
 //!
 //! The tasks of a `Board` are numbered from 0. A thread steps with a `Seat`: `claim` gives it a task
-//! that no seat was given before, `found` tells that something was found for a claimed task, `least`
+//! that no seat was given before, `found` says that something was found for a claimed task, `least`
 //! asks for the least task told so far, and `close` takes all seats back and gives the `Tally`. No
 //! step waits, and none takes memory once the board is made.
 #![tactic(auto)]

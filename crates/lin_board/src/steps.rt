@@ -30,7 +30,7 @@ pub(crate) fn take_next(
     words.fetch_add::<ClaimStep>(token, NEXT, 1)
 }
 
-// Writes the task into the second word, where it is less than what stands there.
+// Writes the task into the second word, where it is less than what is there.
 pub(crate) fn lower_least(
     words: &Shared<(), View, Plan, BoardRule>,
     token: &mut TableSeat<(), View>,

@@ -1,4 +1,4 @@
-//! What a board tells when it is closed.
+//! What a board shows when it is closed.
 
 ghost use Rattle.std.specs.Prelude.{◌≡◌, ◌≢◌, min, IfSome, IfNone};
 

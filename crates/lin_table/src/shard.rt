@@ -13,7 +13,7 @@ use std::alloc::{AllocError, Global};
 use std::marker::Model;
 
 /// Refuted configurations of one problem, each once. Contracts see the problem, and the pairs of a configuration and
-/// what its longest continuations tell, in order of storing.
+/// what its longest continuations show, in order of storing.
 #[derive(Drop)]
 pub struct Shard<'p, O: SeqObject> {
     memo: OwnMemo<'p, O>,
@@ -46,7 +46,7 @@ impl<'p, O: SeqObject> Shard<'p, O> {
         self.memo.count()
     }
 
-    /// What the longest continuations of the configuration tell: `Some` exactly where the configuration is there and
+    /// What the longest continuations of the configuration show: `Some` exactly where the configuration is there and
     /// the problem that the shard names is the `same` as this one. It takes no memory.
     pub fn look(&self, problem: &Problem<O>, config: &Config<O>) -> Option<Longest>
         ensures refuted { IfSome result (λ longest. IsRefutedWith

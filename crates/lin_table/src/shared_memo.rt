@@ -14,7 +14,7 @@ use lin_history::Problem;
 use lin_object::SeqObject;
 use lin_search::{CallSet, Config, Longest, Memo, Noted};
 
-/// A table with one worker's hand, as the memo of that worker's searches. What other hands store it tells too, so it
+/// A table with one worker's hand, as the memo of that worker's searches. What other hands store it shows too, so it
 /// can't say which configurations it holds. Contracts see the table and the hand.
 ///
 /// To `note` it answers as the table does: `Stranger` exactly where the table names a problem that is not the `same`;

@@ -35,7 +35,7 @@ pub(crate) const MAX_KNOWN: u64 = 4_503_599_627_370_496;
 pub const STORED_BOUND: u64 = 18_014_398_509_481_984;
 
 /// Refuted configurations of one problem, which several threads share. They are kept in shards, each of which one hand
-/// at a time takes out. What was known before the table was made stands in a memo, which all only read. Contracts see
+/// at a time takes out. What was known before the table was made is in a memo, which all only read. Contracts see
 /// which table it is, its problem, what was known, and how many shards it has.
 #[derive(Drop)]
 pub struct Table<'p, O: SeqObject> {
@@ -231,7 +231,7 @@ impl<'p, O: SeqObject> Table<'p, O> {
         }
     }
 
-    /// Takes all hands back and tells how many configurations are stored: those that were known before, and those that
+    /// Takes all hands back and returns how many configurations are stored: those that were known before, and those that
     /// the hands stored. That is below 2^54, and at most the number of the problem's reachable configurations. Each hand
     /// came with this table. `HandsMissing` where fewer hands
     /// are there than were made: it gives table and hands back as they were. It takes no memory.
@@ -299,7 +299,7 @@ impl<'p, O: SeqObject> Table<'p, O> {
         }
     }
 
-    // What the configuration's home tells of it, for a problem that is the same as the table's.
+    // What the configuration's home shows of it, for a problem that is the same as the table's.
     fn look_home(
         &self,
         hand: &mut Hand<O>,
@@ -346,7 +346,7 @@ impl<'p, O: SeqObject> Table<'p, O> {
         }
     }
 
-    /// What the longest continuations of the configuration tell, where it was known before or its shard has it, and the
+    /// What the longest continuations of the configuration show, where it was known before or its shard has it, and the
     /// table's problem is the `same` as this one: then the configuration is refuted in the asker's problem. `None` where
     /// the problem is not the `same`. A shard that is not got within 64 tries has nothing. It takes no memory.
     ///

@@ -31,7 +31,8 @@ const TASKS_EACH: usize = 4;
 /// The verdict is the same for every number of workers and shards and on every schedule; with a limit, which bounds the search
 /// of each task, it may be `Undecided`, and that only where there are more runs than the limit.
 ///
-/// The number stored is always told. It is below 2^54, and there are as many reachable configurations or more.
+/// The number stored is always told. It is below 2^54, and there are as many reachable configurations or more: a search that
+/// takes more than 10,000 steps passes over calls that add nothing (`search_passing_over`).
 /// `CheckFault::Memory` where the calling thread was refused memory: for its search itself, or for 100,000 configurations more
 /// than it could store since, without which a search would take far too long. A worker that was refused memory so leaves its
 /// task to the calling thread, and where no thread can be had the workers work one after another. It may wait: for its workers, which wait

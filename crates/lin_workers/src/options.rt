@@ -14,7 +14,7 @@ pub const MAX_SHARDS: u64 = 256;
 pub const MAX_LIMIT: u64 = 1_000_000_000_000;
 
 /// How a check is run: by how many workers, with how many shards, with which limit on the lifts of each search, and
-/// whether it tells how many configurations were stored. The type keeps each within its range.
+/// whether it shows how many configurations were stored. The type keeps each within its range.
 #[derive(Clone, Copy, PartialEq, Eq, Debug)]
 pub struct Options {
     workers: u64,

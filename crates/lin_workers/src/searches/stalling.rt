@@ -1,4 +1,4 @@
-//! The search of the calling thread by itself, which ends where it comes no further.
+//! The search of the calling thread by itself, which ends where it makes no progress.
 ghost use Rattle.std.specs.Prelude.{◌≡◌, ℕ, IfOk, IfSome};
 ghost use Rattle.lin_history.specs.Problems.Configurations.{IsReachable};
 ghost use Rattle.lin_history.specs.Problems.Problem.{problem_of};
@@ -16,13 +16,13 @@ use lin_search::{CallSet, Memo, NoStop, Outcome};
 use std::alloc::{AllocError, Global};
 use std::sync::atomic::AtomicBool;
 
-// A search stalls at the earliest when so many lifts in a row have come no further.
+// A search stalls at the earliest when so many lifts in a row have made no progress.
 const LIFTS_IN_VAIN: u64 = 500_000;
 
 /// How long the calling thread goes on by itself.
 #[derive(Clone, Copy, Debug)]
 pub enum Patience {
-    /// Until its search stalls: the last 500,000 lifts and the last third of all have come no further.
+    /// Until its search stalls: the last 500,000 lifts and the last third of all have made no progress.
     UntilStalled,
     /// To the end of its search.
     ToTheEnd,
@@ -107,7 +107,7 @@ impl Progress {
         }
     }
 
-    // Whether the search has come no further for long, and for a third of all its lifts.
+    // Whether the search has made no progress for long, and for a third of all its lifts.
     fn has_stalled(&self) -> bool {
         self.in_vain >= LIFTS_IN_VAIN && self.in_vain >= self.lifts / 3
     }

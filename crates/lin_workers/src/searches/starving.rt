@@ -9,7 +9,7 @@ use crate::workers::gathering::was_stopped;
 use crate::workers::scouts::{Scouting, scout};
 use lin_history::Problem;
 use lin_object::SeqObject;
-use lin_search::{Config, Memo, Noted, Outcome, Stop, search};
+use lin_search::{Config, Memo, Noted, Outcome, Stop, search_passing_over};
 use std::alloc::{AllocError, Global};
 use std::sync::atomic::AtomicBool;
 use std::thread::yield_now;
@@ -18,8 +18,8 @@ use std::thread::yield_now;
 // room where the others have none.) Each of them asks the system for memory, which takes some microseconds.
 const PATIENCE: u32 = 100_000;
 
-/// Searches the configuration as `search` does. `AllocError` also where 100,000 notes more were refused memory than were stored
-/// since: a search that can keep nothing any more would take far too long.
+/// Searches the configuration as `search_passing_over` does. `AllocError` also where 100,000 notes more were refused memory
+/// than were stored since: a search that can keep nothing any more would take far too long.
 pub(crate) fn search_unless_starved<O: SeqObject, M: Memo<O>, S: Stop>(
     alloc: Global,
     problem: &Problem<O>,
@@ -39,7 +39,7 @@ pub(crate) fn search_unless_starved<O: SeqObject, M: Memo<O>, S: Stop>(
     let outcome = {
         let mut memo = WatchedMemo::new(memo, Refusals { more: 0 }, &is_starved);
         let mut until = UntilOver::new(stop, &is_starved);
-        search(alloc, problem, config, &mut memo, limit, &mut until)?
+        search_passing_over(alloc, problem, config, &mut memo, limit, &mut until)?
     };
     if !was_stopped(&outcome) {
         return Ok(outcome);

@@ -1,5 +1,5 @@
-//! A memo that watches the search over it, and a stop that ends the search where it tells so. It is a hint: nothing is proved of
-//! what is watched, and nothing that is proved hangs on it.
+//! A memo that watches the search over it, and a stop that ends the search where it says so. It is a hint: nothing is proved of
+//! what is watched, and nothing that is proved depends on it.
 ghost use Rattle.std.specs.Prelude.{◌≡◌};
 
 use lin_history::Problem;
@@ -133,7 +133,7 @@ impl<'a, O: SeqObject, M: Memo<O>, W: Watch + Drop> Memo<O> for WatchedMemo<'a, 
     ghost keeps_problem = { λ a b k p h. M.keeps_problem a.memo.now b.memo.now k.1 p h };
 }
 
-/// The stop of a search over such a memo: it answers soon after the memo tells that the search is to end, and where the stop
+/// The stop of a search over such a memo: it answers soon after the memo says that the search is to end, and where the stop
 /// below answers. Contracts see the stop below.
 #[derive(Drop)]
 pub(crate) struct UntilOver<'a, 'b, S> {
@@ -165,7 +165,7 @@ impl<'a, 'b, S: Stop> Stop for UntilOver<'a, 'b, S> {
     ghost follows = { λ old new. (new.stop.ghost_name ≡ old.stop.ghost_name)
         × S.follows old.stop.now new.stop.now };
 
-    // Once the search is to end, it answers so however often it is asked: the lifts are counted no further.
+    // Once the search is to end, it answers so however often it is asked: the lifts are no longer counted.
     fn ask(&mut self) -> Option<u64> {
         if self.lifts % LIFTS_BETWEEN == 0 && self.is_over.load(SeqCst) {
             return Some(0);

@@ -16,7 +16,7 @@ use std::marker::Model;
 use std::ops::ControlFlow;
 
 // What a scout does at a configuration: whether it tries the calls upwards, which one it tries next, the candidate, and
-// what those before it tell.
+// what those before it show.
 #[derive(Clone, Copy, Drop)]
 pub(crate) struct Position {
     is_up: bool,
@@ -321,7 +321,7 @@ pub struct Scouting {
     pub steps: u64,
 }
 
-/// Scouts from a configuration: a search that tells nothing itself, and hands each configuration that it refutes to the
+/// Scouts from a configuration: a search that says nothing itself, and hands each configuration that it refutes to the
 /// memo, where others find it. It tries the calls of a configuration upwards or downwards, as the directions say, so that
 /// several searches of the same configuration that share a memo do not all go the same way. It ends when all below the
 /// configuration is refuted, at a completion, where the stop answers, or after the steps. `AllocError` where memory was
@@ -427,7 +427,7 @@ fn enter<O: SeqObject>(entries: &Entries<'_, O>, is_up: bool) -> Position
     }
 }
 
-// How it goes on after the call, which is minimal, with what the calls through it tell.
+// How it goes on after the call, which is minimal, with what the calls through it show.
 fn after<O: SeqObject>(
     entries: &Entries<'_, O>,
     is_up: bool,
@@ -450,7 +450,7 @@ fn after<O: SeqObject>(
     }
 }
 
-// What the calls through the frame's tell, where it led to a configuration that is refuted with this longest.
+// What the calls through the frame's show, where it led to a configuration that is refuted with this longest.
 fn with_turn<O: SeqObject>(frame: &Frame<O>, is_up: bool, deep: Longest) -> Longest
     requires call { frame.now.call < MAX_CALLS_ON_OBJECT }
     requires deep { deep.more < MAX_CALLS_ON_OBJECT }

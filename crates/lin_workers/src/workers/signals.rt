@@ -1,4 +1,4 @@
-//! What workers of a group tell one another. It is a hint: nothing is proved of it, and nothing that is proved hangs on it.
+//! What workers of a group tell one another. It is a hint: nothing is proved of it, and nothing that is proved depends on it.
 ghost use Rattle.std.specs.Prelude.{◌≡◌};
 ghost use Rattle.lin_board.specs.Board.{IsSeatOf};
 ghost use Rattle.lin_workers.specs.Heard.{HasHeard};
@@ -46,7 +46,7 @@ impl Signals {
         true
     }
 
-    // Whether this task was not decided, or stands behind one that was not. Nothing more is to be found there: the tasks are
+    // Whether this task was not decided, or comes after one that was not. Nothing more is to be found there: the tasks are
     // taken in their order, and that one ends the check, or the calling thread goes on from it.
     pub(crate) fn is_left(&self, task: u64) -> bool {
         self.undecided.load(SeqCst) <= task

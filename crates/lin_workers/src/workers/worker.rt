@@ -112,7 +112,7 @@ pub(crate) fn search_tasks<O: SeqObject, G: Gate>(
 }
 
 // Searches the configuration of the task of this number over the table. A member of a group scouts before until it leads.
-// `None` where memory was refused, or where the task stands behind one that another worker did not decide.
+// `None` where memory was refused, or where the task comes after one that another worker did not decide.
 fn search_task<O: SeqObject>(
     job: &Job<'_, '_, O>,
     task: &Task<O>,
