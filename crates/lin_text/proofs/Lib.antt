@@ -4,5 +4,6 @@ pub mod CauseLemmas
 pub mod JsonLemmas
 pub mod LineLemmas
 pub mod TextLemmas
+pub mod EventLineLemmas
 pub mod WholeNumberLemmas
 pub mod OperationLemmas

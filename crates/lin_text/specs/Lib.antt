@@ -4,5 +4,6 @@ pub mod FlatObject
 pub mod Line
 pub mod Events
 pub mod Text
+pub mod EventLines
 pub mod WholeNumbers
 pub mod Words

@@ -1,4 +1,4 @@
-//! The causes for which a text is refused, and the line that tells a fault.
+//! The causes for which a text is refused, and the line of a fault.
 
 ghost use Rattle.std.specs.Prelude.{◌≡◌, ◌≢◌, ◌++◌, OnOk, OnErr};
 ghost use Rattle.lin_text.specs.Causes.{cause_of};
@@ -51,9 +51,9 @@ pub enum Cause {
     NoCall(u32),
     /// The pending call of the process is on another object.
     OtherObject(u32),
-    /// There is no room for one object more.
+    /// There is no room for another object.
     TooManyObjects,
-    /// There is no room for one call more.
+    /// There is no room for another call.
     TooManyCalls,
     /// Memory was refused while the line was read.
     OutOfMemory,

@@ -174,7 +174,7 @@ fn float_of(text: &str) -> Option<f64>
     nearest(has_minus, &numeral)
 }
 
-// The whole numbers up to the end of an array; `None` where something else stands among them.
+// The whole numbers up to the end of an array; `None` where something else is among them.
 fn wholes_of(alloc: Global, reader: &mut Reader<'_>) -> Result<Option<Wholes>, AllocError>
     ensures value { IfOk result (λ answer. IfSome answer (λ numbers. (depth : ℕ)
         → converted of_items (items (value depth) (length reader.old) reader.old)

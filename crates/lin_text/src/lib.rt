@@ -11,4 +11,4 @@ mod text;
 mod wholes;
 
 pub use cause::{Cause, TextFault, write_cause};
-pub use text::{MAX_INPUT_BYTES, MAX_LINE_BYTES, read_history};
+pub use text::{MAX_INPUT_BYTES, MAX_LINE_BYTES, read_history, read_history_and_lines};

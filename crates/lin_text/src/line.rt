@@ -2,7 +2,7 @@
 
 use lin_object::{Kind, Op, Reply};
 
-/// Which format a text has. Its first line that is not skipped tells.
+/// Which format a text has. Its first line that is not skipped shows.
 #[derive(Clone, Copy, PartialEq, Eq, Debug)]
 pub(crate) enum Format {
     /// No line has told yet.
@@ -24,7 +24,7 @@ pub(crate) enum EventKind {
     Info,
 }
 
-/// An event as it stands in a line, or the header.
+/// An event as it is in a line, or the header.
 #[derive(Clone, Copy, Debug)]
 pub(crate) enum Line<'v> {
     Header,

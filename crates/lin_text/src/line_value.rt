@@ -23,19 +23,19 @@ pub(crate) trait LineValue {
     fn has(&self, key: &str) -> bool
         ensures { result ≡ is_some (get key.now (json self.now)) };
 
-    /// The text at the key, where one stands there.
+    /// The text at the key, where there is one.
     fn text_at(&self, key: &str) -> Option<&str>
         ensures { option_map (λ text. text.now) result ≡ text_at key.now (json self.now) };
 
-    /// The whole number of 64 bits at the key, where one stands there.
+    /// The whole number of 64 bits at the key, where there is one.
     fn whole_at(&self, key: &str) -> Option<i64>
         ensures { result ≡ option_and_then whole (get key.now (json self.now)) };
 
-    /// The reply at the key, where one stands there.
+    /// The reply at the key, where there is one.
     fn reply_at(&self, key: &str) -> Option<Reply>
         ensures { result ≡ option_and_then reply_of (get key.now (json self.now)) };
 
-    /// The whole numbers in the array at the key: none where nothing stands there, and `None` where it is no array of them.
+    /// The whole numbers in the array at the key: none where there is nothing, and `None` where it is no array of them.
     /// `AllocError` where memory was refused.
     fn wholes_at(&self, alloc: Global, key: &str) -> Result<Option<Vec<i64>>, AllocError>
         ensures { IfOk result (λ found. option_map (λ v. v.items) found

@@ -1,11 +1,12 @@
 //! A text, line by line: the history that it means, or its first fault.
 
-ghost use Rattle.std.specs.Prelude.{position, IfSome, ◌≡◌, ◌≢◌, ℕ, ◌<◌, ◌≤◌, ◌∷◌, List, length, Some, None, Ok, Err, IfOk, IfErr, OnOk, OnErr};
+ghost use Rattle.std.specs.Prelude.{position, IfSome, ◌≡◌, ◌≢◌, ℕ, ◌<◌, ◌≤◌, ◌&&◌, ◌∷◌, [], List, length, Some, None, Ok, Err, IfOk, IfErr, IsTrue, OnOk, OnErr};
 ghost use Rattle.serde_json.specs.View.{view};
 ghost use Rattle.lin_text.specs.FlatObject.{object_of};
 ghost use Rattle.lin_text.specs.Line.{json, seen};
 ghost use Rattle.lin_history.specs.Recorder.Recording.{no_event};
 ghost use Rattle.lin_text.specs.Events.{TextEvents, IsTold, format_after, told_with};
+ghost use Rattle.lin_text.specs.EventLines.{has_number, count_with, lines_with, AreEventLines};
 ghost use Rattle.lin_text.specs.Text.{is_newline, lines, is_blank, refusals, IsRead, HasCause, IsToldBy, MeansHistory, MeansRecording, MeansFault, RanOutAt};
 ghost use Rattle.lin_history.specs.Refusals.{first_that_holds};
 
@@ -57,6 +58,8 @@ fn take_event(alloc: Global, builder: &mut Builder, event: Line<'_>) -> Result<(
     ensures history { OnOk result ((told : TextEvents) → (format : _)
         → IsTold told format builder.old → IsTold (told_with told (seen event.entry))
         (format_after format (seen event.entry)) builder.new) }
+    ensures count { OnOk result (builder.new.events
+        ≡ count_with builder.old.events (has_number (seen event.entry))) }
     ensures err { IfErr result (λ fault. fault ≢ BuildFault.OutOfMemory
         → first_that_holds (refusals builder.old (seen event.entry)) ≡ Some fault) }
     ensures same { OnErr result (builder.new ≡ builder.old) }
@@ -88,16 +91,32 @@ fn format_after(format: Format, event: &Line<'_>) -> Format
     }
 }
 
-// Takes the event of a line with this JSON value, and tells the format after it. An `Err` changes nothing.
+// What a line told: the format of the text after it, and whether its event has a number, as calls and returns have.
+#[derive(Clone, Copy)]
+struct Taken {
+    format: Format,
+    is_numbered: bool,
+}
+
+// Whether the event has a number: it is a call or a return.
+fn has_number(event: &Line<'_>) -> bool
+    ensures { result ≡ has_number (seen event.now) }
+{
+    matches!(event, Line::Call(_, _, _) | Line::Return(_, _, _))
+}
+
+// Takes the event of a line with this JSON value. An `Err` changes nothing.
 fn take_value<V: LineValue>(
     alloc: Global,
     format: Format,
     builder: &mut Builder,
     value: &V,
-) -> Result<Format, Cause>
-    ensures ok { IfOk result (λ after. (line : List ℕ) → IsRead line (V.json value.now)
+) -> Result<Taken, Cause>
+    ensures ok { IfOk result (λ taken. (line : List ℕ) → IsRead line (V.json value.now)
         → (told : TextEvents) → IsTold told format builder.old
-        → (more : TextEvents) × IsToldBy told line more × IsTold more after builder.new) }
+        → (more : TextEvents) × IsToldBy told line more × IsTold more taken.format builder.new) }
+    ensures count { IfOk result (λ taken. builder.new.events
+        ≡ count_with builder.old.events taken.is_numbered) }
     ensures err { IfErr result (λ cause. cause ≢ Cause.OutOfMemory → (line : List ℕ)
         → IsRead line (V.json value.now) → HasCause format builder.old line cause) }
     ensures same { OnErr result (builder.new ≡ builder.old) }
@@ -106,9 +125,13 @@ fn take_value<V: LineValue>(
         Ok(event) => event,
         Err(cause) => return Err(cause),
     };
-    let after = format_after(format, &event);
+    let format = format_after(format, &event);
+    let is_numbered = has_number(&event);
     match take_event(alloc, builder, event) {
-        Ok(()) => Ok(after),
+        Ok(()) => Ok(Taken {
+            format,
+            is_numbered,
+        }),
         Err(fault) => Err(cause_of(fault)),
     }
 }
@@ -128,17 +151,20 @@ fn flat_object_of<'l>(
     }
 }
 
-// Takes the event of a line, and tells the format after it. An `Err` changes nothing. A line that is no flat object is
-// read into an owned value.
+// Takes the event of a line. An `Err` changes nothing. A line that is no flat object is read into an owned value.
 fn take_line(
     alloc: Global,
     format: Format,
     builder: &mut Builder,
     scratch: &mut Scratch,
     line: &[u8],
-) -> Result<Format, Cause>
-    ensures ok { IfOk result (λ after. (told : TextEvents) → IsTold told format builder.old
-        → (more : TextEvents) × IsToldBy told line.now more × IsTold more after builder.new) }
+) -> Result<Taken, Cause>
+    ensures ok { IfOk result (λ taken. (told : TextEvents) → IsTold told format builder.old
+        → (more : TextEvents) × IsToldBy told line.now more
+        × IsTold more taken.format builder.new) }
+    ensures count { IfOk result (λ taken. builder.new.events
+        ≡ count_with builder.old.events taken.is_numbered) }
+    ensures short { OnOk result (length line.now ≤ MAX_LINE_BYTES) }
     ensures err { IfErr result (λ cause. cause ≢ Cause.OutOfMemory
         → HasCause format builder.old line.now cause) }
     ensures memory { IfErr result (λ cause. cause ≡ Cause.OutOfMemory
@@ -149,7 +175,10 @@ fn take_line(
         return Err(Cause::LineTooLong);
     }
     if is_blank(line) {
-        return Ok(format);
+        return Ok(Taken {
+            format,
+            is_numbered: false,
+        });
     }
     match flat_object_of(alloc, scratch, line) {
         Ok(Some(object)) => take_value(alloc, format, builder, &object),
@@ -169,7 +198,7 @@ fn newline_in(text: &[u8]) -> Option<usize>
     memchr(b'\n', text)
 }
 
-/// The first line of a text that is not empty, and what stands after it.
+/// The first line of a text that is not empty, and what is after it.
 fn first_line(text: &[u8]) -> (&[u8], &[u8])
     requires { 0 < length text.now }
     ensures lines { lines text.now ≡ result.0.now ∷ lines result.1.now }
@@ -181,11 +210,36 @@ fn first_line(text: &[u8]) -> (&[u8], &[u8])
     }
 }
 
-// Takes the events of a text, line by line.
-fn read_lines(alloc: Global, builder: &mut Builder, text: &[u8]) -> Result<(), TextFault>
+// Puts the number of a line behind the others, where lines are wanted and its event has a number.
+fn note_line(
+    lines: &mut Vec<u64>,
+    wanted: bool,
+    is_numbered: bool,
+    number: u64,
+) -> Result<(), AllocError>
+    ensures { OnOk result (lines.new.items
+        ≡ lines_with lines.old.items (wanted && is_numbered) number) }
+{
+    if wanted && is_numbered {
+        lines.push(number)?;
+    }
+    Ok(())
+}
+
+// Takes the events of a text, line by line. Where the lines of its events are wanted, they are noted.
+fn read_lines(
+    alloc: Global,
+    builder: &mut Builder,
+    wanted: bool,
+    lines: &mut Vec<u64>,
+    text: &[u8],
+) -> Result<(), TextFault>
     requires start { builder.old ≡ no_event }
+    requires none { lines.old.items ≡ [] }
     requires short { length text.now ≤ MAX_INPUT_BYTES }
     ensures history { OnOk result (MeansRecording text.now builder.new) }
+    ensures lines { OnOk result (IsTrue wanted
+        → AreEventLines text.now builder.new.events lines.new.items) }
     ensures fault { IfErr result (λ fault. fault.cause ≢ Cause.OutOfMemory
         → MeansFault text.now fault.line fault.cause) }
     ensures memory { IfErr result (λ fault. fault.cause ≡ Cause.OutOfMemory
@@ -198,26 +252,32 @@ fn read_lines(alloc: Global, builder: &mut Builder, text: &[u8]) -> Result<(), T
     'lines: while !rest.is_empty() {
         let (line, more) = first_line(rest);
         number += 1;
-        match take_line(alloc, format, builder, &mut scratch, line) {
-            Ok(after) => format = after,
+        let taken = match take_line(alloc, format, builder, &mut scratch, line) {
+            Ok(taken) => taken,
             Err(cause) => {
                 return Err(TextFault {
                     line: number,
                     cause,
                 });
             }
-        }
+        };
+        let Ok(()) = note_line(lines, wanted, taken.is_numbered, number) else {
+            return Err(TextFault {
+                line: number,
+                cause: Cause::OutOfMemory,
+            });
+        };
+        format = taken.format;
         rest = more;
     }
     Ok(())
 }
 
-/// The history that a text means, or the first line that is refused, with its first cause.
-///
-/// `OutOfMemory` stands only where memory was refused while its line was read; it may stand in place of that line's own
-/// causes, the length of the line apart.
-pub fn read_history(alloc: Global, text: &[u8]) -> Result<History, TextFault>
-    ensures history { IfOk result (MeansHistory text.now) }
+// The history that a text means, and the line of each of its events, where those are wanted; or the first fault.
+fn read_text(alloc: Global, text: &[u8], wanted: bool) -> Result<(History, Vec<u64>), TextFault>
+    ensures history { IfOk result (λ read. MeansHistory text.now read.0) }
+    ensures lines { IfOk result (λ read. IsTrue wanted
+        → AreEventLines text.now read.0.events read.1.items) }
     ensures fault { IfErr result (λ fault. fault.cause ≢ Cause.OutOfMemory
         → MeansFault text.now fault.line fault.cause) }
     ensures memory { IfErr result (λ fault. fault.cause ≡ Cause.OutOfMemory
@@ -230,6 +290,35 @@ pub fn read_history(alloc: Global, text: &[u8]) -> Result<History, TextFault>
         });
     }
     let mut builder = Builder::new(alloc);
-    read_lines(alloc, &mut builder, text)?;
-    Ok(builder.finish())
+    let mut lines = Vec::new(alloc);
+    read_lines(alloc, &mut builder, wanted, &mut lines, text)?;
+    Ok((builder.finish(), lines))
+}
+
+/// The history that a text means, or the first line that is refused, with its first cause.
+///
+/// `OutOfMemory` is returned only where memory was refused while its line was read; it may be in place of that line's own
+/// causes, the length of the line apart.
+pub fn read_history(alloc: Global, text: &[u8]) -> Result<History, TextFault>
+    ensures history { IfOk result (MeansHistory text.now) }
+    ensures fault { IfErr result (λ fault. fault.cause ≢ Cause.OutOfMemory
+        → MeansFault text.now fault.line fault.cause) }
+    ensures memory { IfErr result (λ fault. fault.cause ≡ Cause.OutOfMemory
+        → RanOutAt text.now fault.line) }
+{
+    let (history, _) = read_text(alloc, text, false)?;
+    Ok(history)
+}
+
+/// The history that a text means, as `read_history` gives it, and the line of each of its events: that of the event of
+/// number n has the index n - 1. Lines count from 1, blank ones too. Refusals as those of `read_history`.
+pub fn read_history_and_lines(alloc: Global, text: &[u8]) -> Result<(History, Vec<u64>), TextFault>
+    ensures history { IfOk result (λ read. MeansHistory text.now read.0) }
+    ensures lines { IfOk result (λ read. AreEventLines text.now read.0.events read.1.items) }
+    ensures fault { IfErr result (λ fault. fault.cause ≢ Cause.OutOfMemory
+        → MeansFault text.now fault.line fault.cause) }
+    ensures memory { IfErr result (λ fault. fault.cause ≡ Cause.OutOfMemory
+        → RanOutAt text.now fault.line) }
+{
+    read_text(alloc, text, true)
 }

@@ -9,7 +9,7 @@ returns-in-Err-clause-err g c = λ other line read. refused_value c.args.format 
 
 pub returns-in-Ok-take_event-clause-ok : goal.returns-in-Ok-take_event-clause-ok
 returns-in-Ok-take_event-clause-ok g c line read told is =
-    rw c.format_after-after.ensures
+    rw c.format_after-format.ensures
     (told_by_event told c.args.format _ c.args.builder.now _ line (g.V.LineValue.json c.args.value.now) (seen c.in-Ok.event) is read c.in-Ok.ensures c.in-Ok-take_event.ensures.sound (c.in-Ok-take_event.ensures.history told c.args.format is))
 
 pub returns-in-Err-take_event-clause-err : goal.returns-in-Err-take_event-clause-err
