@@ -26,7 +26,7 @@ use Rattle.lin_explain.specs.declared.explanation.Explanation.{Explanation}
 use Rattle.lin_explain.specs.declared.explanation.NextCall.{NextCall}
 use Rattle.lin_explain.specs.Explanation.{judged_problem, IsExplanation}
 use Rattle.lin_explain.specs.ExplanationText.{explanation_text}
-use Rattle.lin_explain.specs.RunExplained.{number_at, number_in, object_name, AreLinesOf}
+use Rattle.lin_explain.specs.RunExplained.{number_at, number_in, object_name, IsExplainedBy}
 
 -- ---- numbers
 
@@ -111,16 +111,16 @@ name_is o d e = rw e refl
 
 module _ {Object : Type 0} (h : RecordedHistory) (object : ℕ) (p : ProblemParts Object ObjState Op Reply) (part : judged_problem p ≡ part_of h object) (calls : p.calls ≡ part_calls h object) where
   -- the lines of an explanation of a run of the problem
-  pub lines_are : (name : List ℕ) (order run : List ℕ) (e : Explanation) → name ≡ object_name h object → order ≡ run → IsExplanation (judged_problem p) order e → AreLinesOf h object run (explanation_text name p.calls order e.state e.next.items)
-  lines_are name order run e named same explained = record {
+  pub lines_are : (name order run lines : List ℕ) (e : Explanation) → name ≡ object_name h object → order ≡ run → IsExplanation (judged_problem p) order e → IsExplainedBy h object run lines (explanation_text name p.calls order lines e.state e.next.items)
+  lines_are name order run lines e named same explained = record {
     state = e.state;
     after = here.state;
     calls = here.calls;
     next = here.are;
-    are = ap (λ (n : List ℕ). explanation_text n p.calls order e.state e.next.items) named
-        ∙ ap (λ (l : List (ProblemCall Op Reply)). explanation_text (object_name h object) l order e.state e.next.items) calls
-        ∙ ap (λ (r : List ℕ). explanation_text (object_name h object) (part_calls h object) r e.state e.next.items) same
-        ∙ ap (λ (n : List NextCall). explanation_text (object_name h object) (part_calls h object) run e.state n) here.next;
+    are = ap (λ (n : List ℕ). explanation_text n p.calls order lines e.state e.next.items) named
+        ∙ ap (λ (l : List (ProblemCall Op Reply)). explanation_text (object_name h object) l order lines e.state e.next.items) calls
+        ∙ ap (λ (r : List ℕ). explanation_text (object_name h object) (part_calls h object) r lines e.state e.next.items) same
+        ∙ ap (λ (n : List NextCall). explanation_text (object_name h object) (part_calls h object) run lines e.state n) here.next;
   }
     where
       here : IsExplanation (part_of h object) run e

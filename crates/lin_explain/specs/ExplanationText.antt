@@ -43,26 +43,28 @@ abbrev pub answer_text : Option Reply → List ℕ
 answer_text None = codes ": it cannot be done here\n"
 answer_text (Some reply) = codes ": here it would be " ++ reply_text reply ++ codes "\n"
 
--- The line of a call that could come next: its process, its object and its operation, the recorded reply, and what it would
+-- The line of a call that could come next: its process, its object and its operation, what is recorded of it, and what it would
 -- answer.
-abbrev pub next_line : List ℕ → ProblemCall Op Reply → Option Reply → List ℕ
-next_line name call answer =
-    codes "next " ++ decimal call.process ++ codes " " ++ name ++ codes " " ++ op_text call.op ++ recorded_text call.returned ++ answer_text answer
+abbrev pub next_line : List ℕ → List ℕ → ProblemCall Op Reply → Option Reply → List ℕ
+next_line name lines call answer =
+    codes "next " ++ decimal call.process ++ codes " " ++ name ++ codes " " ++ op_text call.op ++ recorded_text lines call.called call.returned ++ answer_text answer
 
 -- The line of such a call, where it is a call.
-abbrev pub next_line_of : List ℕ → Option Reply → Option (ProblemCall Op Reply) → List ℕ
-next_line_of name answer None = []
-next_line_of name answer (Some call) = next_line name call answer
+abbrev pub next_line_of : List ℕ → List ℕ → Option Reply → Option (ProblemCall Op Reply) → List ℕ
+next_line_of name lines answer None = []
+next_line_of name lines answer (Some call) = next_line name lines call answer
 
 -- The lines of a call that could come next after the run: what it would answer, and below it what is known of it.
-abbrev pub lines_of : List ℕ → List (ProblemCall Op Reply) → List ℕ → NextCall → List ℕ
-lines_of name calls run next = next_line_of name next.answer (slice_get calls next.call) ++ known_text_of calls run next.call (slice_get calls next.call)
+abbrev pub lines_of : List ℕ → List (ProblemCall Op Reply) → List ℕ → List ℕ → NextCall → List ℕ
+lines_of name calls run lines next =
+    next_line_of name lines next.answer (slice_get calls next.call) ++ known_text_of calls run lines next.call (slice_get calls next.call)
 
 -- The lines of the calls that could come next after the run.
-abbrev pub next_lines : List ℕ → List (ProblemCall Op Reply) → List ℕ → List NextCall → List ℕ
-next_lines name calls run [] = []
-next_lines name calls run (n ∷ ns) = lines_of name calls run n ++ next_lines name calls run ns
+abbrev pub next_lines : List ℕ → List (ProblemCall Op Reply) → List ℕ → List ℕ → List NextCall → List ℕ
+next_lines name calls run lines [] = []
+next_lines name calls run lines (n ∷ ns) = lines_of name calls run lines n ++ next_lines name calls run lines ns
 
--- The state after the run, of a map with the keys that the next calls ask for alone, and the calls that could come next.
-abbrev pub explanation_text : List ℕ → List (ProblemCall Op Reply) → List ℕ → ObjState → List NextCall → List ℕ
-explanation_text name calls run state next = state_line name (keys_with calls [] next) state ++ next_lines name calls run next
+-- The state after the run, of a map with the keys that the next calls ask for alone, and the calls that could come next, where
+-- the events stand on these lines.
+abbrev pub explanation_text : List ℕ → List (ProblemCall Op Reply) → List ℕ → List ℕ → ObjState → List NextCall → List ℕ
+explanation_text name calls run lines state next = state_line name (keys_with calls [] next) state ++ next_lines name calls run lines next

@@ -27,11 +27,11 @@ number_in h placed = number_at h placed.call (slice_get h.calls placed.call)
 abbrev pub object_name : RecordedHistory → ℕ → List ℕ
 object_name h object = option_map_or (λ o. o.name) (slice_get h.objects object) []
 
--- The lines tell why a run of the object's calls ends: the state after the run, and the calls that could come next, each with
--- what it would answer there.
-pub record AreLinesOf (h : RecordedHistory) (object : ℕ) (run lines : List ℕ) : Type 0 where
+-- These bytes tell why a run of the object's calls ends, where the events of the history stand on these lines: the state after the
+-- run, and the calls that could come next, each with what it would answer there.
+pub record IsExplainedBy (h : RecordedHistory) (object : ℕ) (run lines bytes : List ℕ) : Type 0 where
   pub state : ObjState
   pub after : Legal (part_of h object) (start_at h object) run state
   pub calls : List ℕ
   pub next : AreNextCalls (part_of h object) run calls
-  pub are : lines ≡ explanation_text (object_name h object) (part_calls h object) run state (map (next_in (part_of h object) state) calls)
+  pub are : bytes ≡ explanation_text (object_name h object) (part_calls h object) run lines state (map (next_in (part_of h object) state) calls)

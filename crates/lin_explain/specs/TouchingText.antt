@@ -1,5 +1,6 @@
--- How the calls are shown that put or took what a call asks for, and the call since which a mutex is held (this project's own).
-use Rattle.std.specs.Prelude.{ℕ, ℤ, ◌-◌, ◌==◌, ◌++◌, nat_le, Bool, true, false, Option, Some, None, List, [], ◌∷◌, codes, length, take, slice_get, if◌then◌else◌}
+-- How the calls are shown that put or took what a call asks for, and the call since which a mutex is held, each with the lines of
+-- the input on which its events stand (this project's own).
+use Rattle.std.specs.Prelude.{ℕ, ℤ, ◌-◌, ◌==◌, ◌++◌, nat_le, Bool, true, false, Option, Some, None, unwrap_or, List, [], ◌∷◌, codes, length, take, slice_get, if◌then◌else◌}
 use Rattle.std.specs.List.{list_any}
 use Rattle.std.specs.Fmt.{decimal, signed_decimal}
 use Rattle.lin_object.specs.declared.op.Op.{Op}
@@ -15,24 +16,30 @@ use Rattle.lin_explain.specs.declared.touching.Touching.{Touching}
 use Rattle.lin_explain.specs.declared.touching_text.TheConstants.{MAX_TOUCHING}
 use Rattle.lin_explain.specs.Touching.{asked_of, touches_from, held_after}
 
--- The recorded reply; nothing where the call is pending.
-abbrev pub recorded_text : Option (ℕ × Reply) → List ℕ
-recorded_text None = []
-recorded_text (Some returned) = codes " = " ++ reply_text returned.1
+-- The line of the input on which an event stands, whose number counts from 1; 0 where none is known.
+abbrev pub line_of : List ℕ → ℕ → ℕ
+line_of lines event = unwrap_or (slice_get lines (event - 1)) 0
+
+-- What is recorded of a call: its reply, and the lines of its call and its return; of a pending call the line of its call.
+abbrev pub recorded_text : List ℕ → ℕ → Option (ℕ × Reply) → List ℕ
+recorded_text lines called None = codes " (line " ++ decimal (line_of lines called) ++ codes ")"
+recorded_text lines called (Some returned) =
+    codes " = " ++ reply_text returned.1 ++ codes " (lines " ++ decimal (line_of lines called) ++ codes " and " ++ decimal (line_of lines returned.0) ++ codes ")"
 
 -- Whether a call is in the run.
 abbrev pub place_text : Bool → List ℕ
 place_text true = codes ", in the run\n"
 place_text false = codes ", not in the run\n"
 
--- The line of a call that did this: its process, its operation, the recorded reply, and whether it is in the run.
-abbrev pub about_line : List ℕ → Bool → ProblemCall Op Reply → List ℕ
-about_line did in_run call = codes "  " ++ did ++ codes " by " ++ decimal call.process ++ codes ": " ++ op_text call.op ++ recorded_text call.returned ++ place_text in_run
+-- The line of a call that did this: its process, its operation, what is recorded of it, and whether it is in the run.
+abbrev pub about_line : List ℕ → List ℕ → Bool → ProblemCall Op Reply → List ℕ
+about_line lines did in_run call =
+    codes "  " ++ did ++ codes " by " ++ decimal call.process ++ codes ": " ++ op_text call.op ++ recorded_text lines call.called call.returned ++ place_text in_run
 
 -- The same, where it is a call.
-abbrev pub about_line_of : List ℕ → Bool → Option (ProblemCall Op Reply) → List ℕ
-about_line_of did in_run None = []
-about_line_of did in_run (Some call) = about_line did in_run call
+abbrev pub about_line_of : List ℕ → List ℕ → Bool → Option (ProblemCall Op Reply) → List ℕ
+about_line_of lines did in_run None = []
+about_line_of lines did in_run (Some call) = about_line lines did in_run call
 
 -- The call is in the run.
 abbrev pub is_in_run : List ℕ → ℕ → Bool
@@ -44,9 +51,9 @@ did_text Put = codes "put"
 did_text Took = codes "taken"
 
 -- The lines of the calls that put or took something.
-abbrev pub touch_lines : List (ProblemCall Op Reply) → List ℕ → List Touching → List ℕ
-touch_lines calls run [] = []
-touch_lines calls run (t ∷ ts) = about_line_of (did_text t.touch) (is_in_run run t.call) (slice_get calls t.call) ++ touch_lines calls run ts
+abbrev pub touch_lines : List (ProblemCall Op Reply) → List ℕ → List ℕ → List Touching → List ℕ
+touch_lines calls run lines [] = []
+touch_lines calls run lines (t ∷ ts) = about_line_of lines (did_text t.touch) (is_in_run run t.call) (slice_get calls t.call) ++ touch_lines calls run lines ts
 
 -- The call put it.
 abbrev pub touch_is_put : Touch → Bool
@@ -77,35 +84,35 @@ more_line count = if nat_le count MAX_TOUCHING then [] else codes "  .. and " ++
 
 -- What is known of the value that is asked for: whether no call put it, the first calls that put or took it, and how many
 -- more did.
-abbrev pub touches_text : List (ProblemCall Op Reply) → List ℕ → Asked → List Touching → List ℕ
-touches_text calls run asked found = no_put_lines asked found ++ touch_lines calls run (take MAX_TOUCHING found) ++ more_line (length found)
+abbrev pub touches_text : List (ProblemCall Op Reply) → List ℕ → List ℕ → Asked → List Touching → List ℕ
+touches_text calls run lines asked found = no_put_lines asked found ++ touch_lines calls run lines (take MAX_TOUCHING found) ++ more_line (length found)
 
 -- The same of what call `asker` asks for; nothing where it asks for no value.
-abbrev pub asked_text : List (ProblemCall Op Reply) → List ℕ → ℕ → Option Asked → List ℕ
-asked_text calls run asker None = []
-asked_text calls run asker (Some asked) = touches_text calls run asked (touches_from asked asker 0 calls)
+abbrev pub asked_text : List (ProblemCall Op Reply) → List ℕ → List ℕ → ℕ → Option Asked → List ℕ
+asked_text calls run lines asker None = []
+asked_text calls run lines asker (Some asked) = touches_text calls run lines asked (touches_from asked asker 0 calls)
 
 -- The line of the call since which a mutex is held after the run; nothing where it is free.
-abbrev pub held_line : List (ProblemCall Op Reply) → List ℕ → Option ℕ → List ℕ
-held_line calls run None = []
-held_line calls run (Some number) = about_line_of (codes "held") (is_in_run run number) (slice_get calls number)
+abbrev pub held_line : List (ProblemCall Op Reply) → List ℕ → List ℕ → Option ℕ → List ℕ
+held_line calls run lines None = []
+held_line calls run lines (Some number) = about_line_of lines (codes "held") (is_in_run run number) (slice_get calls number)
 
-abbrev pub held_text : List (ProblemCall Op Reply) → List ℕ → List ℕ
-held_text calls run = held_line calls run (held_after calls None run)
+abbrev pub held_text : List (ProblemCall Op Reply) → List ℕ → List ℕ → List ℕ
+held_text calls run lines = held_line calls run lines (held_after calls None run)
 
 -- The same below an operation of a mutex; nothing below others.
-abbrev pub holder_text : List (ProblemCall Op Reply) → List ℕ → Op → List ℕ
-holder_text calls run Lock = held_text calls run
-holder_text calls run Unlock = held_text calls run
-holder_text calls run TryLock = held_text calls run
-holder_text calls run op = []
+abbrev pub holder_text : List (ProblemCall Op Reply) → List ℕ → List ℕ → Op → List ℕ
+holder_text calls run lines Lock = held_text calls run lines
+holder_text calls run lines Unlock = held_text calls run lines
+holder_text calls run lines TryLock = held_text calls run lines
+holder_text calls run lines op = []
 
 -- What is known of a call that could come next after the run, which has this number: which calls put or took the value that it
 -- asks for, or since which call the mutex is held.
-abbrev pub known_text : List (ProblemCall Op Reply) → List ℕ → ℕ → ProblemCall Op Reply → List ℕ
-known_text calls run number call = asked_text calls run number (asked_of call.op call.returned) ++ holder_text calls run call.op
+abbrev pub known_text : List (ProblemCall Op Reply) → List ℕ → List ℕ → ℕ → ProblemCall Op Reply → List ℕ
+known_text calls run lines number call = asked_text calls run lines number (asked_of call.op call.returned) ++ holder_text calls run lines call.op
 
 -- The same, where it is a call.
-abbrev pub known_text_of : List (ProblemCall Op Reply) → List ℕ → ℕ → Option (ProblemCall Op Reply) → List ℕ
-known_text_of calls run number None = []
-known_text_of calls run number (Some call) = known_text calls run number call
+abbrev pub known_text_of : List (ProblemCall Op Reply) → List ℕ → List ℕ → ℕ → Option (ProblemCall Op Reply) → List ℕ
+known_text_of calls run lines number None = []
+known_text_of calls run lines number (Some call) = known_text calls run lines number call

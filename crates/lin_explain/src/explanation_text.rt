@@ -4,7 +4,7 @@ ghost use Rattle.lin_explain.specs.ExplanationText.{key_of, with_key, with_asked
 
 use crate::explanation::{Explanation, NextCall};
 use crate::state_text::{items_in, write_state};
-use crate::touching_text::{write_known_of, write_recorded};
+use crate::touching_text::{ShownRun, write_known_of, write_recorded};
 use lin_history::ProblemCall;
 use lin_object::{Items, ObjState, Op, Reply};
 use std::alloc::{AllocError, Global};
@@ -89,16 +89,17 @@ fn write_answer(out: &mut String, answer: Option<Reply>) -> Result<(), AllocErro
 fn write_next(
     out: &mut String,
     name: &str,
+    lines: &[u64],
     call: &ProblemCall<Op, Reply>,
     answer: Option<Reply>,
 ) -> Result<(), AllocError>
     ensures { OnOk result (string_bytes out.new
-        ≡ string_bytes out.old ++ next_line name.now call.now answer) }
+        ≡ string_bytes out.old ++ next_line name.now lines.now call.now answer) }
 {
     let process = call.process;
     let op = call.op;
     write!(out, "next {process} {name} {op}")?;
-    write_recorded(out, &call.returned)?;
+    write_recorded(out, lines, call.called, &call.returned)?;
     write_answer(out, answer)
 }
 
@@ -106,14 +107,15 @@ fn write_next(
 fn write_next_of(
     out: &mut String,
     name: &str,
-    calls: &[ProblemCall<Op, Reply>],
+    shown: &ShownRun<'_>,
     next: &NextCall,
 ) -> Result<(), AllocError>
     ensures { OnOk result (string_bytes out.new ≡ string_bytes out.old
-        ++ next_line_of name.now next.now.answer (slice_get calls.now next.now.call)) }
+        ++ next_line_of name.now shown.now.lines.now next.now.answer
+        (slice_get shown.now.calls.now next.now.call)) }
 {
-    match calls.get(next.call) {
-        Some(call) => write_next(out, name, call, next.answer),
+    match shown.calls.get(next.call) {
+        Some(call) => write_next(out, name, shown.lines, call, next.answer),
         None => Ok(()),
     }
 }
@@ -123,15 +125,14 @@ fn write_lines_of(
     alloc: Global,
     out: &mut String,
     name: &str,
-    calls: &[ProblemCall<Op, Reply>],
-    run: &[usize],
+    shown: &ShownRun<'_>,
     next: &NextCall,
 ) -> Result<(), AllocError>
     ensures { OnOk result (string_bytes out.new
-        ≡ string_bytes out.old ++ lines_of name.now calls.now run.now next.now) }
+        ≡ string_bytes out.old ++ lines_of name.now shown.now.calls.now shown.now.run.now shown.now.lines.now next.now) }
 {
-    write_next_of(out, name, calls, next)?;
-    write_known_of(alloc, out, calls, run, next.call)
+    write_next_of(out, name, shown, next)?;
+    write_known_of(alloc, out, shown, next.call)
 }
 
 // Appends the lines of the calls that could come next.
@@ -139,37 +140,36 @@ fn write_next_lines(
     alloc: Global,
     out: &mut String,
     name: &str,
-    calls: &[ProblemCall<Op, Reply>],
-    run: &[usize],
+    shown: &ShownRun<'_>,
     next: &[NextCall],
 ) -> Result<(), AllocError>
     ensures { OnOk result (string_bytes out.new
-        ≡ string_bytes out.old ++ next_lines name.now calls.now run.now next.now) }
+        ≡ string_bytes out.old ++ next_lines name.now shown.now.calls.now shown.now.run.now shown.now.lines.now next.now) }
 {
     for one in next {
-        write_lines_of(alloc, out, name, calls, run, one)?;
+        write_lines_of(alloc, out, name, shown, one)?;
     }
     Ok(())
 }
 
-/// Appends the lines that tell why a run ends of these calls on the object of this name: the state after it, of a map with
-/// the keys that the next calls ask for alone; and each call that could come next, with the recorded reply and with what it
-/// would answer; below it the calls that put or took the value that it asks for, or the call since which a mutex is held.
+/// Appends the lines that say why a run ends of calls on the object of this name: the state after it, of a map with the keys
+/// that the next calls ask for alone; and each call that could come next, with what is recorded of it and with what it would
+/// answer; below it the calls that put or took the value that it asks for, or the call since which a mutex is held. Each call
+/// has the lines of the input on which its events are.
 /// `AllocError` where memory was refused.
 pub fn write_explanation(
     alloc: Global,
     out: &mut String,
     name: &str,
-    calls: &[ProblemCall<Op, Reply>],
-    run: &[usize],
+    shown: &ShownRun<'_>,
     explanation: &Explanation,
 ) -> Result<(), AllocError>
     ensures { OnOk result (string_bytes out.new
-        ≡ string_bytes out.old ++ explanation_text name.now calls.now run.now
-        explanation.now.state explanation.now.next.items) }
+        ≡ string_bytes out.old ++ explanation_text name.now shown.now.calls.now shown.now.run.now
+        shown.now.lines.now explanation.now.state explanation.now.next.items) }
 {
     let next = explanation.next.as_slice();
-    let keys = asked_keys(alloc, calls, next)?;
+    let keys = asked_keys(alloc, shown.calls, next)?;
     write_state_line(alloc, out, name, keys.as_slice(), &explanation.state)?;
-    write_next_lines(alloc, out, name, calls, run, next)
+    write_next_lines(alloc, out, name, shown, next)
 }

@@ -20,4 +20,4 @@ pub use explanation::{Explanation, NextCall, explain};
 pub use explanation_text::write_explanation;
 pub use run_explained::write_run_explained;
 pub use state_text::MAX_SHOWN;
-pub use touching_text::MAX_TOUCHING;
+pub use touching_text::{MAX_TOUCHING, ShownRun};

@@ -5,10 +5,11 @@ ghost use Rattle.lin_history.specs.Problems.LegalLists.{Legal};
 ghost use Rattle.lin_history.specs.Locality.JoinedOrder.{Places};
 ghost use Rattle.lin_history.specs.Locality.RecordedWhole.{whole_of, start_at, part_of};
 ghost use Rattle.lin_history.specs.Verifier.Flags.{AreKnown};
-ghost use Rattle.lin_explain.specs.RunExplained.{number_in, AreLinesOf};
+ghost use Rattle.lin_explain.specs.RunExplained.{number_in, IsExplainedBy};
 
 use crate::explanation::explain;
 use crate::explanation_text::write_explanation;
+use crate::touching_text::ShownRun;
 use lin_history::{History, Order, Placed};
 use std::alloc::{AllocError, Global};
 
@@ -24,8 +25,9 @@ fn order_of(alloc: Global, history: &History, run: &[Placed]) -> Result<Order, A
     Ok(Order::new(numbers))
 }
 
-/// Appends the lines that tell why a run of the object of this index ends: the state after it, and each call that could come
-/// next with what it would answer. `AllocError` where memory was refused.
+/// Appends the lines that say why a run of the object of this index ends: the state after it, and each call that could come
+/// next with what it would answer. `lines` has the line of each event of the input, that of the event of number n at n - 1; it
+/// is with each call that is named. `AllocError` where memory was refused.
 ///
 /// Conditions: the object is declared, and the run is that of an order of its calls that is legal.
 pub fn write_run_explained(
@@ -34,6 +36,7 @@ pub fn write_run_explained(
     history: &History,
     object: usize,
     run: &[Placed],
+    lines: &[u64],
 ) -> Result<(), AllocError>
     requires object { object < length history.now.objects }
     requires run { (order : List ℕ) × ((t : State) × Legal (part_of history.now object)
@@ -41,19 +44,17 @@ pub fn write_run_explained(
         × Places (whole_of history.now) object (start_at history.now object) order run.now }
     ensures { OnOk result ((order : List ℕ)
         → Places (whole_of history.now) object (start_at history.now object) order run.now
-        → (lines : List ℕ) × AreLinesOf history.now object order lines
-        × (string_bytes out.new ≡ string_bytes out.old ++ lines)) }
+        → (bytes : List ℕ) × IsExplainedBy history.now object order lines.now bytes
+        × (string_bytes out.new ≡ string_bytes out.old ++ bytes)) }
 {
     let problem = history.problem(alloc, object)?;
     let order = order_of(alloc, history, run)?;
     let explanation = explain(alloc, &problem, &order)?;
+    let shown = ShownRun {
+        calls: problem.calls(),
+        run: order.calls(),
+        lines,
+    };
     let name = history.object(object).name;
-    write_explanation(
-        alloc,
-        out,
-        name,
-        problem.calls(),
-        order.calls(),
-        &explanation,
-    )
+    write_explanation(alloc, out, name, &shown, &explanation)
 }

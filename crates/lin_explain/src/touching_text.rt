@@ -1,7 +1,7 @@
 //! How the calls are shown that put or took what a call asks for, and the call since which a mutex is held.
 ghost use Rattle.std.specs.Prelude.{◌≡◌, ◌++◌, slice_get, string_bytes, OnOk};
 ghost use Rattle.std.specs.List.{list_any};
-ghost use Rattle.lin_explain.specs.TouchingText.{recorded_text, place_text, about_line, about_line_of, did_text, is_in_run, is_put, touch_lines, no_pair_line, no_put_line, no_put_lines, more_line, touches_text, asked_text, held_text, holder_text, known_text, known_text_of};
+ghost use Rattle.lin_explain.specs.TouchingText.{line_of, recorded_text, place_text, about_line, about_line_of, did_text, is_in_run, is_put, touch_lines, no_pair_line, no_put_line, no_put_lines, more_line, touches_text, asked_text, held_text, holder_text, known_text, known_text_of};
 
 use crate::state_text::front;
 use crate::touching::{Asked, Touch, Touching, asked_of, held_since, touches};
@@ -12,17 +12,46 @@ use std::alloc::{AllocError, Global};
 /// The most calls that are shown below one that could come next.
 pub const MAX_TOUCHING: usize = 8;
 
-/// Appends the recorded reply; nothing where the call is pending.
+/// A run that is shown: the calls on its object, the run, and the line of the input on which each event is: that of the
+/// event of number n has the index n - 1.
+#[derive(Clone, Copy)]
+pub struct ShownRun<'p> {
+    /// The calls on the object.
+    pub calls: &'p [ProblemCall<Op, Reply>],
+    /// The numbers of the calls of the run.
+    pub run: &'p [usize],
+    /// The lines of the events.
+    pub lines: &'p [u64],
+}
+
+// The line on which the event of this number is, where the numbers count from 1; 0 where none is known.
+fn line_of(lines: &[u64], event: u32) -> u64
+    ensures { result ≡ line_of lines.now event }
+{
+    lines
+        .get(event.saturating_sub(1) as usize)
+        .copied()
+        .unwrap_or(0)
+}
+
+/// Appends what is recorded of a call: its reply, and the lines of its call and its return; of a pending call the line of its
+/// call.
 pub(crate) fn write_recorded(
     out: &mut String,
+    lines: &[u64],
+    called: u32,
     returned: &Option<(u32, Reply)>,
 ) -> Result<(), AllocError>
     ensures { OnOk result (string_bytes out.new
-        ≡ string_bytes out.old ++ recorded_text returned.now) }
+        ≡ string_bytes out.old ++ recorded_text lines.now called returned.now) }
 {
+    let called = line_of(lines, called);
     match returned {
-        Some((_, reply)) => write!(out, " = {reply}"),
-        None => Ok(()),
+        Some((number, reply)) => {
+            let returned = line_of(lines, *number);
+            write!(out, " = {reply} (lines {called} and {returned})")
+        }
+        None => write!(out, " (line {called})"),
     }
 }
 
@@ -40,17 +69,18 @@ fn place_text(in_run: bool) -> &'static str
 // Appends the line of a call that did this, and whether it is in the run.
 fn write_about(
     out: &mut String,
+    lines: &[u64],
     did: &str,
     call: &ProblemCall<Op, Reply>,
     in_run: bool,
 ) -> Result<(), AllocError>
     ensures { OnOk result (string_bytes out.new
-        ≡ string_bytes out.old ++ about_line did.now in_run call.now) }
+        ≡ string_bytes out.old ++ about_line lines.now did.now in_run call.now) }
 {
     let process = call.process;
     let op = call.op;
     write!(out, "  {did} by {process}: {op}")?;
-    write_recorded(out, &call.returned)?;
+    write_recorded(out, lines, call.called, &call.returned)?;
     out.push_str(place_text(in_run))
 }
 
@@ -65,15 +95,15 @@ fn is_in_run(run: &[usize], call: usize) -> bool
 fn write_about_call(
     out: &mut String,
     did: &str,
-    calls: &[ProblemCall<Op, Reply>],
-    run: &[usize],
+    shown: &ShownRun<'_>,
     number: usize,
 ) -> Result<(), AllocError>
     ensures { OnOk result (string_bytes out.new ≡ string_bytes out.old
-        ++ about_line_of did.now (is_in_run run.now number) (slice_get calls.now number)) }
+        ++ about_line_of shown.now.lines.now did.now (is_in_run shown.now.run.now number)
+        (slice_get shown.now.calls.now number)) }
 {
-    match calls.get(number) {
-        Some(call) => write_about(out, did, call, is_in_run(run, number)),
+    match shown.calls.get(number) {
+        Some(call) => write_about(out, shown.lines, did, call, is_in_run(shown.run, number)),
         None => Ok(()),
     }
 }
@@ -91,15 +121,14 @@ fn did_text(touch: Touch) -> &'static str
 // Appends the lines of the calls that put or took something.
 fn write_touch_lines(
     out: &mut String,
-    calls: &[ProblemCall<Op, Reply>],
-    run: &[usize],
+    shown: &ShownRun<'_>,
     found: &[Touching],
 ) -> Result<(), AllocError>
     ensures { OnOk result (string_bytes out.new
-        ≡ string_bytes out.old ++ touch_lines calls.now run.now found.now) }
+        ≡ string_bytes out.old ++ touch_lines shown.now.calls.now shown.now.run.now shown.now.lines.now found.now) }
 {
     for one in found {
-        write_about_call(out, did_text(one.touch), calls, run, one.call)?;
+        write_about_call(out, did_text(one.touch), shown, one.call)?;
     }
     Ok(())
 }
@@ -111,14 +140,14 @@ fn has_put(found: &[Touching]) -> bool
     found.iter().any(|one| one.touch == Touch::Put)
 }
 
-// Appends the line that tells that no call put this value under this key.
+// Appends the line that says that no call put this value under this key.
 fn write_no_pair(out: &mut String, key: i64, value: i64) -> Result<(), AllocError>
     ensures { OnOk result (string_bytes out.new ≡ string_bytes out.old ++ no_pair_line key value) }
 {
     write!(out, "  no call put {key}: {value}\n")
 }
 
-// Appends the line that tells that no call put what is asked for.
+// Appends the line that says that no call put what is asked for.
 fn write_no_put(out: &mut String, asked: &Asked) -> Result<(), AllocError>
     ensures { OnOk result (string_bytes out.new ≡ string_bytes out.old ++ no_put_line asked.now) }
 {
@@ -156,16 +185,15 @@ fn write_more_line(out: &mut String, count: usize) -> Result<(), AllocError>
 // many more did.
 fn write_touches(
     out: &mut String,
-    calls: &[ProblemCall<Op, Reply>],
-    run: &[usize],
+    shown: &ShownRun<'_>,
     asked: Asked,
     found: &[Touching],
 ) -> Result<(), AllocError>
     ensures { OnOk result (string_bytes out.new
-        ≡ string_bytes out.old ++ touches_text calls.now run.now asked found.now) }
+        ≡ string_bytes out.old ++ touches_text shown.now.calls.now shown.now.run.now shown.now.lines.now asked found.now) }
 {
     write_unless_put(out, asked, found)?;
-    write_touch_lines(out, calls, run, front(found, MAX_TOUCHING))?;
+    write_touch_lines(out, shown, front(found, MAX_TOUCHING))?;
     write_more_line(out, found.len())
 }
 
@@ -173,48 +201,38 @@ fn write_touches(
 fn write_asked(
     alloc: Global,
     out: &mut String,
-    calls: &[ProblemCall<Op, Reply>],
-    run: &[usize],
+    shown: &ShownRun<'_>,
     asker: usize,
     asked: Option<Asked>,
 ) -> Result<(), AllocError>
     ensures { OnOk result (string_bytes out.new
-        ≡ string_bytes out.old ++ asked_text calls.now run.now asker asked) }
+        ≡ string_bytes out.old ++ asked_text shown.now.calls.now shown.now.run.now shown.now.lines.now asker asked) }
 {
     let Some(asked) = asked else {
         return Ok(());
     };
-    let found = touches(alloc, calls, asked, asker)?;
-    write_touches(out, calls, run, asked, found.as_slice())
+    let found = touches(alloc, shown.calls, asked, asker)?;
+    write_touches(out, shown, asked, found.as_slice())
 }
 
 // Appends the line of the call since which a mutex is held after the run; nothing where it is free.
-fn write_held(
-    out: &mut String,
-    calls: &[ProblemCall<Op, Reply>],
-    run: &[usize],
-) -> Result<(), AllocError>
+fn write_held(out: &mut String, shown: &ShownRun<'_>) -> Result<(), AllocError>
     ensures { OnOk result (string_bytes out.new
-        ≡ string_bytes out.old ++ held_text calls.now run.now) }
+        ≡ string_bytes out.old ++ held_text shown.now.calls.now shown.now.run.now shown.now.lines.now) }
 {
-    match held_since(calls, run) {
-        Some(number) => write_about_call(out, "held", calls, run, number),
+    match held_since(shown.calls, shown.run) {
+        Some(number) => write_about_call(out, "held", shown, number),
         None => Ok(()),
     }
 }
 
 // The same below an operation of a mutex; nothing below others.
-fn write_holder(
-    out: &mut String,
-    calls: &[ProblemCall<Op, Reply>],
-    run: &[usize],
-    op: &Op,
-) -> Result<(), AllocError>
+fn write_holder(out: &mut String, shown: &ShownRun<'_>, op: &Op) -> Result<(), AllocError>
     ensures { OnOk result (string_bytes out.new
-        ≡ string_bytes out.old ++ holder_text calls.now run.now op.now) }
+        ≡ string_bytes out.old ++ holder_text shown.now.calls.now shown.now.run.now shown.now.lines.now op.now) }
 {
     match op {
-        Op::Lock | Op::Unlock | Op::TryLock => write_held(out, calls, run),
+        Op::Lock | Op::Unlock | Op::TryLock => write_held(out, shown),
         _ => Ok(()),
     }
 }
@@ -224,38 +242,35 @@ fn write_holder(
 fn write_known(
     alloc: Global,
     out: &mut String,
-    calls: &[ProblemCall<Op, Reply>],
-    run: &[usize],
+    shown: &ShownRun<'_>,
     number: usize,
     call: &ProblemCall<Op, Reply>,
 ) -> Result<(), AllocError>
     ensures { OnOk result (string_bytes out.new
-        ≡ string_bytes out.old ++ known_text calls.now run.now number call.now) }
+        ≡ string_bytes out.old ++ known_text shown.now.calls.now shown.now.run.now shown.now.lines.now number call.now) }
 {
     write_asked(
         alloc,
         out,
-        calls,
-        run,
+        shown,
         number,
         asked_of(&call.op, &call.returned),
     )?;
-    write_holder(out, calls, run, &call.op)
+    write_holder(out, shown, &call.op)
 }
 
 /// Appends what is known of the call of this number, where it is a call.
 pub(crate) fn write_known_of(
     alloc: Global,
     out: &mut String,
-    calls: &[ProblemCall<Op, Reply>],
-    run: &[usize],
+    shown: &ShownRun<'_>,
     number: usize,
 ) -> Result<(), AllocError>
     ensures { OnOk result (string_bytes out.new ≡ string_bytes out.old
-        ++ known_text_of calls.now run.now number (slice_get calls.now number)) }
+        ++ known_text_of shown.now.calls.now shown.now.run.now shown.now.lines.now number (slice_get shown.now.calls.now number)) }
 {
-    match calls.get(number) {
-        Some(call) => write_known(alloc, out, calls, run, number, call),
+    match shown.calls.get(number) {
+        Some(call) => write_known(alloc, out, shown, number, call),
         None => Ok(()),
     }
 }

@@ -3,4 +3,4 @@ use Rattle.lin_explain.specs.ExplanationText.{next_lines}
 use Rattle.lin_explain.proofs.explanation_text.write_next_lines.Given as goal
 
 abbrev pub invariant-loop-one : goal.invariant-loop-one
-invariant-loop-one l = string_bytes l.out ++ next_lines l.name l.calls l.run (drop l.one-index l.next) ≡ string_bytes l.fn.out ++ next_lines l.name l.calls l.run l.next
+invariant-loop-one l = string_bytes l.out ++ next_lines l.name l.shown.calls.now l.shown.run.now l.shown.lines.now (drop l.one-index l.next) ≡ string_bytes l.fn.out ++ next_lines l.name l.shown.calls.now l.shown.run.now l.shown.lines.now l.next

@@ -25,7 +25,7 @@ returns c =
     let named : c.object.result.name.now ≡ object_name c.args.history.now c.args.object = name_is (slice_get c.args.history.now.objects c.args.object) _ c.object.ensures in
     on_ok_weaker c.write_explanation.result (λ written order placed. (
       _,
-      lines_are c.args.history.now c.args.object c.in_ok-problem.problem part c.in_ok-problem.ensures.calls c.object.result.name.now c.in_ok-order.order order c.in_ok-explanation.explanation named
+      lines_are c.args.history.now c.args.object c.in_ok-problem.problem part c.in_ok-problem.ensures.calls c.object.result.name.now c.in_ok-order.order order c.args.lines.now c.in_ok-explanation.explanation named
           (c.in_ok-order.ensures ∙ numbers_are c.args.history.now c.args.object order c.args.run.now _ placed) c.in_ok-explanation.ensures,
       written,
     ))
