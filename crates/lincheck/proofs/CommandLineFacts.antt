@@ -48,6 +48,14 @@ explain_is_not_set : one_of (codes "explain") (matches_of program (codes "--stat
 unfolding program clap_on_literals
 explain_is_not_set = refl
 
+each_is_set : one_of (codes "each") (matches_of program (codes "--each" ∷ [])) ≡ Some (codes "true")
+unfolding program clap_on_literals
+each_is_set = refl
+
+each_is_not_set : one_of (codes "each") (matches_of program (codes "--explain" ∷ [])) ≡ Some (codes "false")
+unfolding program clap_on_literals
+each_is_not_set = refl
+
 -- What is usual where nothing is given.
 is_usual : (DEFAULT_WORKERS ≡ 4) × (DEFAULT_SHARDS ≡ 16)
 is_usual = (refl, refl)

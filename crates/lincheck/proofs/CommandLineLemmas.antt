@@ -3,6 +3,7 @@ use Rattle.std.proofs.Common.{◌≡◌, ◌⊎◌, ◌∙◌, ◌<◌, ◌||◌
 use Rattle.std.specs.Prelude.{IfOk, IfSome, option_map, unwrap_or, slice_get}
 use Rattle.std.specs.List.{All, slice_index_or}
 use Rattle.std.specs.Borrow.{Bor}
+use Rattle.std.proofs.lemmas.Result.{IfOk-weaker}
 use Rattle.std.specs.Str.Parse.{ParsesUnsigned, digits_value, without_leading_plus}
 use Rattle.std.proofs.lemmas.Bool.{cases_lt, le-ltb}
 use Rattle.std.proofs.lemmas.List.Elements.{All-nil, All-push}
@@ -25,10 +26,10 @@ use Rattle.clap.proofs.OnLiterals.{clap_on_literals}
 use Rattle.clap.proofs.CallerLemmas.{added_plain, entry_by_id}
 use Rattle.lin_workers.specs.Options.{Options, IsUpTo, is_outside, is_limit_outside, options_made}
 use Rattle.lin_workers.specs.declared.options.TheConstants.{MAX_WORKERS, MAX_SHARDS, MAX_LIMIT}
-use Rattle.lincheck.specs.CommandLine.{TakesUpTo, flag_rule, no_options, number_rule, program, IsBareLine, IsCommandLine, IsExplainAsked, IsFlagOption, IsNumberOption, GivesUpTo, AreAsked, AreInRange, number_in}
-use Rattle.lincheck.specs.Request.{AnswersKind, IsAnswerTo}
+use Rattle.lincheck.specs.CommandLine.{TakesUpTo, flag_rule, no_options, number_rule, program, IsBareLine, IsCommandLine, IsFlagAsked, IsFlagOption, IsNumberOption, GivesUpTo, AreAsked, AreInRange, number_in}
+use Rattle.lincheck.specs.Request.{AnswersKind, AreTaken, IsAnswerTo, IsRequestOf}
 use Rattle.lincheck.specs.declared.request.Request.{Request}
-use Rattle.lincheck.specs.declared.request.Request.TheVariants.{Run, Help, Version, Refused}
+use Rattle.lincheck.specs.declared.request.Request.TheVariants.{Run, Explain, Each, Help, Version, Refused}
 use Rattle.lincheck.specs.declared.request.TheConstants.{DEFAULT_WORKERS, DEFAULT_SHARDS}
 
 -- One more argument, which takes such a number where it has the name.
@@ -197,8 +198,8 @@ named : (a : Arg) (name : List ℕ) (greatest : ℕ) → IsNumberOption name gre
 named a name greatest is = ap (λ (r : Rule). r.id) is.rule
 
 -- What the program's command line is made of.
-program_of : (c : Command) → app_of c ≡ with_rule (with_rule (with_rule (with_rule (with_rule no_options (number_rule (codes "workers") MAX_WORKERS))
-    (number_rule (codes "shards") MAX_SHARDS)) (number_rule (codes "limit") MAX_LIMIT)) (flag_rule (codes "stats"))) (flag_rule (codes "explain")) → app_of c ≡ program
+program_of : (c : Command) → app_of c ≡ with_rule (with_rule (with_rule (with_rule (with_rule (with_rule no_options (number_rule (codes "workers") MAX_WORKERS))
+    (number_rule (codes "shards") MAX_SHARDS)) (number_rule (codes "limit") MAX_LIMIT)) (flag_rule (codes "stats"))) (flag_rule (codes "explain"))) (flag_rule (codes "each")) → app_of c ≡ program
 unfolding program
 program_of c is = is
 
@@ -207,13 +208,29 @@ is_plain_enough : (is_simple program ≡ true) × (is_simple_and_free program �
 unfolding program clap_on_literals
 is_plain_enough = (refl, refl)
 
+-- What is asked for by words that are taken.
+request_answers : (words : List Text) (o : Options) (explain each : Bool) (r : Request) → IsRequestOf o explain each r → AreTaken words explain each → AreAsked (matches_of program words) o → IsAnswerTo words r
+request_answers words o explain each (Run p) is taken asked = (subst (AreTaken words false) is.2 (subst (λ e. AreTaken words e each) is.1 taken), subst (AreAsked (matches_of program words)) (sym is.0) asked)
+request_answers words o explain each (Explain p) is taken asked = (subst (AreTaken words true) is.2 (subst (λ e. AreTaken words e each) is.1 taken), subst (AreAsked (matches_of program words)) (sym is.0) asked)
+request_answers words o explain each (Each p) is taken asked = (subst (AreTaken words false) is.2 (subst (λ e. AreTaken words e each) is.1 taken), subst (AreAsked (matches_of program words)) (sym is.0) asked)
+request_answers words o explain each (Help text) is taken asked = absurd is
+request_answers words o explain each (Version text) is taken asked = absurd is
+request_answers words o explain each (Refused text) is taken asked = inr (subst (AreTaken words true) is.1 (subst (λ e. AreTaken words e each) is.0 taken))
+
 -- Where the words are taken, the options are those that they ask for.
-pub run_answers : (words : List Text) (c : Command) (m : ArgMatches) (o : Options) (explain : Bool) → IsCommandLine c → HasMatchesOf (app_of c) words m
-    → (is_simple_and_free (app_of c) ≡ true → fault_of (app_of c) words ≡ []) → AreAsked (rows_of (found_of m)) o → IsExplainAsked (rows_of (found_of m)) explain → IsAnswerTo words (Run o explain)
-run_answers words c m o explain line matches fails asked told =
+pub run_answers : {E : Type 0} → (words : List Text) (c : Command) (m : ArgMatches) (o : Options) (explain each : Bool) (answer : Result Request E) → IsCommandLine c → HasMatchesOf (app_of c) words m
+    → (is_simple_and_free (app_of c) ≡ true → fault_of (app_of c) words ≡ []) → AreAsked (rows_of (found_of m)) o
+    → IsFlagAsked (rows_of (found_of m)) (codes "explain") explain → IsFlagAsked (rows_of (found_of m)) (codes "each") each
+    → IfOk answer (IsRequestOf o explain each) → IfOk answer (IsAnswerTo words)
+run_answers words c m o explain each answer line matches fails asked told told_each is =
     let faults = fails (ap is_simple_and_free line.app ∙ is_plain_enough.1) in
-    let rows = (matches (ap is_simple line.app ∙ is_plain_enough.0)).0 in
-    (ap (λ a. fault_of a words) (sym line.app) ∙ faults, subst (λ r. AreAsked r o) (rows ∙ ap (λ a. matches_of a words) line.app) asked, subst (λ r. IsExplainAsked r explain) (rows ∙ ap (λ a. matches_of a words) line.app) told)
+    let rows = (matches (ap is_simple line.app ∙ is_plain_enough.0)).0 ∙ ap (λ a. matches_of a words) line.app in
+    let taken : AreTaken words explain each = record {
+      sound = ap (λ a. fault_of a words) (sym line.app) ∙ faults;
+      explain_asked = subst (λ r. IsFlagAsked r (codes "explain") explain) rows told;
+      each_asked = subst (λ r. IsFlagAsked r (codes "each") each) rows told_each;
+    } in
+    IfOk-weaker answer _ _ (λ r is_r. request_answers words o explain each r is_r taken (subst (λ r. AreAsked r o) rows asked)) is
 
 help_is_not_memory : kinds.DisplayHelp ≡ kinds.OutOfMemory → ⊥
 help_is_not_memory same = cc
@@ -228,21 +245,23 @@ other_answers {E} words c e r line fails answers =
     go r answers (subst (λ a. HasKind (fault_of a words) e) line.app (fails (ap is_simple_and_free line.app ∙ is_plain_enough.1)))
   where
     go : (r : Result Request E) → AnswersKind (kind_of e) r → HasKind (fault_of program words) e → IfOk r (IsAnswerTo words)
-    go (Ok (Run o explain)) answers kind = absurd answers
+    go (Ok (Run o)) answers kind = absurd answers
+    go (Ok (Explain o)) answers kind = absurd answers
+    go (Ok (Each o)) answers kind = absurd answers
     go (Ok (Help text)) answers (inl memory) = absurd (help_is_not_memory (sym answers ∙ memory))
     go (Ok (Help text)) answers (inr among) = subst (λ k. IsAmong k (fault_of program words)) answers among
     go (Ok (Version text)) answers (inl memory) = absurd (version_is_not_memory (sym answers ∙ memory))
     go (Ok (Version text)) answers (inr among) = subst (λ k. IsAmong k (fault_of program words)) answers among
     go (Ok (Refused text)) answers (inl memory) = absurd (answers.2 memory)
-    go (Ok (Refused text)) answers (inr among) = (kind_of e, answers.0, answers.1, among)
+    go (Ok (Refused text)) answers (inr among) = inl (kind_of e, answers.0, answers.1, among)
     go (Err fault) answers kind = tt
 
--- A command to which the program's five options were added, one after another.
-pub line_of : (start first second third fourth last : Command) (w s l t e : Arg) → IsBareLine start
-    → AddsArg start w first → AddsArg first s second → AddsArg second l third → AddsArg third t fourth → AddsArg fourth e last
+-- A command to which the program's six options were added, one after another.
+pub line_of : (start first second third fourth fifth last : Command) (w s l t e o : Arg) → IsBareLine start
+    → AddsArg start w first → AddsArg first s second → AddsArg second l third → AddsArg third t fourth → AddsArg fourth e fifth → AddsArg fifth o last
     → IsNumberOption (codes "workers") MAX_WORKERS w → IsNumberOption (codes "shards") MAX_SHARDS s
-    → IsNumberOption (codes "limit") MAX_LIMIT l → IsFlagOption (codes "stats") t → IsFlagOption (codes "explain") e → IsCommandLine last
-line_of start first second third fourth last w s l t e bare to_w to_s to_l to_t to_e is_w is_s is_l is_t is_e =
+    → IsNumberOption (codes "limit") MAX_LIMIT l → IsFlagOption (codes "stats") t → IsFlagOption (codes "explain") e → IsFlagOption (codes "each") o → IsCommandLine last
+line_of start first second third fourth fifth last w s l t e o bare to_w to_s to_l to_t to_e to_o is_w is_s is_l is_t is_e is_o =
     let plain0 : IsPlain start = (subst (All IsPlainArg) (sym bare.args) (All-nil IsPlainArg), bare.groups) in
     let plain1 = added_plain start first w to_w plain0 is_w.plain in
     let plain2 = added_plain first second s to_s plain1 is_s.plain in
@@ -253,13 +272,17 @@ line_of start first second third fourth last w s l t e bare to_w to_s to_l to_t 
     let plain4 = added_plain third fourth t to_t plain3 is_t.plain in
     let own4 = own_after third fourth t to_t own3 is_t.own in
     let id = ap (λ (r : Rule). r.id) is_t.rule in
+    let plain5 = added_plain fourth fifth e to_e plain4 is_e.plain in
+    let own5 = own_after fourth fifth e to_e own4 is_e.own in
     let id_e = ap (λ (r : Rule). r.id) is_e.rule in
+    let id_o = ap (λ (r : Rule). r.id) is_o.rule in
     record {
-      app = program_of last (to_e.shape is_e.own ∙ ap₂ with_rule (to_t.shape is_t.own ∙ ap₂ with_rule (to_l.shape is_l.own ∙ ap₂ with_rule (to_s.shape is_s.own ∙ ap₂ with_rule
-          (to_w.shape is_w.own ∙ ap₂ with_rule bare.app is_w.rule) is_s.rule) is_l.rule) is_t.rule) is_e.rule);
-      plain = added_plain fourth last e to_e plain4 is_e.plain;
-      own = own_after fourth last e to_e own4 is_e.own;
-      workers = takes_push fourth last e (codes "workers") MAX_WORKERS to_e
+      app = program_of last (to_o.shape is_o.own ∙ ap₂ with_rule (to_e.shape is_e.own ∙ ap₂ with_rule (to_t.shape is_t.own ∙ ap₂ with_rule (to_l.shape is_l.own ∙ ap₂ with_rule (to_s.shape is_s.own ∙ ap₂ with_rule
+          (to_w.shape is_w.own ∙ ap₂ with_rule bare.app is_w.rule) is_s.rule) is_l.rule) is_t.rule) is_e.rule) is_o.rule);
+      plain = added_plain fifth last o to_o plain5 is_o.plain;
+      own = own_after fifth last o to_o own5 is_o.own;
+      workers = takes_push fifth last o (codes "workers") MAX_WORKERS to_o
+          (takes_push fourth fifth e (codes "workers") MAX_WORKERS to_e
           (takes_push third fourth t (codes "workers") MAX_WORKERS to_t
           (takes_push second third l (codes "workers") MAX_WORKERS to_l
           (takes_push first second s (codes "workers") MAX_WORKERS to_s
@@ -268,8 +291,10 @@ line_of start first second third fourth last w s l t e bare to_w to_s to_l to_t 
           (other_name s (codes "workers") MAX_WORKERS 115 119 (ap (λ n. slice_index n 0) (named s (codes "shards") MAX_SHARDS is_s)) refl (λ e. absurd (omega arith))))
           (other_name l (codes "workers") MAX_WORKERS 108 119 (ap (λ n. slice_index n 0) (named l (codes "limit") MAX_LIMIT is_l)) refl (λ e. absurd (omega arith))))
           (other_name t (codes "workers") MAX_WORKERS 115 119 (ap (λ n. slice_index n 0) id) refl (λ e. absurd (omega arith))))
-          (other_name e (codes "workers") MAX_WORKERS 101 119 (ap (λ n. slice_index n 0) id_e) refl (λ q. absurd (omega arith)));
-      shards = takes_push fourth last e (codes "shards") MAX_SHARDS to_e
+          (other_name e (codes "workers") MAX_WORKERS 101 119 (ap (λ n. slice_index n 0) id_e) refl (λ q. absurd (omega arith))))
+          (other_name o (codes "workers") MAX_WORKERS 101 119 (ap (λ n. slice_index n 0) id_o) refl (λ q. absurd (omega arith)));
+      shards = takes_push fifth last o (codes "shards") MAX_SHARDS to_o
+          (takes_push fourth fifth e (codes "shards") MAX_SHARDS to_e
           (takes_push third fourth t (codes "shards") MAX_SHARDS to_t
           (takes_push second third l (codes "shards") MAX_SHARDS to_l
           (takes_push first second s (codes "shards") MAX_SHARDS to_s
@@ -278,8 +303,10 @@ line_of start first second third fourth last w s l t e bare to_w to_s to_l to_t 
           (λ is. takes_it s (codes "shards") MAX_SHARDS is_s))
           (other_name l (codes "shards") MAX_SHARDS 108 115 (ap (λ n. slice_index n 0) (named l (codes "limit") MAX_LIMIT is_l)) refl (λ e. absurd (omega arith))))
           (λ is. absurd (stats_is_not_shards (sym id ∙ is))))
-          (other_name e (codes "shards") MAX_SHARDS 101 115 (ap (λ n. slice_index n 0) id_e) refl (λ q. absurd (omega arith)));
-      limit = takes_push fourth last e (codes "limit") MAX_LIMIT to_e
+          (other_name e (codes "shards") MAX_SHARDS 101 115 (ap (λ n. slice_index n 0) id_e) refl (λ q. absurd (omega arith))))
+          (other_name o (codes "shards") MAX_SHARDS 101 115 (ap (λ n. slice_index n 0) id_o) refl (λ q. absurd (omega arith)));
+      limit = takes_push fifth last o (codes "limit") MAX_LIMIT to_o
+          (takes_push fourth fifth e (codes "limit") MAX_LIMIT to_e
           (takes_push third fourth t (codes "limit") MAX_LIMIT to_t
           (takes_push second third l (codes "limit") MAX_LIMIT to_l
           (takes_push first second s (codes "limit") MAX_LIMIT to_s
@@ -288,7 +315,8 @@ line_of start first second third fourth last w s l t e bare to_w to_s to_l to_t 
           (other_name s (codes "limit") MAX_LIMIT 115 108 (ap (λ n. slice_index n 0) (named s (codes "shards") MAX_SHARDS is_s)) refl (λ e. absurd (omega arith))))
           (λ is. takes_it l (codes "limit") MAX_LIMIT is_l))
           (other_name t (codes "limit") MAX_LIMIT 115 108 (ap (λ n. slice_index n 0) id) refl (λ e. absurd (omega arith))))
-          (other_name e (codes "limit") MAX_LIMIT 101 108 (ap (λ n. slice_index n 0) id_e) refl (λ q. absurd (omega arith)));
+          (other_name e (codes "limit") MAX_LIMIT 101 108 (ap (λ n. slice_index n 0) id_e) refl (λ q. absurd (omega arith))))
+          (other_name o (codes "limit") MAX_LIMIT 101 108 (ap (λ n. slice_index n 0) id_o) refl (λ q. absurd (omega arith)));
     }
   where
     own_after : (old new : Command) (a : Arg) → AddsArg old a new → (out-Command old).has_globals ≡ false → a.global ≡ false

@@ -6,3 +6,5 @@ pub mod LimitLemmas
 pub mod PrintLemmas
 pub mod CommandLineLemmas
 pub mod CommandLineFacts
+pub mod RunsLemmas
+pub mod EachLemmas

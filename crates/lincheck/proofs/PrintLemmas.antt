@@ -9,8 +9,11 @@ use Rattle.lin_history.specs.Locality.Whole.{Replays, with_state}
 use Rattle.lin_history.specs.Locality.JoinedOrder.{Places}
 use Rattle.lin_history.specs.Locality.RecordedWhole.{whole_of, start_at}
 use Rattle.lin_text.specs.declared.cause.Cause.{Cause}
+use Rattle.lin_text.specs.EventLines.{AreEventLines}
 use Rattle.lin_text.specs.Text.{MeansHistory, MeansFault}
 use Rattle.lin_workers.specs.Options.{Options}
+use Rattle.lincheck.specs.declared.answer_form.AnswerForm.{AnswerForm}
+use Rattle.lincheck.specs.declared.answer_form.AnswerForm.TheVariants.{Report, Explained, Each}
 use Rattle.lincheck.specs.declared.status.Status.{Status}
 use Rattle.lincheck.specs.declared.status.Status.TheVariants.{Yes, No, Undecided, Refused}
 use Rattle.lincheck.specs.declared.verdict.Verdict.{Verdict}
@@ -25,8 +28,11 @@ use Rattle.lincheck.proofs.Bytes.{kept}
 use Rattle.lin_history.specs.declared.limits.TheConstants.{MAX_OBJECTS}
 use Rattle.lincheck.specs.Report.{with_stats}
 use Rattle.lincheck.specs.Explained.{WithExplanation, IsExplained}
+use Rattle.std.specs.List.{list_any}
+use Rattle.std.specs.Prelude.{if◌then◌else◌}
+use Rattle.lincheck.specs.Each.{is_no, is_undecided}
 use Rattle.lincheck.specs.Stored.{IsStoredTold, judged_of}
-use Rattle.lincheck.specs.Prints.{IsReport, WithStats, Prints, status_of}
+use Rattle.lincheck.specs.Prints.{IsReport, WithStats, PrintsWith, PrintsEach, PrintsHistory, Prints, status_of}
 use Rattle.std.specs.Result.{result_map_both, is_err}
 use Rattle.lincheck.specs.Ran.{is_read, is_write, is_fault, RanFrom}
 
@@ -42,11 +48,16 @@ means_fault text read line cause (inr long) (inl m) =
     inl (omega (arith, l, n), m.1, m.2)
 means_fault text read line cause (inr long) (inr m) = absurd (let s = m.2.short in let l = long.0 in omega (arith, s, l))
 
-pub prints_read : (options : Options) (explain : Bool) (text read : List ℕ) (status : Status) (printed : List ℕ) → IsReadOf text read → Prints options explain read status printed → Prints options explain text status printed
-prints_read options explain text read Yes printed r p = (p.0, means_history text read p.0 r p.1, p.2)
-prints_read options explain text read No printed r p = (p.0, means_history text read p.0 r p.1, p.2)
-prints_read options explain text read Undecided printed r p = (p.0, means_history text read p.0 r p.1, p.2)
-prints_read options explain text read Refused printed r p = (p.0, means_fault text read p.0.line p.0.cause r p.1, p.2)
+-- what a history prints whose text was read
+prints_history_read : (options : Options) (form : AnswerForm) (text read : List ℕ) (h : RecordedHistory) (status : Status) (printed : List ℕ) → IsReadOf text read → MeansHistory read h → PrintsHistory options form read h status printed → PrintsHistory options form text h status printed
+prints_history_read options form text read h status printed (inl same) m p = subst (λ (t : List ℕ). PrintsHistory options form t h status printed) (sym same) p
+prints_history_read options form text read h status printed (inr long) m p = absurd (let s = m.short in let l = long.0 in omega (arith, s, l))
+
+pub prints_read : (options : Options) (form : AnswerForm) (text read : List ℕ) (status : Status) (printed : List ℕ) → IsReadOf text read → Prints options form read status printed → Prints options form text status printed
+prints_read options form text read Yes printed r p = (p.0, means_history text read p.0 r p.1, prints_history_read options form text read p.0 Yes printed r p.1 p.2)
+prints_read options form text read No printed r p = (p.0, means_history text read p.0 r p.1, prints_history_read options form text read p.0 No printed r p.1 p.2)
+prints_read options form text read Undecided printed r p = (p.0, means_history text read p.0 r p.1, prints_history_read options form text read p.0 Undecided printed r p.1 p.2)
+prints_read options form text read Refused printed r p = (p.0, means_fault text read p.0.line p.0.cause r p.1, p.2)
 
 -- the calls of a list are known where its first and the rest are
 known_more : (h : RecordedHistory) (x : Placed Reply) (xs : List (Placed Reply)) → x.call < length h.calls → AreKnown (whole_of h) xs → AreKnown (whole_of h) (x ∷ xs)
@@ -72,13 +83,13 @@ verdict_of h limit (verdicts.No object run) v = (v.0.0.declared, placed_known h 
 verdict_of h limit (verdicts.Undecided object) v = v.declared
 
 -- the report of a right verdict, with what is told after it, is the report of the history
-report_of_verdict : (explain : Bool) (h : RecordedHistory) (limit : Option ℕ) (v : Verdict) (report printed : List ℕ) → IsVerdict h limit v → report ≡ report_of h v → IsExplained explain h v report printed → IsReport explain limit h (status_of v) (judged_of h v) printed
-report_of_verdict explain h limit (verdicts.Yes l) report printed v p e = ((v.0.0, l, v.0.1, v.0.2, v.1, e ∙ p), refl)
-report_of_verdict explain h limit (verdicts.No object run) report printed v p e = (object, (run.items, v.0.0, v.0.1, subst (λ (r : List ℕ). WithExplanation explain h object v.0.1.order r printed) p (e v.0.1)), v.1, refl)
-report_of_verdict explain h limit (verdicts.Undecided object) report printed v p e = (object, (v, e ∙ p), refl)
+report_of_verdict : (lines : Option (List ℕ)) (h : RecordedHistory) (limit : Option ℕ) (v : Verdict) (report printed : List ℕ) → IsVerdict h limit v → report ≡ report_of h v → IsExplained lines h v report printed → IsReport lines limit h (status_of v) (judged_of h v) printed
+report_of_verdict lines h limit (verdicts.Yes l) report printed v p e = ((v.0.0, l, v.0.1, v.0.2, v.1, e ∙ p), refl)
+report_of_verdict lines h limit (verdicts.No object run) report printed v p e = (object, (run.items, v.0.0, v.0.1, subst (λ (r : List ℕ). WithExplanation lines h object v.0.1.order r printed) p (e v.0.1)), v.1, refl)
+report_of_verdict lines h limit (verdicts.Undecided object) report printed v p e = (object, (v, e ∙ p), refl)
 
--- where no explanation is asked for, the report stays as it is
-pub explained_not : (h : RecordedHistory) (v : Verdict) (report : List ℕ) → IsExplained false h v report report
+-- where no lines are given, the report stays as it is
+pub explained_not : (h : RecordedHistory) (v : Verdict) (report : List ℕ) → IsExplained None h v report report
 explained_not h (verdicts.Yes l) report = refl
 explained_not h (verdicts.No object run) report = λ longest. refl
 explained_not h (verdicts.Undecided object) report = refl
@@ -95,21 +106,44 @@ stats_told false h n stored report printed e told few = e
 stats_told true h n (Some stored) report printed e told few = (stored, told.is_sum, e)
 stats_told true h n None report printed e told few = absurd (let q = told.is_told few in cc)
 
--- and the text prints it, with the statistics after it
-pub prints_verdict : (text : List ℕ) (h : RecordedHistory) (options : Options) (explain : Bool) (v : Verdict) (report told printed : List ℕ) → MeansHistory text h → IsVerdict h options.limit v → report ≡ report_of h v → IsExplained explain h v report told → WithStats options.stats h (judged_of h v) told printed → Prints options explain text (status_of v) printed
-prints_verdict text h options explain (verdicts.Yes l) report told printed m right is why stats = (h, m, (length h.objects, told, report_of_verdict explain h options.limit (verdicts.Yes l) report told right is why, stats))
-prints_verdict text h options explain (verdicts.No object run) report told printed m right is why stats = (h, m, (object + 1, told, report_of_verdict explain h options.limit (verdicts.No object run) report told right is why, stats))
-prints_verdict text h options explain (verdicts.Undecided object) report told printed m right is why stats = (h, m, (object + 1, told, report_of_verdict explain h options.limit (verdicts.Undecided object) report told right is why, stats))
+-- and the history prints it, with the statistics after it
+pub prints_verdict : (h : RecordedHistory) (options : Options) (lines : Option (List ℕ)) (v : Verdict) (report told printed : List ℕ) → IsVerdict h options.limit v → report ≡ report_of h v → IsExplained lines h v report told → WithStats options.stats h (judged_of h v) told printed → PrintsWith options lines h (status_of v) printed
+prints_verdict h options lines v report told printed right is why stats = (judged_of h v, told, report_of_verdict lines h options.limit v report told right is why, stats)
+
+-- what the history prints is what the text prints that means it
+pub prints_report : (text : List ℕ) (h : RecordedHistory) (options : Options) (status : Status) (printed : List ℕ) → MeansHistory text h → PrintsWith options None h status printed → Prints options Report text status printed
+prints_report text h options Yes printed m p = (h, m, p)
+prints_report text h options No printed m p = (h, m, p)
+prints_report text h options Undecided printed m p = (h, m, p)
+prints_report text h options Refused printed m p = absurd p.2
+
+pub prints_explained : (text : List ℕ) (h : RecordedHistory) (lines : List ℕ) (options : Options) (status : Status) (printed : List ℕ) → MeansHistory text h → AreEventLines text h.events lines → PrintsWith options (Some lines) h status printed → Prints options Explained text status printed
+prints_explained text h lines options Yes printed m are p = (h, m, (lines, are, p))
+prints_explained text h lines options No printed m are p = (h, m, (lines, are, p))
+prints_explained text h lines options Undecided printed m are p = (h, m, (lines, are, p))
+prints_explained text h lines options Refused printed m are p = absurd p.2
+
+-- the same with a line for each object
+some_status : (no undecided : Bool) → Refused ≡ (if no then No else if undecided then Undecided else Yes) → ⊥
+some_status true undecided e = cc
+some_status false true e = cc
+some_status false false e = cc
+
+pub prints_each : (text : List ℕ) (h : RecordedHistory) (options : Options) (status : Status) (printed : List ℕ) → MeansHistory text h → PrintsEach options h status printed → Prints options Each text status printed
+prints_each text h options Yes printed m p = (h, m, p)
+prints_each text h options No printed m p = (h, m, p)
+prints_each text h options Undecided printed m p = (h, m, p)
+prints_each text h options Refused printed m p = absurd (some_status (list_any is_no p.statuses) (list_any is_undecided p.statuses) p.together)
 
 -- ---- a run on what was read
 
-ran_ok : (options : Options) (explain : Bool) (source old new : Option (List ℕ)) (read : List ℕ) (status : Status) (printed : List ℕ) → IfSome source (λ text. IsReadOf text read) → Prints options explain read status printed → Appends old new printed → RanFrom options explain source old new (Ok status)
-ran_ok options explain None old new read status printed r p a = (read, tt, (printed, p, a))
-ran_ok options explain (Some text) old new read status printed r p a = (text, refl, (printed, prints_read options explain text read status printed r p, a))
+ran_ok : (options : Options) (form : AnswerForm) (source old new : Option (List ℕ)) (read : List ℕ) (status : Status) (printed : List ℕ) → IfSome source (λ text. IsReadOf text read) → Prints options form read status printed → Appends old new printed → RanFrom options form source old new (Ok status)
+ran_ok options form None old new read status printed r p a = (read, tt, (printed, p, a))
+ran_ok options form (Some text) old new read status printed r p a = (text, refl, (printed, prints_read options form text read status printed r p, a))
 
-ran_write : (options : Options) (explain : Bool) (source old new : Option (List ℕ)) (read : List ℕ) (status : Status) (printed : List ℕ) → IfSome source (λ text. IsReadOf text read) → Prints options explain read status printed → ((n : ℕ) × Appends old new (take n printed)) → RanFrom options explain source old new (Err Write)
-ran_write options explain None old new read status printed r p a = (read, tt, (status, printed, a.0, p, a.1))
-ran_write options explain (Some text) old new read status printed r p a = (text, refl, (status, printed, a.0, prints_read options explain text read status printed r p, a.1))
+ran_write : (options : Options) (form : AnswerForm) (source old new : Option (List ℕ)) (read : List ℕ) (status : Status) (printed : List ℕ) → IfSome source (λ text. IsReadOf text read) → Prints options form read status printed → ((n : ℕ) × Appends old new (take n printed)) → RanFrom options form source old new (Err Write)
+ran_write options form None old new read status printed r p a = (read, tt, (status, printed, a.0, p, a.1))
+ran_write options form (Some text) old new read status printed r p a = (text, refl, (status, printed, a.0, prints_read options form text read status printed r p, a.1))
 
 -- what the source had left, or no byte where that is not known
 text_left : (source : Option (List ℕ)) → (text : List ℕ) × IfSome source (λ left. text ≡ left)
@@ -117,15 +151,15 @@ text_left None = ([], tt)
 text_left (Some text) = (text, refl)
 
 -- a run that ended before the first write
-pub ran_nothing : (options : Options) (explain : Bool) (source old : Option (List ℕ)) (fault : RunFault) → (fault ≡ Write → ⊥) → RanFrom options explain source old old (Err fault)
-ran_nothing options explain source old Write other = absurd (other refl)
-ran_nothing options explain source old Read other = let left = text_left source in (left.0, left.1, kept old)
-ran_nothing options explain source old Memory other = let left = text_left source in (left.0, left.1, kept old)
+pub ran_nothing : (options : Options) (form : AnswerForm) (source old : Option (List ℕ)) (fault : RunFault) → (fault ≡ Write → ⊥) → RanFrom options form source old old (Err fault)
+ran_nothing options form source old Write other = absurd (other refl)
+ran_nothing options form source old Read other = let left = text_left source in (left.0, left.1, kept old)
+ran_nothing options form source old Memory other = let left = text_left source in (left.0, left.1, kept old)
 
 -- a run whose answer was written so
-pub ran_ended : {A E : Type 0} (options : Options) (explain : Bool) (source old new : Option (List ℕ)) (read : List ℕ) (status : Status) (printed : List ℕ) (written : Result A E) → IfSome source (λ text. IsReadOf text read) → Prints options explain read status printed → OnOk written (Appends old new printed) → OnErr written ((n : ℕ) × Appends old new (take n printed)) → RanFrom options explain source old new (result_map_both (λ (x : A). status) (λ (e : E). Write) written)
-ran_ended options explain source old new read status printed (Ok x) r p ok err = ran_ok options explain source old new read status printed r p ok
-ran_ended options explain source old new read status printed (Err e) r p ok err = ran_write options explain source old new read status printed r p err
+pub ran_ended : {A E : Type 0} (options : Options) (form : AnswerForm) (source old new : Option (List ℕ)) (read : List ℕ) (status : Status) (printed : List ℕ) (written : Result A E) → IfSome source (λ text. IsReadOf text read) → Prints options form read status printed → OnOk written (Appends old new printed) → OnErr written ((n : ℕ) × Appends old new (take n printed)) → RanFrom options form source old new (result_map_both (λ (x : A). status) (λ (e : E). Write) written)
+ran_ended options form source old new read status printed (Ok x) r p ok err = ran_ok options form source old new read status printed r p ok
+ran_ended options form source old new read status printed (Err e) r p ok err = ran_write options form source old new read status printed r p err
 
 -- no answer that was written so is a failed read; it is a failed write where the write failed
 pub no_read : {A E : Type 0} (status : Status) (written : Result A E) → is_fault is_read (result_map_both (λ (x : A). status) (λ (e : E). Write) written) ≡ false

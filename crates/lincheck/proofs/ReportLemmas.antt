@@ -12,12 +12,12 @@ use Rattle.lin_history.specs.Locality.RecordedWhole.{whole_of}
 use Rattle.lin_history.specs.Verifier.Flags.{AreKnown}
 use Rattle.lincheck.specs.Report.{call_line, call_lines, dropped_line, dropped_lines, is_placed}
 
-dropped_at : {A : Type 0} (xs : List A) (n : ℕ) (x : A) → slice_get xs n ≡ Some x → drop n xs ≡ x ∷ drop (n + 1) xs
+pub dropped_at : {A : Type 0} (xs : List A) (n : ℕ) (x : A) → slice_get xs n ≡ Some x → drop n xs ≡ x ∷ drop (n + 1) xs
 dropped_at [] n x e = absurd (cc)
 dropped_at {A} (y ∷ ys) zero x e = (let same : y ≡ x = cc in ap (λ (z : A). z ∷ ys) same)
 dropped_at (y ∷ ys) (suc n) x e = rw add-one (dropped_at ys n x e ∙ rw add-one refl)
 
-over : {A : Type 0} (xs : List A) (i : ℕ) → length xs ≤ i → drop i xs ≡ []
+pub over : {A : Type 0} (xs : List A) (i : ℕ) → length xs ≤ i → drop i xs ≡ []
 over [] zero h = refl
 over [] (suc i) h = refl
 over (x ∷ xs) zero h = absurd (omega arith)

@@ -4,6 +4,7 @@ pub mod Report
 pub mod Verdict
 pub mod Explained
 pub mod Stored
+pub mod Each
 pub mod Prints
 pub mod Ran
 pub mod Status

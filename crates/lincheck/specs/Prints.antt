@@ -1,5 +1,5 @@
 -- What a text prints.
-use Rattle.std.specs.Prelude.{◌≡◌, ℕ, ◌+◌, Bool, true, false, Option, Some, List, ◌++◌, length}
+use Rattle.std.specs.Prelude.{◌≡◌, ℕ, ◌+◌, Bool, true, false, Option, Some, None, List, ◌++◌, length}
 use Rattle.lin_object.specs.declared.reply.Reply.{Reply}
 use Rattle.lin_history.specs.declared.locality.placed.Placed.{Placed}
 use Rattle.lin_history.specs.Recorder.RecordedHistory.{RecordedHistory}
@@ -8,8 +8,11 @@ use Rattle.lin_history.specs.Locality.JoinedOrder.{IsJoined}
 use Rattle.lin_history.specs.Locality.RecordedWhole.{whole_of}
 use Rattle.lin_text.specs.declared.cause.TextFault.{TextFault}
 use Rattle.lin_text.specs.Text.{MeansHistory, MeansFault}
+use Rattle.lin_text.specs.EventLines.{AreEventLines}
 use Rattle.lin_text.specs.Words.{fault_line}
 use Rattle.lin_workers.specs.Options.{Options}
+use Rattle.lincheck.specs.declared.answer_form.AnswerForm.{AnswerForm}
+use Rattle.lincheck.specs.declared.answer_form.AnswerForm.TheVariants.{Report, Explained, Each}
 use Rattle.lincheck.specs.declared.status.Status.{Status}
 use Rattle.lincheck.specs.declared.status.Status.TheVariants.{Yes, No, Undecided, Refused}
 use Rattle.lincheck.specs.declared.verdict.Verdict.{Verdict}
@@ -17,6 +20,7 @@ use Rattle.lincheck.specs.declared.verdict.Verdict.TheVariants as verdicts
 use Rattle.lincheck.specs.Verdict.{AreLeast, IsFirstWithout, IsLongestRunOf, IsUndecidedAt}
 use Rattle.lincheck.specs.Explained.{WithExplanation}
 use Rattle.lincheck.specs.Stored.{IsStoredSum}
+use Rattle.lincheck.specs.Each.{AreStatusesOf, status_lines, status_of_all}
 use Rattle.lincheck.specs.Report.{yes_report, no_report, undecided_report, stored_line}
 
 -- A text that means a fault prints the line of the fault.
@@ -28,20 +32,21 @@ PrintsRefused text printed = (fault : TextFault) × MeansFault text fault.line f
 abbrev pub PrintsYes : RecordedHistory → List ℕ → Type 0
 PrintsYes h printed = (orders : List (List ℕ)) × (l : List (Placed Reply)) × AreLeast h orders × IsJoined (whole_of h) orders l × IsLinearizationOfWhole (whole_of h) l × (printed ≡ yes_report h l)
 
--- Otherwise it prints the first object that has none, with its longest run, and where that is asked for why the run ends.
-abbrev pub PrintsNo : Bool → RecordedHistory → ℕ → List ℕ → Type 0
-PrintsNo explain h object printed = (run : List (Placed Reply)) × IsFirstWithout h object × (longest : IsLongestRunOf h object run) × WithExplanation explain h object longest.order (no_report h object run) printed
+-- Otherwise it prints the first object that has none, with its longest run, and where the lines of the events are given why the
+-- run ends.
+abbrev pub PrintsNo : Option (List ℕ) → RecordedHistory → ℕ → List ℕ → Type 0
+PrintsNo lines h object printed = (run : List (Placed Reply)) × IsFirstWithout h object × (longest : IsLongestRunOf h object run) × WithExplanation lines h object longest.order (no_report h object run) printed
 
 -- Within a limit it may print an object that is not decided.
 abbrev pub PrintsUndecided : RecordedHistory → Option ℕ → ℕ → List ℕ → Type 0
 PrintsUndecided h limit object printed = IsUndecidedAt h limit object × (printed ≡ undecided_report h object)
 
 -- The report of a history within the limit, with each status, where so many objects were judged: all, or those up to the one that is told.
-abbrev pub IsReport : Bool → Option ℕ → RecordedHistory → Status → ℕ → List ℕ → Type 0
-IsReport explain limit h Yes judged printed = PrintsYes h printed × (judged ≡ length h.objects)
-IsReport explain limit h No judged printed = (object : ℕ) × PrintsNo explain h object printed × ((l : List (Placed Reply)) → IsLinearizationOfWhole (whole_of h) l → ⊥) × (judged ≡ object + 1)
-IsReport explain limit h Undecided judged printed = (object : ℕ) × PrintsUndecided h limit object printed × (judged ≡ object + 1)
-IsReport explain limit h Refused judged printed = ⊥
+abbrev pub IsReport : Option (List ℕ) → Option ℕ → RecordedHistory → Status → ℕ → List ℕ → Type 0
+IsReport lines limit h Yes judged printed = PrintsYes h printed × (judged ≡ length h.objects)
+IsReport lines limit h No judged printed = (object : ℕ) × PrintsNo lines h object printed × ((l : List (Placed Reply)) → IsLinearizationOfWhole (whole_of h) l → ⊥) × (judged ≡ object + 1)
+IsReport lines limit h Undecided judged printed = (object : ℕ) × PrintsUndecided h limit object printed × (judged ≡ object + 1)
+IsReport lines limit h Refused judged printed = ⊥
 
 -- The report alone, or with the line of statistics after it: how many configurations were stored for the objects that were judged.
 abbrev pub WithStats : Bool → RecordedHistory → ℕ → List ℕ → List ℕ → Type 0
@@ -49,16 +54,31 @@ WithStats false h judged report printed = printed ≡ report
 WithStats true h judged report printed = (stored : ℕ) × IsStoredSum h judged stored × (printed ≡ report ++ stored_line (Some stored))
 
 -- What a history prints with these options, with each status: its report, of one that is not linearizable why the longest run
--- ends where that is asked for, and then statistics where they are asked for.
-abbrev pub PrintsWith : Options → Bool → RecordedHistory → Status → List ℕ → Type 0
-PrintsWith options explain h status printed = (judged : ℕ) × (report : List ℕ) × IsReport explain options.limit h status judged report × WithStats options.stats h judged report printed
+-- ends where the lines of the events are given, and then statistics where they are asked for.
+abbrev pub PrintsWith : Options → Option (List ℕ) → RecordedHistory → Status → List ℕ → Type 0
+PrintsWith options lines h status printed = (judged : ℕ) × (report : List ℕ) × IsReport lines options.limit h status judged report × WithStats options.stats h judged report printed
 
--- What a text prints with these options, with each status: what the history prints that it means, or the line of its fault, which no statistics follow.
-abbrev pub Prints : Options → Bool → List ℕ → Status → List ℕ → Type 0
-Prints options explain text Yes printed = (h : RecordedHistory) × MeansHistory text h × PrintsWith options explain h Yes printed
-Prints options explain text No printed = (h : RecordedHistory) × MeansHistory text h × PrintsWith options explain h No printed
-Prints options explain text Undecided printed = (h : RecordedHistory) × MeansHistory text h × PrintsWith options explain h Undecided printed
-Prints options explain text Refused printed = PrintsRefused text printed
+-- With a line for each object, a history prints the status of each object by itself, and has the status of all together.
+pub record PrintsEach (options : Options) (h : RecordedHistory) (status : Status) (printed : List ℕ) : Type 0 where
+  pub statuses : List Status
+  pub are : AreStatusesOf h options.limit (length h.objects) statuses
+  pub together : status ≡ status_of_all statuses
+  pub print : WithStats options.stats h (length h.objects) (status_lines h 0 statuses) printed
+
+-- What a history that a text means prints in this form: its report; its report, with why the longest run ends and on which lines
+-- of the text the calls stand; or a line for each object.
+abbrev pub PrintsHistory : Options → AnswerForm → List ℕ → RecordedHistory → Status → List ℕ → Type 0
+PrintsHistory options Report text h status printed = PrintsWith options None h status printed
+PrintsHistory options Explained text h status printed = (lines : List ℕ) × AreEventLines text h.events lines × PrintsWith options (Some lines) h status printed
+PrintsHistory options Each text h status printed = PrintsEach options h status printed
+
+-- What a text prints with these options in this form, with each status: what the history prints that it means, or the line of its
+-- fault, which no statistics follow.
+abbrev pub Prints : Options → AnswerForm → List ℕ → Status → List ℕ → Type 0
+Prints options form text Yes printed = (h : RecordedHistory) × MeansHistory text h × PrintsHistory options form text h Yes printed
+Prints options form text No printed = (h : RecordedHistory) × MeansHistory text h × PrintsHistory options form text h No printed
+Prints options form text Undecided printed = (h : RecordedHistory) × MeansHistory text h × PrintsHistory options form text h Undecided printed
+Prints options form text Refused printed = PrintsRefused text printed
 
 -- The status that tells a verdict.
 abbrev pub status_of : Verdict → Status

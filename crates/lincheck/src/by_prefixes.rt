@@ -13,9 +13,9 @@ use std::alloc::{AllocError, Global};
 // The most lifts of all searches of prefixes together, for each call of the object.
 const LIFTS_BY_PREFIXES: u64 = 1_000;
 
-// The least limit with which prefixes are searched. A search that stalls has made so many lifts; within a smaller limit it has met
-// that before, and the object is undecided.
-const LEAST_LIMIT: u64 = 500_000;
+/// The least limit with which prefixes are searched. A search that stalls has made so many lifts; within a smaller limit it has met
+/// that before, and the object is undecided.
+pub(crate) const LEAST_LIMIT: u64 = 500_000;
 
 // How many lifts the searches of prefixes may make of so many calls: no more than the limit, where there is one. `None` where
 // none is made, since the limit is too small.

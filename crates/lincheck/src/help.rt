@@ -33,9 +33,19 @@ done, with the state after them) were kept, which tells how hard the search was"
 
 /// What `--explain` is good for.
 pub(crate) const EXPLAIN: &str =
-    "Tell after `not linearizable` why the longest run ends: the state after it, each call
+    "Say after `not linearizable` why the longest run ends: the state after it, each call
 that could come next and what it would answer there, and which calls put or took
-the value that it asks for";
+the value that it asks for, each with the lines of the input on which it stands";
+
+/// What `--each` is good for.
+pub(crate) const EACH: &str =
+    "Check each object, also after one that is not linearizable, and print a line for each
+in place of the report: `x: linearizable`, `x: not linearizable` or `x: undecided`";
+
+/// What is said where both `--each` and `--explain` are given.
+pub(crate) const EACH_EXPLAINED: &str =
+    "error: --each prints no longest run that --explain could tell of: give one of them
+";
 
 /// What is read, what is printed, and how the program ends.
 pub(crate) const MANUAL: &str = "\
@@ -71,10 +81,11 @@ Input: one JSON object a line, in the order in which the events happened.
 Output:
   linearizable           and below it the calls in an order that explains the history, a line each:
                          place, process, object, operation = result. A call that never returned
-                         ends with `completed`, or stands below the order as `dropped`.
-  not linearizable: x    No order explains the calls on x. Below it stands the longest run of them
+                         ends with `completed`, or is below the order as `dropped`.
+  not linearizable: x    No order explains the calls on x. Below it is the longest run of them
                          that can be explained.
   undecided: x           The limit ended the search of x before there was an answer.
+  x: linearizable        With --each, a line for each object.
   line 3: bad event      The input is no history: the first faulty line, and what is wrong there.
 
 Exit status:
@@ -84,15 +95,18 @@ Exit status:
   3  undecided
   4  reading or writing failed, or there was not enough memory; standard error tells which
 
-Example: the write of 5 has returned, and a read that is called after it returns 0.
-  printf '%s\\n' '{\"event\":\"object\",\"object\":\"x\",\"kind\":\"register\"}' \\
-    '{\"event\":\"call\",\"process\":1,\"object\":\"x\",\"op\":\"write\",\"args\":[5]}' \\
-    '{\"event\":\"return\",\"process\":1,\"object\":\"x\",\"result\":\"ok\"}' \\
-    '{\"event\":\"call\",\"process\":2,\"object\":\"x\",\"op\":\"read\"}' \\
-    '{\"event\":\"return\",\"process\":2,\"object\":\"x\",\"result\":0}' | lincheck
+Example: an item that is in the set is added once more, and that returns true.
+  printf '%s\\n' '{\"event\":\"object\",\"object\":\"e\",\"kind\":\"set\"}' \\
+    '{\"event\":\"call\",\"process\":1,\"object\":\"e\",\"op\":\"add\",\"args\":[1]}' \\
+    '{\"event\":\"return\",\"process\":1,\"object\":\"e\",\"result\":true}' \\
+    '{\"event\":\"call\",\"process\":1,\"object\":\"e\",\"op\":\"add\",\"args\":[1]}' \\
+    '{\"event\":\"return\",\"process\":1,\"object\":\"e\",\"result\":true}' | lincheck --explain
 prints
-  not linearizable: x
+  not linearizable: e
   longest run: 1 of 2 calls
-  1 1 x write(5) = ok
+  1 1 e add(1) = true
+  after the run: e = {1}
+  next 1 e add(1) = true (lines 4 and 5): here it would be false
+    put by 1: add(1) = true (lines 2 and 3), in the run
 and ends with status 1.
 ";

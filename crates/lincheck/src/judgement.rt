@@ -24,7 +24,7 @@ use std::thread::Threads;
 
 // The verdict on the object of this index, where the part of the history on it is known; and how many configurations were
 // stored: none where the verdict is told ahead, which is tried unless workers are wanted at once.
-fn judge_object<R: AllocGlobal + Threads + Sync, G: Gate>(
+pub(crate) fn judge_object<R: AllocGlobal + Threads + Sync, G: Gate>(
     rt: &R,
     history: &History,
     object: usize,
@@ -80,7 +80,7 @@ fn order_or_end(
 }
 
 // How many configurations were stored with these, where both numbers are told and the sum has 64 bits.
-fn with_more(stored: Option<u64>, more: Option<u64>) -> Option<u64>
+pub(crate) fn with_more(stored: Option<u64>, more: Option<u64>) -> Option<u64>
     ensures sum { IfSome result (λ all. IsSomeAnd stored (λ before. IsSomeAnd more (λ number.
         all ≡ before + number))) }
     ensures told { IfSome stored (λ before. IfSome more (λ number. before + number < 2 ^ 64
@@ -117,7 +117,7 @@ fn judge<R: AllocGlobal + Threads + Sync, G: Gate>(
 }
 
 // The options of a check on this machine: no more workers than it has cores for the program, unless the gate wants workers.
-fn options_here<R: Threads, G: Gate>(rt: &R, options: &Options, gate: &G) -> Options
+pub(crate) fn options_here<R: Threads, G: Gate>(rt: &R, options: &Options, gate: &G) -> Options
     ensures { result.limit ≡ options.now.limit }
 {
     if gate.wants_workers() {
@@ -134,7 +134,7 @@ fn options_here<R: Threads, G: Gate>(rt: &R, options: &Options, gate: &G) -> Opt
 /// (`search_by_key`), and of an object of which something is known ahead a first search is made (`search_first`); where that
 /// finds the order, nothing is stored for the object. So it is where a key of a map or a set of a thousand calls or more has no
 /// linearization, and searches of prefixes find the longest run. Then the calling thread searches by itself. Where its search stalls, it
-/// is tried whether searches of prefixes tell the answer (`search_by_prefixes`); where they do not, workers share the search, or
+/// is tried whether searches of prefixes show the answer (`search_by_prefixes`); where they do not, workers share the search, or
 /// the calling thread goes on where there is to be one worker. No more workers are started than the machine has cores for the
 /// program, however many the options say, unless the gate wants workers.
 ///

@@ -1,8 +1,10 @@
-//! Reads a recorded history as JSON Lines, tells whether it is linearizable, and writes the answer.
+//! Reads a recorded history as JSON Lines, shows whether it is linearizable, and writes the answer.
 #![tactic(auto)]
 
+mod answer_form;
 mod by_prefixes;
 mod device;
+mod each;
 mod explanation_lines;
 mod fault;
 mod help;
@@ -16,13 +18,14 @@ mod verdict;
 mod verdict_ahead;
 
 pub use device::{DeviceFault, Sink, Source, StdSink, StdSource};
+pub use each::{check_each, report_each};
 pub use fault::RunFault;
 pub use judgement::check;
 pub use lin_workers::{
     CheckFault, FreeGate, Gate, MAX_LIMIT, MAX_SHARDS, MAX_WORKERS, OptionFault, Options,
 };
 pub use lines::report;
-pub use pipeline::run;
+pub use pipeline::{run, run_each, run_explained};
 pub use request::{DEFAULT_SHARDS, DEFAULT_WORKERS, Request, options_of};
 pub use status::{Status, status_code};
-pub use verdict::{Checked, Verdict};
+pub use verdict::{Checked, CheckedEach, Verdict};

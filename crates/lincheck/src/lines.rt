@@ -15,14 +15,14 @@ use lin_history::{History, Placed};
 use lin_object::Reply;
 use std::alloc::{AllocError, Global};
 
-// What tells that a call is pending in the history.
+// What says that a call is pending in the history.
 fn mark_of(returned: &Option<(u32, Reply)>) -> &'static str
     ensures { result.now ≡ mark_of returned.now }
 {
     if returned.is_some() { "" } else { " completed" }
 }
 
-// Appends the line of a call that stands in an order at this place.
+// Appends the line of a call that is in an order at this place.
 fn write_call(
     out: &mut String,
     history: &History,
@@ -143,7 +143,7 @@ fn write_name(out: &mut String, history: &History, object: usize) -> Result<(), 
     write!(out, "not linearizable: {name}\n")
 }
 
-// Appends the line that tells the length of a run of the object.
+// Appends the line that says the length of a run of the object.
 fn write_length(
     out: &mut String,
     history: &History,
@@ -185,7 +185,7 @@ fn write_undecided(out: &mut String, history: &History, object: usize) -> Result
     write!(out, "undecided: {name}\n")
 }
 
-// The line that tells how many configurations were stored.
+// The line that shows how many configurations were stored.
 fn write_stored(out: &mut String, stored: Option<u64>) -> Result<(), AllocError>
     ensures { OnOk result (string_bytes out.new ≡ string_bytes out.old ++ stored_line stored) }
 {

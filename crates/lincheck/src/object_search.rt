@@ -1,31 +1,59 @@
-//! The searches of one object: by the calling thread, by prefixes where that stalls, and then to the end.
+//! The searches of one object: by the calling thread, by prefixes where that stalls, and then to the end. In the full search one
+//! value stands for all that nobody saw.
 
 ghost use Rattle.std.specs.Prelude.{◌≡◌, IfOk, IfSome};
 ghost use Rattle.lin_ahead.specs.AnyProblem.{any_problem};
+ghost use Rattle.lin_unseen.specs.SameRuns.{HasRunsOf};
 ghost use Rattle.lin_workers.specs.Verdict.{IsNumberStored, IsObjectVerdict};
 
-use crate::by_prefixes::verdict_by_prefixes;
+use crate::by_prefixes::{LEAST_LIMIT, verdict_by_prefixes};
 use lin_history::Problem;
 use lin_object::AnyObject;
 use lin_search::OwnMemo;
+use lin_unseen::unseen_made_one;
 use lin_workers::{
     Gate, ObjectVerdict, Options, Patience, check_alone, check_over_table, number_stored,
 };
 use std::alloc::{AllocError, AllocGlobal, Global};
 use std::thread::Threads;
 
-// The verdict by searches of prefixes, where they tell it; and how many configurations the memo has, which they leave as it is.
+// How many calls an object has at least for whose full search one value is put in place of all that nobody saw. Fewer are soon
+// searched, and how many configurations they have shows more of them as they are.
+const MANY_CALLS: usize = 16;
+
+// The problem with one value in place of all that nobody saw, where the full search goes over it: there are two such values or
+// more, the calls are many, and the limit is not less than 500,000. A smaller one bounds the search of the problem as it is.
+fn with_unseen_made_one(
+    alloc: Global,
+    problem: &Problem<AnyObject>,
+    limit: Option<u64>,
+) -> Result<Option<Problem<AnyObject>>, AllocError>
+    ensures { IfOk result (λ told. IfSome told (λ other. HasRunsOf (any_problem problem.now)
+        (any_problem other))) }
+{
+    let is_small = match limit {
+        Some(most) => most < LEAST_LIMIT,
+        None => false,
+    };
+    if is_small || problem.len() < MANY_CALLS {
+        return Ok(None);
+    }
+    unseen_made_one(alloc, problem)
+}
+
+// The verdict by searches of prefixes of the problem, where they tell it, and how many configurations the memo has, which they
+// leave as it is: both of the memo's problem, which has the same runs.
 fn told_by_prefixes(
     alloc: Global,
     problem: &Problem<AnyObject>,
     memo: &OwnMemo<'_, AnyObject>,
     limit: Option<u64>,
 ) -> Result<Option<(ObjectVerdict, u64)>, AllocError>
-    requires { memo.now.problem ≡ problem.now }
+    requires { HasRunsOf (any_problem problem.now) (any_problem memo.now.problem) }
     ensures verdict { IfOk result (λ told. IfSome told (λ r. IsObjectVerdict
-        (any_problem problem.now) limit r.0)) }
+        (any_problem memo.now.problem) limit r.0)) }
     ensures stored { IfOk result (λ told. IfSome told (λ r. IsNumberStored
-        (any_problem problem.now) r.1)) }
+        (any_problem memo.now.problem) r.1)) }
 {
     let Some(stored) = number_stored(memo) else {
         return Ok(None);
@@ -36,23 +64,25 @@ fn told_by_prefixes(
     }
 }
 
-// The verdict by searches of the calling thread over the memo: until it stalls, by prefixes, and then to the end where there is
-// to be one worker.
+// The verdict by searches of the calling thread over the memo, which names the second problem: until it stalls, by prefixes of the
+// first, and then to the end where there is to be one worker.
 fn verdict_alone(
     alloc: Global,
     problem: &Problem<AnyObject>,
+    full: &Problem<AnyObject>,
     memo: &mut OwnMemo<'_, AnyObject>,
     options: &Options,
 ) -> Result<Option<(ObjectVerdict, u64)>, AllocError>
-    requires { memo.old.problem ≡ problem.now }
+    requires runs { HasRunsOf (any_problem problem.now) (any_problem full.now) }
+    requires memo { memo.old.problem ≡ full.now }
     ensures verdict { IfOk result (λ told. IfSome told (λ r. IsObjectVerdict
-        (any_problem problem.now) options.now.limit r.0)) }
+        (any_problem full.now) options.now.limit r.0)) }
     ensures stored { IfOk result (λ told. IfSome told (λ r. IsNumberStored
-        (any_problem problem.now) r.1)) }
+        (any_problem full.now) r.1)) }
     ensures memo { memo.new.problem ≡ memo.old.problem }
 {
     let limit = options.limit();
-    let soon = check_alone(alloc, problem, memo, Patience::UntilStalled, limit)?;
+    let soon = check_alone(alloc, full, memo, Patience::UntilStalled, limit)?;
     if soon.is_some() {
         return Ok(soon);
     }
@@ -60,35 +90,55 @@ fn verdict_alone(
     if told.is_some() || options.workers() > 1 {
         return Ok(told);
     }
-    check_alone(alloc, problem, memo, Patience::ToTheEnd, limit)
+    check_alone(alloc, full, memo, Patience::ToTheEnd, limit)
 }
 
-// The verdict by searches over the memo, and in the end by workers.
+// The verdict on the second problem, which has the runs of the first, by searches over the memo, and in the end by workers.
 fn verdict_over<R: AllocGlobal + Threads + Sync, G: Gate>(
     rt: &R,
     problem: &Problem<AnyObject>,
+    full: &Problem<AnyObject>,
     memo: &mut OwnMemo<'_, AnyObject>,
     options: &Options,
     gate: &G,
 ) -> Result<(ObjectVerdict, u64), AllocError>
-    requires { memo.old.problem ≡ problem.now }
-    ensures verdict { IfOk result (λ r. IsObjectVerdict (any_problem problem.now)
+    requires runs { HasRunsOf (any_problem problem.now) (any_problem full.now) }
+    requires memo { memo.old.problem ≡ full.now }
+    ensures verdict { IfOk result (λ r. IsObjectVerdict (any_problem full.now)
         options.now.limit r.0) }
-    ensures stored { IfOk result (λ r. IsNumberStored (any_problem problem.now) r.1) }
+    ensures stored { IfOk result (λ r. IsNumberStored (any_problem full.now) r.1) }
 {
     if gate.wants_workers() {
         return check_over_table(rt, memo, options, gate);
     }
-    match verdict_alone(rt.alloc(), problem, memo, options)? {
+    match verdict_alone(rt.alloc(), problem, full, memo, options)? {
         Some(told) => Ok(told),
         None => check_over_table(rt, memo, options, gate),
     }
 }
 
+// The verdict on the problem, by a full search of the second one, which has the same runs.
+fn verdict_by_runs<R: AllocGlobal + Threads + Sync, G: Gate>(
+    rt: &R,
+    problem: &Problem<AnyObject>,
+    full: &Problem<AnyObject>,
+    options: &Options,
+    gate: &G,
+) -> Result<(ObjectVerdict, u64), AllocError>
+    requires { HasRunsOf (any_problem problem.now) (any_problem full.now) }
+    ensures verdict { IfOk result (λ r. IsObjectVerdict (any_problem problem.now)
+        options.now.limit r.0) }
+    ensures stored { IfOk result (λ r. IsNumberStored (any_problem problem.now) r.1) }
+{
+    let mut memo = OwnMemo::new(rt.alloc(), full);
+    verdict_over(rt, problem, full, &mut memo, options, gate)
+}
+
 /// The verdict on one object, and how many configurations were stored. The calling thread searches by itself; where that stalls,
 /// by prefixes; and where these do not tell it, by workers, or to the end by itself where there is to be one worker. A gate that
-/// wants workers has them at once. What one search refuted serves the next. `AllocError` where the calling thread was refused
-/// memory.
+/// wants workers has them at once. What one search refuted serves the next. In an object of 16 calls or more, with no limit below
+/// 500,000, one value stands for all that nobody saw, but for the searches of prefixes, whose rules need each value as it is.
+/// `AllocError` where the calling thread was refused memory.
 pub(crate) fn verdict_by_searches<R: AllocGlobal + Threads + Sync, G: Gate>(
     rt: &R,
     problem: &Problem<AnyObject>,
@@ -99,6 +149,8 @@ pub(crate) fn verdict_by_searches<R: AllocGlobal + Threads + Sync, G: Gate>(
         options.now.limit r.0) }
     ensures stored { IfOk result (λ r. IsNumberStored (any_problem problem.now) r.1) }
 {
-    let mut memo = OwnMemo::new(rt.alloc(), problem);
-    verdict_over(rt, problem, &mut memo, options, gate)
+    match with_unseen_made_one(rt.alloc(), problem, options.limit())? {
+        Some(full) => verdict_by_runs(rt, problem, &full, options, gate),
+        None => verdict_by_runs(rt, problem, problem, options, gate),
+    }
 }

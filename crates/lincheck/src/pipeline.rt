@@ -1,15 +1,17 @@
 //! The way from the bytes of a text to the bytes of its answer.
 
-ghost use Rattle.std.specs.Prelude.{◌≡◌, ◌≢◌, ◌≤◌, ◌||◌, ℕ, List, false, length, take, is_err, OnOk, OnErr, IfOk, IfErr, IfSome};
+ghost use Rattle.std.specs.Prelude.{◌≡◌, ◌≢◌, ◌≤◌, ◌||◌, ℕ, List, false, length, option_map, take, is_err, OnOk, OnErr, IfOk, IfErr, IfSome};
 ghost use Rattle.std.specs.Result.{result_map_both};
 ghost use Rattle.std.specs.Io.KnownBytes.{Appends};
 ghost use Rattle.lin_text.specs.Text.{MeansHistory};
 ghost use Rattle.lin_text.specs.Words.{fault_line};
-ghost use Rattle.lincheck.specs.Prints.{Prints, status_of};
+ghost use Rattle.lincheck.specs.Prints.{Prints, PrintsEach, PrintsWith, status_of};
 ghost use Rattle.lincheck.specs.Ran.{is_read, is_write, is_fault, RanFrom};
 ghost use Rattle.lincheck.specs.Reading.{IsReadOf, TakesAtMost};
 
+use crate::answer_form::AnswerForm;
 use crate::device::{DeviceFault, Sink, Source};
+use crate::each::{check_each, report_each, status_of_all};
 use crate::explanation_lines::with_explanation;
 use crate::fault::RunFault;
 use crate::judgement::check;
@@ -17,12 +19,14 @@ use crate::lines::{report, with_stats};
 use crate::status::Status;
 use crate::verdict::Verdict;
 use lin_history::History;
-use lin_text::{Cause, MAX_INPUT_BYTES, TextFault, read_history, write_cause};
+use lin_text::{
+    Cause, MAX_INPUT_BYTES, TextFault, read_history, read_history_and_lines, write_cause,
+};
 use lin_workers::{FreeGate, Options};
 use std::alloc::{AllocError, Global};
 use std::thread::Threads;
 
-// The most bytes of a text, and one more: where so many stand, the text is too long and is read no further.
+// The most bytes of a text, and one more: where there are so many, the text is too long and is read no further.
 const ENOUGH: usize = MAX_INPUT_BYTES + 1;
 
 // How many bytes one read asks for.
@@ -68,7 +72,7 @@ fn refused(alloc: Global, fault: &TextFault) -> Result<(Status, Vec<u8>), AllocE
     Ok((Status::Refused, printed))
 }
 
-// The status that tells the verdict.
+// The status that shows the verdict.
 fn status_of(verdict: &Verdict) -> Status
     ensures { result ≡ status_of verdict.now }
 {
@@ -79,37 +83,103 @@ fn status_of(verdict: &Verdict) -> Status
     }
 }
 
-// What a history is answered: the status, and what is printed.
+// What a history is answered: the status, and what is printed, with why the longest run ends where the lines of the events are
+// given.
 fn verdict_printed<R: AllocGlobal + Threads + Sync>(
     rt: &R,
     history: &History,
     options: &Options,
-    explain: bool,
+    lines: Option<&[u64]>,
 ) -> Result<(Status, Vec<u8>), AllocError>
     ensures { IfOk result (λ answer. (text : List ℕ) → MeansHistory text history.now
-        → Prints options.now explain text answer.0 answer.1.items) }
+        → PrintsWith options.now (option_map (λ l. l.now) lines.entry) history.now answer.0
+        answer.1.items) }
 {
     let Ok(checked) = check(rt, history, options, &FreeGate) else {
         return Err(AllocError);
     };
     let reported = report(rt.alloc(), history, &checked.verdict)?;
-    let explained = with_explanation(rt.alloc(), history, &checked.verdict, explain, reported)?;
+    let explained = with_explanation(rt.alloc(), history, &checked.verdict, lines, reported)?;
     let printed = with_stats(rt.alloc(), explained, options.stats(), checked.stored)?;
     Ok((status_of(&checked.verdict), printed))
 }
 
-// What a text is answered: the status, and what is printed.
+// What a text is answered by a report: the status, and what is printed.
+fn answer_by_report<R: AllocGlobal + Threads + Sync>(
+    rt: &R,
+    text: &[u8],
+    options: &Options,
+) -> Result<(Status, Vec<u8>), AllocError>
+    ensures { IfOk result (λ answer. Prints options.now AnswerForm.Report text.now answer.0
+        answer.1.items) }
+{
+    match read_history(rt.alloc(), text) {
+        Ok(history) => verdict_printed(rt, &history, options, None),
+        Err(fault) => refused(rt.alloc(), &fault),
+    }
+}
+
+// The same with why the longest run ends.
+fn answer_explained<R: AllocGlobal + Threads + Sync>(
+    rt: &R,
+    text: &[u8],
+    options: &Options,
+) -> Result<(Status, Vec<u8>), AllocError>
+    ensures { IfOk result (λ answer. Prints options.now AnswerForm.Explained text.now answer.0
+        answer.1.items) }
+{
+    match read_history_and_lines(rt.alloc(), text) {
+        Ok((history, lines)) => verdict_printed(rt, &history, options, Some(lines.as_slice())),
+        Err(fault) => refused(rt.alloc(), &fault),
+    }
+}
+
+// What a history is answered with a line for each object: the status, and what is printed.
+fn each_printed<R: AllocGlobal + Threads + Sync>(
+    rt: &R,
+    history: &History,
+    options: &Options,
+) -> Result<(Status, Vec<u8>), AllocError>
+    ensures { IfOk result (λ answer. (text : List ℕ) → MeansHistory text history.now
+        → PrintsEach options.now history.now answer.0 answer.1.items) }
+{
+    let Ok(checked) = check_each(rt, history, options, &FreeGate) else {
+        return Err(AllocError);
+    };
+    let statuses = checked.statuses.as_slice();
+    let lines = report_each(rt.alloc(), history, statuses)?;
+    let printed = with_stats(rt.alloc(), lines, options.stats(), checked.stored)?;
+    Ok((status_of_all(statuses), printed))
+}
+
+// What a text is answered with a line for each object.
+fn answer_each<R: AllocGlobal + Threads + Sync>(
+    rt: &R,
+    text: &[u8],
+    options: &Options,
+) -> Result<(Status, Vec<u8>), AllocError>
+    ensures { IfOk result (λ answer. Prints options.now AnswerForm.Each text.now answer.0
+        answer.1.items) }
+{
+    match read_history(rt.alloc(), text) {
+        Ok(history) => each_printed(rt, &history, options),
+        Err(fault) => refused(rt.alloc(), &fault),
+    }
+}
+
+// What a text is answered in this form: the status, and what is printed.
 fn answer<R: AllocGlobal + Threads + Sync>(
     rt: &R,
     text: &[u8],
     options: &Options,
-    explain: bool,
+    form: AnswerForm,
 ) -> Result<(Status, Vec<u8>), AllocError>
-    ensures { IfOk result (λ answer. Prints options.now explain text.now answer.0 answer.1.items) }
+    ensures { IfOk result (λ answer. Prints options.now form text.now answer.0 answer.1.items) }
 {
-    match read_history(rt.alloc(), text) {
-        Ok(history) => verdict_printed(rt, &history, options, explain),
-        Err(fault) => refused(rt.alloc(), &fault),
+    match form {
+        AnswerForm::Report => answer_by_report(rt, text, options),
+        AnswerForm::Explained => answer_explained(rt, text, options),
+        AnswerForm::Each => answer_each(rt, text, options),
     }
 }
 
@@ -138,13 +208,37 @@ fn ended(status: Status, written: Result<(), DeviceFault>) -> Result<Status, Run
     }
 }
 
-/// Reads a text from the source, checks it and writes the answer to the sink.
+// Reads a text from the source, checks it and writes the answer to the sink, in this form.
+fn run_in_form<R: AllocGlobal + Threads + Sync, S: Source, W: Sink>(
+    rt: &R,
+    source: &mut S,
+    sink: &mut W,
+    options: &Options,
+    form: AnswerForm,
+) -> Result<Status, RunFault>
+    requires source { S.failed source.old ≡ false }
+    requires sink { W.failed sink.old ≡ false }
+    ensures ran { RanFrom options.now form (S.remaining source.old) (W.contents sink.old)
+        (W.contents sink.new) result }
+    ensures taken { TakesAtMost ENOUGH (S.remaining source.old) (S.remaining source.new) }
+    ensures source { S.failed source.new ≡ is_fault is_read result }
+    ensures sink { W.failed sink.new ≡ is_fault is_write result }
+{
+    let text = match read_text(rt.alloc(), source) {
+        Ok(text) => text,
+        Err(fault) => return Err(fault),
+    };
+    let Ok((status, answer)) = answer(rt, text.as_slice(), options, form) else {
+        return Err(RunFault::Memory);
+    };
+    ended(status, write_answer(sink, answer.as_slice()))
+}
+
+/// Reads a text from the source, checks it and writes the report to the sink.
 ///
 /// The text is read whole, or until it is too long: at most 67,108,865 bytes are taken. Then the whole answer is made, and then it is written and flushed
 /// once. Faults: `Read` where the source failed, `Memory` where memory was refused; nothing was written then. `Write`
 /// where the sink failed; a prefix of the answer was written.
-///
-/// Where an explanation is asked for, the answer on a history that is not linearizable tells why the longest run ends.
 ///
 /// Within a limit the answer may be `Undecided`. It may wait, for its workers.
 ///
@@ -155,22 +249,55 @@ pub fn run<R: AllocGlobal + Threads + Sync, S: Source, W: Sink>(
     source: &mut S,
     sink: &mut W,
     options: &Options,
-    explain: bool,
 ) -> Result<Status, RunFault>
     requires source { S.failed source.old ≡ false }
     requires sink { W.failed sink.old ≡ false }
-    ensures ran { RanFrom options.now explain (S.remaining source.old) (W.contents sink.old)
-        (W.contents sink.new) result }
+    ensures ran { RanFrom options.now AnswerForm.Report (S.remaining source.old)
+        (W.contents sink.old) (W.contents sink.new) result }
     ensures taken { TakesAtMost ENOUGH (S.remaining source.old) (S.remaining source.new) }
     ensures source { S.failed source.new ≡ is_fault is_read result }
     ensures sink { W.failed sink.new ≡ is_fault is_write result }
 {
-    let text = match read_text(rt.alloc(), source) {
-        Ok(text) => text,
-        Err(fault) => return Err(fault),
-    };
-    let Ok((status, answer)) = answer(rt, text.as_slice(), options, explain) else {
-        return Err(RunFault::Memory);
-    };
-    ended(status, write_answer(sink, answer.as_slice()))
+    run_in_form(rt, source, sink, options, AnswerForm::Report)
+}
+
+/// Does what `run` does, and shows behind the report of a history that is not linearizable why the longest run ends: the state
+/// after it, each call that could come next with what it would answer there, and on which lines of the text the calls are.
+/// Conditions, faults and what is left after them are those of `run`.
+pub fn run_explained<R: AllocGlobal + Threads + Sync, S: Source, W: Sink>(
+    rt: &R,
+    source: &mut S,
+    sink: &mut W,
+    options: &Options,
+) -> Result<Status, RunFault>
+    requires source { S.failed source.old ≡ false }
+    requires sink { W.failed sink.old ≡ false }
+    ensures ran { RanFrom options.now AnswerForm.Explained (S.remaining source.old)
+        (W.contents sink.old) (W.contents sink.new) result }
+    ensures taken { TakesAtMost ENOUGH (S.remaining source.old) (S.remaining source.new) }
+    ensures source { S.failed source.new ≡ is_fault is_read result }
+    ensures sink { W.failed sink.new ≡ is_fault is_write result }
+{
+    run_in_form(rt, source, sink, options, AnswerForm::Explained)
+}
+
+/// Does what `run` does, but prints a line for each object in the order of declaration, in place of the report: `x: linearizable`,
+/// `x: not linearizable` or `x: undecided`. Each object is searched, also after one that is not linearizable or not decided. The
+/// status is `No` where an object is not linearizable, else `Undecided` where one is not decided, else `Yes`. Conditions, faults
+/// and what is left after them are those of `run`.
+pub fn run_each<R: AllocGlobal + Threads + Sync, S: Source, W: Sink>(
+    rt: &R,
+    source: &mut S,
+    sink: &mut W,
+    options: &Options,
+) -> Result<Status, RunFault>
+    requires source { S.failed source.old ≡ false }
+    requires sink { W.failed sink.old ≡ false }
+    ensures ran { RanFrom options.now AnswerForm.Each (S.remaining source.old)
+        (W.contents sink.old) (W.contents sink.new) result }
+    ensures taken { TakesAtMost ENOUGH (S.remaining source.old) (S.remaining source.new) }
+    ensures source { S.failed source.new ≡ is_fault is_read result }
+    ensures sink { W.failed sink.new ≡ is_fault is_write result }
+{
+    run_in_form(rt, source, sink, options, AnswerForm::Each)
 }

@@ -1,8 +1,8 @@
 //! What the words after the program's name ask for.
-ghost use Rattle.std.specs.Prelude.{◌≡◌, ◌≤◌, IfOk, map, string_bytes};
+ghost use Rattle.std.specs.Prelude.{◌≡◌, ◌≤◌, IfOk, codes, map, string_bytes};
 ghost use Rattle.clap.specs.Words.{found_of, kind_of, rows_of};
-ghost use Rattle.lincheck.specs.CommandLine.{AreAsked, AreInRange, IsBareLine, IsCommandLine, IsExplainAsked, IsFlagOption, IsNumberOption};
-ghost use Rattle.lincheck.specs.Request.{AnswersKind, IsAnswerTo};
+ghost use Rattle.lincheck.specs.CommandLine.{AreAsked, AreInRange, IsBareLine, IsCommandLine, IsFlagAsked, IsFlagOption, IsNumberOption};
+ghost use Rattle.lincheck.specs.Request.{AnswersKind, IsAnswerTo, IsRequestOf};
 
 use crate::help;
 use clap::builder::ValueParser;
@@ -21,17 +21,16 @@ pub const DEFAULT_SHARDS: u64 = 16;
 #[derive(Debug, Drop)]
 pub enum Request {
     /// A check with these options.
-    Run {
-        /// How the check is run.
-        options: Options,
-        /// Whether it is told why the longest run ends of a history that is not linearizable.
-        explain: bool,
-    },
-    /// This text, which tells how the program is used.
+    Run(Options),
+    /// A check with these options that says why the longest run ends of a history that is not linearizable.
+    Explain(Options),
+    /// A check with these options of each object by itself.
+    Each(Options),
+    /// This text, which says how the program is used.
     Help(String),
-    /// This text, which tells the program's name and version.
+    /// This text, which says the program's name and version.
     Version(String),
-    /// Something that can't be had, as this text tells.
+    /// Something that can't be had, as this text says.
     Refused(String),
 }
 
@@ -86,7 +85,8 @@ fn command_line<'a>(alloc: Global) -> Result<Command<'a>, AllocError>
         .arg(number_option(alloc, "shards", MAX_SHARDS, help::SHARDS))?
         .arg(number_option(alloc, "limit", MAX_LIMIT, help::LIMIT))?
         .arg(flag_option(alloc, "stats", help::STATS))?
-        .arg(flag_option(alloc, "explain", help::EXPLAIN))
+        .arg(flag_option(alloc, "explain", help::EXPLAIN))?
+        .arg(flag_option(alloc, "each", help::EACH))
 }
 
 // The options that were asked for.
@@ -105,9 +105,34 @@ fn options_asked(matches: &ArgMatches<'_>) -> Options
 
 // Whether an explanation was asked for.
 fn is_explain_asked(matches: &ArgMatches<'_>) -> bool
-    ensures { IsExplainAsked (rows_of (found_of matches.now)) result }
+    ensures { IsFlagAsked (rows_of (found_of matches.now)) (codes "explain") result }
 {
     matches.get_flag("explain")
+}
+
+// Whether a line for each object was asked for.
+fn is_each_asked(matches: &ArgMatches<'_>) -> bool
+    ensures { IsFlagAsked (rows_of (found_of matches.now)) (codes "each") result }
+{
+    matches.get_flag("each")
+}
+
+// The request for a check with these options, with an explanation or a line for each object where that is asked for. Both
+// together are refused.
+fn request_of(
+    alloc: Global,
+    options: Options,
+    explain: bool,
+    each: bool,
+) -> Result<Request, AllocError>
+    ensures { IfOk result (IsRequestOf options explain each) }
+{
+    match (explain, each) {
+        (false, false) => Ok(Request::Run(options)),
+        (true, false) => Ok(Request::Explain(options)),
+        (false, true) => Ok(Request::Each(options)),
+        (true, true) => Ok(Request::Refused(String::from_str(alloc, help::EACH_EXPLAINED)?)),
+    }
 }
 
 // What is answered where the words are none of the command line's.
@@ -124,17 +149,19 @@ fn answer_to(alloc: Global, error: &Error) -> Result<Request, AllocError>
 }
 
 /// What the words after the program's name ask for: `--workers N` (1 to `MAX_WORKERS`, 4 where absent), `--shards N` (1
-/// to `MAX_SHARDS`, 16), `--limit N` (1 to `MAX_LIMIT`, none), `--stats`, `--explain`, each at most once and in any order; or
-/// `--help`, or `--version`. Each number is read as a `u64`. Any other words are refused. The texts are `clap`'s. `AllocError` where memory
-/// was refused.
+/// to `MAX_SHARDS`, 16), `--limit N` (1 to `MAX_LIMIT`, none), `--stats`, `--explain`, `--each`, each at most once and in any order; or
+/// `--help`, or `--version`. Each number is read as a `u64`. `--explain` and `--each` together are refused, and so are any other words.
+/// The texts are `clap`'s, but for those two. `AllocError` where memory was refused.
 pub fn options_of(alloc: Global, words: &[String]) -> Result<Request, AllocError>
     ensures { IfOk result (IsAnswerTo (map string_bytes words.entry.now)) }
 {
     match command_line(alloc)?.try_get_matches_from(words) {
-        Ok(matches) => Ok(Request::Run {
-            options: options_asked(&matches),
-            explain: is_explain_asked(&matches),
-        }),
+        Ok(matches) => request_of(
+            alloc,
+            options_asked(&matches),
+            is_explain_asked(&matches),
+            is_each_asked(&matches),
+        ),
         Err(error) => answer_to(alloc, &error),
     }
 }

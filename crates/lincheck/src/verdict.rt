@@ -1,5 +1,6 @@
 //! What a check finds.
 
+use crate::status::Status;
 use lin_history::{Placed, WholeOrder};
 
 /// What a check found of a history.
@@ -28,5 +29,15 @@ pub struct Checked {
     pub verdict: Verdict,
     /// How many configurations were stored in the searches of the objects up to where the check ended; `None` where that is not
     /// known, which of no history is.
+    pub stored: Option<u64>,
+}
+
+/// What a check of each object by itself found, and how many configurations it stored.
+#[derive(Debug, Drop)]
+pub struct CheckedEach {
+    /// The status of each object, in the order of declaration: `Yes`, `No` or `Undecided`.
+    pub statuses: Vec<Status>,
+    /// How many configurations were stored in the searches of all objects; `None` where that is not known, which of no history
+    /// is.
     pub stored: Option<u64>,
 }

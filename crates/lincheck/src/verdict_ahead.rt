@@ -17,7 +17,7 @@ use std::alloc::{AllocError, Global};
 const LIFTS_AHEAD: u64 = 3;
 
 // How many calls a map or a set has at least whose longest run is sought by prefixes at once, where a key has no linearization.
-// With fewer the full search is quick, and its number of configurations stored tells more.
+// With fewer the full search is quick, and its number of configurations stored shows more.
 const MANY_CALLS: usize = 1_000;
 
 // How many lifts a first search of so many calls may make: no more than the limit, where there is one.
@@ -32,7 +32,7 @@ fn lifts_ahead(calls: usize, limit: Option<u64>) -> u64
 }
 
 // The verdict by a first search, where it finds the least linearization. What else such a search answers is of no use here: the
-// search that follows tells more.
+// search that follows shows more.
 fn first_verdict(
     alloc: Global,
     problem: &Problem<AnyObject>,

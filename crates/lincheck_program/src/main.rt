@@ -1,9 +1,13 @@
-//! `lincheck` reads a recorded history as JSON Lines on standard input and tells on standard output whether it is
+//! `lincheck` reads a recorded history as JSON Lines on standard input and shows on standard output whether it is
 //! linearizable.
 #![tactic(auto)]
 
+mod hints;
+
+use hints::{Hint, HintingSink};
 use lincheck::{
-    Options, Request, RunFault, Status, StdSink, StdSource, options_of, run, status_code,
+    Options, Request, RunFault, Status, StdSink, StdSource, options_of, run, run_each,
+    run_explained, status_code,
 };
 use std::process::ExitCode;
 use std::thread::Threads;
@@ -23,16 +27,46 @@ fn request(rt: &HostRuntime) -> Result<Request, RunFault> {
     }
 }
 
-// The check of standard input, answered on standard output. Workers are started with `threads`.
+// In which form the answer is wanted.
+#[derive(Clone, Copy)]
+enum Form {
+    Report,
+    Explained,
+    Each,
+}
+
+// Says on standard error what helps with an answer, if anything does.
+fn say_hint(
+    rt: &HostRuntime,
+    options: &Options,
+    answer: &Result<Status, RunFault>,
+    hint: Option<Hint>,
+) {
+    if let Some(hint) = hint {
+        let words = hint.words();
+        let _ = eprintln!(rt; "lincheck: {words}");
+    }
+    if let (Ok(Status::Undecided), Some(limit)) = (answer, options.limit()) {
+        let _ = eprintln!(rt; "lincheck: the search ended at --limit {limit}");
+    }
+}
+
+// The check of standard input, answered on standard output in this form. Workers are started with `threads`.
 fn check<R: AllocGlobal + Threads + Sync>(
     rt: &HostRuntime,
     threads: &R,
     options: &Options,
-    explain: bool,
+    form: Form,
 ) -> Result<Status, RunFault> {
     let mut source = StdSource::new(rt.reader());
-    let mut sink = StdSink::new(io::writer(rt));
-    run(threads, &mut source, &mut sink, options, explain)
+    let mut sink = HintingSink::new(StdSink::new(io::writer(rt)));
+    let answer = match form {
+        Form::Report => run(threads, &mut source, &mut sink, options),
+        Form::Explained => run_explained(threads, &mut source, &mut sink, options),
+        Form::Each => run_each(threads, &mut source, &mut sink, options),
+    };
+    say_hint(rt, options, &answer, sink.hint());
+    answer
 }
 
 // The exit status of an answer; a fault is told on standard error.
@@ -50,7 +84,9 @@ fn carry_out<R: AllocGlobal + Threads + Sync>(
     request: &Request,
 ) -> ExitCode {
     match request {
-        Request::Run { options, explain } => ended(rt, check(rt, threads, options, *explain)),
+        Request::Run(options) => ended(rt, check(rt, threads, options, Form::Report)),
+        Request::Explain(options) => ended(rt, check(rt, threads, options, Form::Explained)),
+        Request::Each(options) => ended(rt, check(rt, threads, options, Form::Each)),
         Request::Help(text) | Request::Version(text) => match print!(rt; "{text}") {
             Ok(()) => ExitCode::SUCCESS,
             Err(_) => ended(rt, Err(RunFault::Write)),

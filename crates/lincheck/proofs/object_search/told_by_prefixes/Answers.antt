@@ -1,7 +1,7 @@
-use Rattle.std.proofs.Common.{subst}
+use Rattle.std.proofs.Common.{rules}
 use Rattle.lin_ahead.specs.AnyProblem.{any_problem}
-use Rattle.lin_workers.specs.Verdict.{IsNumberStored}
+use Rattle.lincheck.proofs.RunsLemmas.{verdict_there}
 use Rattle.lincheck.proofs.object_search.told_by_prefixes.Goals as goal
 
-pub returns-in-Some-2-clause-stored : goal.returns-in-Some-2-clause-stored
-returns-in-Some-2-clause-stored c = subst (λ q. IsNumberStored (any_problem q) c.in-Some.stored) c.requires c.in-Some.ensures.stored
+pub returns-in-Some-2-clause-verdict : goal.returns-in-Some-2-clause-verdict
+returns-in-Some-2-clause-verdict c = verdict_there (any_problem c.args.problem.now) (any_problem c.args.memo.now.problem) c.requires c.args.limit c.in-Some-2.verdict (search rules)

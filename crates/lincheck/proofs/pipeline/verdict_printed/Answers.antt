@@ -14,4 +14,4 @@ pub returns : goal.returns
 returns g c = λ text means.
     let few = judged_few c.args.history.now c.args.options.now.limit c.in-Ok.checked.verdict _ c.in-Ok.ensures.verdict (few_objects text c.args.history.now means) in
     let printed = subst (λ (stats : Bool). c.in_ok-printed.printed.items ≡ with_stats stats c.in-Ok.checked.stored c.in_ok-explained.explained.items) c.stats.ensures c.in_ok-printed.ensures in
-    rw c.status_of.ensures (prints_verdict text _ c.args.options.now c.args.explain _ _ _ _ means c.in-Ok.ensures.verdict c.in_ok-reported.ensures c.in_ok-explained.ensures (stats_told c.args.options.now.stats c.args.history.now _ c.in-Ok.checked.stored _ _ printed c.in-Ok.ensures.stored few))
+    rw c.status_of.ensures (prints_verdict _ c.args.options.now _ _ _ _ _ c.in-Ok.ensures.verdict c.in_ok-reported.ensures c.in_ok-explained.ensures (stats_told c.args.options.now.stats c.args.history.now _ c.in-Ok.checked.stored _ _ printed c.in-Ok.ensures.stored few))

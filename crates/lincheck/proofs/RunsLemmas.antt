@@ -1,0 +1,48 @@
+-- Problems with the same runs have the same verdicts.
+use Rattle.std.proofs.Common.{◌≡◌, ℕ, Option, Some, None, List, [], ◌∷◌}
+use Rattle.std.specs.Prelude.{IsSomeAnd}
+use Rattle.lin_history.specs.Problems.Lists.{IsLeast}
+use Rattle.lin_history.specs.Problems.Problem.{Problem}
+use Rattle.lin_history.specs.Problems.Linearizations.{IsRun, IsLinearization}
+use Rattle.lin_search.specs.LongestRun.{IsFirstLongest}
+use Rattle.lin_search.specs.Size.{EachOf, HasMoreThan}
+use Rattle.lin_unseen.specs.SameRuns.{HasRunsOf}
+use Rattle.lin_workers.specs.declared.verdict.ObjectVerdict.{ObjectVerdict}
+use Rattle.lin_workers.specs.declared.verdict.ObjectVerdict.TheVariants.{Yes, No, Undecided}
+use Rattle.lin_workers.specs.Verdict.{IsNumberStored, IsObjectVerdict}
+
+module _ (P Q : List ℕ → Type 0) (there : (l : List ℕ) → P l → Q l) (back : (l : List ℕ) → Q l → P l) where
+  least_same : (l : List ℕ) → IsLeast P l → IsLeast Q l
+  least_same l k = (there l k.0, λ m h. k.1 m (back m h))
+
+  longest_same : (l : List ℕ) → IsFirstLongest P l → IsFirstLongest Q l
+  longest_same l k = record {
+    holds = there l k.holds;
+    greatest = λ m h. k.greatest m (back m h);
+    least = λ m h e. k.least m (back m h) e;
+  }
+
+  each_same : (ls : List (List ℕ)) → EachOf (λ (l : List ℕ). P l × (l ≡ [] → ⊥)) ls → EachOf (λ (l : List ℕ). Q l × (l ≡ [] → ⊥)) ls
+  each_same [] k = tt
+  each_same (l ∷ ls) k = ((there l k.0.0, k.0.1), each_same ls k.1)
+
+  more_same : (limit : Option ℕ) → IsSomeAnd limit (λ most. HasMoreThan P most) → IsSomeAnd limit (λ most. HasMoreThan Q most)
+  more_same None k = absurd k
+  more_same (Some most) k = record { lists = k.lists; different = k.different; each = each_same k.lists k.each; count = k.count }
+
+module _ {State Op Reply : Type 0} (p q : Problem State Op Reply) (same : HasRunsOf p q) where
+  -- a verdict on the first problem is one on the second
+  pub verdict_there : (limit : Option ℕ) (v : ObjectVerdict) → IsObjectVerdict p limit v → IsObjectVerdict q limit v
+  verdict_there limit (Yes order) k = least_same (IsLinearization p) (IsLinearization q) (λ l. (same.linearizations l).0) (λ l. (same.linearizations l).1) order k
+  verdict_there limit (No run) k = (λ l h. k.0 l ((same.linearizations l).1 h), longest_same (IsRun p) (IsRun q) (λ l. (same.runs l).0) (λ l. (same.runs l).1) run k.1)
+  verdict_there limit Undecided k = more_same (IsRun p) (IsRun q) (λ l. (same.runs l).0) (λ l. (same.runs l).1) limit k
+
+  -- and back
+  pub verdict_back : (limit : Option ℕ) (v : ObjectVerdict) → IsObjectVerdict q limit v → IsObjectVerdict p limit v
+  verdict_back limit (Yes order) k = least_same (IsLinearization q) (IsLinearization p) (λ l. (same.linearizations l).1) (λ l. (same.linearizations l).0) order k
+  verdict_back limit (No run) k = (λ l h. k.0 l ((same.linearizations l).0 h), longest_same (IsRun q) (IsRun p) (λ l. (same.runs l).1) (λ l. (same.runs l).0) run k.1)
+  verdict_back limit Undecided k = more_same (IsRun q) (IsRun p) (λ l. (same.runs l).1) (λ l. (same.runs l).0) limit k
+
+  -- the first problem has at least as many configurations
+  pub number_back : (n : ℕ) → IsNumberStored q n → IsNumberStored p n
+  number_back n k = record { few = k.few; reachable = same.reachable n k.reachable }

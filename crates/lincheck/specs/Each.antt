@@ -1,0 +1,51 @@
+-- What each object of a history is by itself, and how that is printed (this project's own).
+use Rattle.std.specs.Prelude.{◌≡◌, ℕ, ◌+◌, ◌++◌, Bool, true, false, Option, Some, IsSomeAnd, List, [], ◌∷◌, codes, length, slice_get, if◌then◌else◌}
+use Rattle.std.specs.List.{list_any}
+use Rattle.lin_history.specs.Problems.Linearizations.{IsRun, IsLinearization}
+use Rattle.lin_history.specs.Recorder.RecordedHistory.{RecordedHistory}
+use Rattle.lin_history.specs.Locality.RecordedWhole.{part_of}
+use Rattle.lin_search.specs.Size.{HasMoreThan}
+use Rattle.lincheck.specs.declared.status.Status.{Status}
+use Rattle.lincheck.specs.declared.status.Status.TheVariants.{Yes, No, Undecided, Refused}
+use Rattle.lincheck.specs.Report.{name_of}
+
+-- The status of an object by itself: it has a linearization; it has none; or, within a limit, it has more runs that are not empty
+-- than that.
+abbrev pub IsStatusOf : RecordedHistory → Option ℕ → ℕ → Status → Type 0
+IsStatusOf h limit object Yes = (l : List ℕ) × IsLinearization (part_of h object) l
+IsStatusOf h limit object No = (l : List ℕ) → IsLinearization (part_of h object) l → ⊥
+IsStatusOf h limit object Undecided = IsSomeAnd limit (λ most. HasMoreThan (IsRun (part_of h object)) most)
+IsStatusOf h limit object Refused = ⊥
+
+-- One status for each of the first n objects, in the order of declaration.
+pub record AreStatusesOf (h : RecordedHistory) (limit : Option ℕ) (n : ℕ) (statuses : List Status) : Type 0 where
+  pub count : length statuses ≡ n
+  pub each : (object : ℕ) (status : Status) → slice_get statuses object ≡ Some status → IsStatusOf h limit object status
+
+-- What is printed of an object by itself.
+abbrev pub status_text : Status → List ℕ
+status_text Yes = codes "linearizable"
+status_text No = codes "not linearizable"
+status_text Undecided = codes "undecided"
+status_text Refused = codes "refused"
+
+-- The lines of objects with these statuses, of which the first has index n.
+abbrev pub status_lines : RecordedHistory → ℕ → List Status → List ℕ
+status_lines h n [] = []
+status_lines h n (status ∷ statuses) = name_of h n ++ codes ": " ++ status_text status ++ codes "\n" ++ status_lines h (n + 1) statuses
+
+abbrev pub is_no : Status → Bool
+is_no Yes = false
+is_no No = true
+is_no Undecided = false
+is_no Refused = false
+
+abbrev pub is_undecided : Status → Bool
+is_undecided Yes = false
+is_undecided No = false
+is_undecided Undecided = true
+is_undecided Refused = false
+
+-- The status of objects together: no where one is not linearizable, else undecided where one is not decided, else yes.
+abbrev pub status_of_all : List Status → Status
+status_of_all statuses = if list_any is_no statuses then No else if list_any is_undecided statuses then Undecided else Yes

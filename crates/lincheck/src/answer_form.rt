@@ -1,0 +1,12 @@
+//! In which form a history is answered.
+
+/// In which form a history is answered.
+#[derive(Clone, Copy, PartialEq, Eq, Debug)]
+pub(crate) enum AnswerForm {
+    /// The report.
+    Report,
+    /// The report, and of a history that is not linearizable why its longest run ends.
+    Explained,
+    /// A line for each object, in place of the report.
+    Each,
+}

@@ -1,0 +1,162 @@
+//! What each object of a history is by itself, and a line for each.
+
+ghost use Rattle.std.specs.Prelude.{◌≡◌, ◌++◌, ◌<◌, ℕ, Option, codes, length, string_bytes, IfOk, OnOk};
+ghost use Rattle.std.specs.List.{list_any};
+ghost use Rattle.lin_history.specs.Locality.RecordedWhole.{part_of};
+ghost use Rattle.lin_history.specs.Recorder.RecordedHistory.{RecordedHistory};
+ghost use Rattle.lin_workers.specs.Verdict.{IsObjectVerdict};
+ghost use Rattle.lincheck.specs.Each.{is_no, is_undecided, status_lines, status_of_all, status_text, AreStatusesOf, IsStatusOf};
+ghost use Rattle.lincheck.specs.Report.{name_of};
+ghost use Rattle.lincheck.specs.Stored.{IsStoredTold};
+
+use crate::judgement::{judge_object, options_here, with_more};
+use crate::status::Status;
+use crate::verdict::CheckedEach;
+use lin_history::History;
+use lin_workers::{CheckFault, Gate, ObjectVerdict, Options};
+use std::alloc::{AllocError, AllocGlobal, Global};
+use std::thread::Threads;
+
+// The status that a verdict on an object gives.
+fn status_by(verdict: &ObjectVerdict) -> Status
+    ensures { (h : RecordedHistory) (limit : Option ℕ) (object : ℕ)
+        → IsObjectVerdict (part_of h object) limit verdict.now
+        → IsStatusOf h limit object result }
+{
+    match verdict {
+        ObjectVerdict::Yes(_) => Status::Yes,
+        ObjectVerdict::No(_) => Status::No,
+        ObjectVerdict::Undecided => Status::Undecided,
+    }
+}
+
+// The status of each object, and how many configurations were stored.
+fn judge_each<R: AllocGlobal + Threads + Sync, G: Gate>(
+    rt: &R,
+    history: &History,
+    options: &Options,
+    gate: &G,
+) -> Result<CheckedEach, AllocError>
+    ensures statuses { IfOk result (λ checked. AreStatusesOf history.now options.now.limit
+        (length history.now.objects) checked.statuses.items) }
+    ensures stored { IfOk result (λ checked. IsStoredTold history.now
+        (length history.now.objects) checked.stored) }
+{
+    let problems = history.problems(rt.alloc())?;
+    let mut statuses = Vec::new(rt.alloc());
+    let mut stored = Some(0);
+    for object in 0..problems.len() {
+        let (verdict, more) = judge_object(rt, history, object, &problems[object], options, gate)?;
+        stored = with_more(stored, more);
+        statuses.push(status_by(&verdict))?;
+    }
+    Ok(CheckedEach { statuses, stored })
+}
+
+/// Checks each object of a history by itself, also those after one that has no linearization or is not decided within the limit.
+/// How an object is searched, and what is said of the number stored, is as of `check`.
+///
+/// The statuses are the same for every number of workers and shards and on every schedule, but that within a limit they may be
+/// `Undecided`. `CheckFault::Memory` where the calling thread was refused memory. It may wait, for its workers.
+pub fn check_each<R: AllocGlobal + Threads + Sync, G: Gate>(
+    rt: &R,
+    history: &History,
+    options: &Options,
+    gate: &G,
+) -> Result<CheckedEach, CheckFault>
+    ensures statuses { IfOk result (λ checked. AreStatusesOf history.now options.now.limit
+        (length history.now.objects) checked.statuses.items) }
+    ensures stored { IfOk result (λ checked. IsStoredTold history.now
+        (length history.now.objects) checked.stored) }
+{
+    let options = options_here(rt, options, gate);
+    Ok(judge_each(rt, history, &options, gate)?)
+}
+
+// What is printed of an object by itself.
+fn status_text(status: Status) -> &'static str
+    ensures { result.now ≡ status_text status }
+{
+    match status {
+        Status::Yes => "linearizable",
+        Status::No => "not linearizable",
+        Status::Undecided => "undecided",
+        Status::Refused => "refused",
+    }
+}
+
+// Appends the line of the object of this index.
+fn write_status(
+    out: &mut String,
+    history: &History,
+    object: usize,
+    status: Status,
+) -> Result<(), AllocError>
+    requires { object < length history.now.objects }
+    ensures { OnOk result (string_bytes out.new ≡ string_bytes out.old
+        ++ name_of history.now object ++ codes ": " ++ status_text status ++ codes "\n") }
+{
+    let name = history.object(object).name;
+    let text = status_text(status);
+    write!(out, "{name}: {text}\n")
+}
+
+// Appends the lines of the objects.
+fn write_statuses(
+    out: &mut String,
+    history: &History,
+    statuses: &[Status],
+) -> Result<(), AllocError>
+    requires { length statuses.now ≡ length history.now.objects }
+    ensures { OnOk result (string_bytes out.new
+        ≡ string_bytes out.old ++ status_lines history.now 0 statuses.now) }
+{
+    for (object, status) in statuses.iter().enumerate() {
+        write_status(out, history, object, *status)?;
+    }
+    Ok(())
+}
+
+/// The lines of the objects of a history with these statuses, in the order of declaration: `x: not linearizable`. `AllocError`
+/// where memory was refused.
+///
+/// Condition: there is a status for each object.
+pub fn report_each(
+    alloc: Global,
+    history: &History,
+    statuses: &[Status],
+) -> Result<Vec<u8>, AllocError>
+    requires { length statuses.now ≡ length history.now.objects }
+    ensures { IfOk result (λ text. text.items ≡ status_lines history.now 0 statuses.now) }
+{
+    let mut out = String::new(alloc);
+    write_statuses(&mut out, history, statuses)?;
+    Ok(out.into_bytes())
+}
+
+// Whether an object is not linearizable.
+fn has_no(statuses: &[Status]) -> bool
+    ensures { result ≡ list_any is_no statuses.now }
+{
+    statuses.iter().any(|status| *status == Status::No)
+}
+
+// Whether an object is not decided.
+fn has_undecided(statuses: &[Status]) -> bool
+    ensures { result ≡ list_any is_undecided statuses.now }
+{
+    statuses.iter().any(|status| *status == Status::Undecided)
+}
+
+/// The status of objects together: `No` where one is not linearizable, else `Undecided` where one is not decided, else `Yes`.
+pub(crate) fn status_of_all(statuses: &[Status]) -> Status
+    ensures { result ≡ status_of_all statuses.now }
+{
+    if has_no(statuses) {
+        Status::No
+    } else if has_undecided(statuses) {
+        Status::Undecided
+    } else {
+        Status::Yes
+    }
+}
