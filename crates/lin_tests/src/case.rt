@@ -1,8 +1,8 @@
 //! A case: a text, what is printed of it, the exit status, and the options of the run.
 
-use crate::choice::{explains, options_of};
+use crate::choice::{Form, form_of, options_of};
 use crate::repeat::repeated;
-use lincheck::{Options, StdSink, StdSource, run, status_code};
+use lincheck::{Options, StdSink, StdSource, run, run_each, run_explained, status_code};
 use std::thread::Threads;
 use std::{fs, io};
 
@@ -30,23 +30,22 @@ fn words_of(rt: &HostRuntime, name: &str) -> io::Result<String> {
     Ok(fs::read_to_string(rt, path.as_str()).unwrap_or(String::new(rt.alloc())))
 }
 
-// The status with which `run`, which starts workers with `threads`, answers the text, where it prints this answer.
+// The status with which the text is answered in this form, where just this answer is printed. Workers are started with `threads`.
 fn gives<R: AllocGlobal + Threads + Sync>(
     threads: &R,
     text: &[u8],
     options: &Options,
-    explain: bool,
+    form: Form,
     answer: &[u8],
 ) -> Option<u8> {
     let mut written = Vec::new(threads.alloc());
     let mut source = StdSource::new(text);
-    let ran = run(
-        threads,
-        &mut source,
-        &mut StdSink::new(&mut written),
-        options,
-        explain,
-    );
+    let mut sink = StdSink::new(&mut written);
+    let ran = match form {
+        Form::Report => run(threads, &mut source, &mut sink, options),
+        Form::Explained => run_explained(threads, &mut source, &mut sink, options),
+        Form::Each => run_each(threads, &mut source, &mut sink, options),
+    };
     if written.as_slice() == answer {
         Some(status_code(&ran))
     } else {
@@ -54,28 +53,22 @@ fn gives<R: AllocGlobal + Threads + Sync>(
     }
 }
 
-// Whether a case is answered so, with these options.
+// Whether a case is answered so, with these options in this form.
 fn is_answered_with<R: AllocGlobal + Threads + Sync>(
     rt: &HostRuntime,
     threads: &R,
     name: &str,
     options: &Options,
-    explain: bool,
+    form: Form,
 ) -> io::Result<bool> {
     let status = status_of(rt, name)?;
     let text = text_of(rt, name, "jsonl")?;
     let answer = text_of(rt, name, "answer")?;
-    let given = gives(
-        threads,
-        text.as_slice(),
-        options,
-        explain,
-        answer.as_slice(),
-    );
+    let given = gives(threads, text.as_slice(), options, form, answer.as_slice());
     Ok(given == Some(status))
 }
 
-/// Whether `run` answers the text of a case with its status and prints its answer, byte for byte.
+/// Whether the text of a case is answered with its status, and its answer printed byte for byte.
 pub fn is_answered<R: AllocGlobal + Threads + Sync>(
     rt: &HostRuntime,
     threads: &R,
@@ -83,7 +76,7 @@ pub fn is_answered<R: AllocGlobal + Threads + Sync>(
 ) -> io::Result<bool> {
     let words = words_of(rt, name)?;
     match options_of(words.as_str()) {
-        Some(options) => is_answered_with(rt, threads, name, &options, explains(words.as_str())),
+        Some(options) => is_answered_with(rt, threads, name, &options, form_of(words.as_str())),
         None => Ok(false),
     }
 }

@@ -19,11 +19,20 @@ const USUAL: Choice = Choice {
     stats: false,
 };
 
-// What a line says where it is told why a longest run ends.
+// What a line says where it is told why a longest run ends, or what each object is.
 const EXPLAIN: &str = "--explain";
 
-// The choice, with what a line says: a name and a number, or that statistics are told. That an explanation is told is no part
-// of it.
+const EACH: &str = "--each";
+
+/// In which form a case is answered.
+#[derive(Clone, Copy)]
+pub enum Form {
+    Report,
+    Explained,
+    Each,
+}
+
+// The choice, with what a line says: a name and a number, or that statistics are told. The form of the answer is no part of it.
 fn with_line(choice: Choice, line: &str) -> Option<Choice> {
     if line == "--stats" {
         return Some(Choice {
@@ -31,7 +40,7 @@ fn with_line(choice: Choice, line: &str) -> Option<Choice> {
             ..choice
         });
     }
-    if line == EXPLAIN {
+    if line == EXPLAIN || line == EACH {
         return Some(choice);
     }
     let (name, value) = line.split_once(' ')?;
@@ -62,11 +71,20 @@ pub fn options_of(lines: &str) -> Option<Options> {
     Options::new(choice.workers, choice.shards, choice.limit, choice.stats).ok()
 }
 
-/// Whether the lines ask for an explanation.
-pub fn explains(lines: &str) -> bool {
-    let mut explains = false;
-    for line in lines.lines() {
-        explains = explains || line == EXPLAIN;
+// The form, with what a line says of it.
+fn with_form(form: Form, line: &str) -> Form {
+    match line {
+        EXPLAIN => Form::Explained,
+        EACH => Form::Each,
+        _ => form,
     }
-    explains
+}
+
+/// The form that the lines ask for.
+pub fn form_of(lines: &str) -> Form {
+    let mut form = Form::Report;
+    for line in lines.lines() {
+        form = with_form(form, line);
+    }
+    form
 }

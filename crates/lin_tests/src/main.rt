@@ -1,5 +1,5 @@
-//! Runs `lincheck` on every history of the folder in which it is started, and tells each whose answer is not the one
-//! that stands beside it.
+//! Runs `lincheck` on every history of the folder in which it is started, and shows each whose answer is not the one
+//! that is beside it.
 #![tactic(auto)]
 
 mod case;

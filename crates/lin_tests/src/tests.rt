@@ -18,5 +18,6 @@ mod reports;
 mod searches;
 mod stalls;
 mod tables;
+mod unseen;
 mod watched;
 mod workers;

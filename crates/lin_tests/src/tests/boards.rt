@@ -34,14 +34,14 @@ fn share_three_tasks(board: &Board, a: &mut Seat, b: &mut Seat) -> bool
         && (a.claims(), b.claims()) == (2, 1)
 }
 
-// Whether the board closes with these seats, and tells so many claims and this least task.
+// Whether the board closes with these seats, and returns so many claims and this least task.
 pub(super) fn tallies(board: Board, seats: Vec<Seat>, claimed: u64, least: Option<u64>) -> bool
     requires { All (IsSeatOf board) seats.items }
 {
     matches!(board.close(seats), Ok(told) if told == Tally { claimed, least })
 }
 
-// Whether a board stays open without the seat that comes late, and tells the tally of three tasks with it.
+// Whether a board stays open without the seat that comes late, and returns the tally of three tasks with it.
 fn closes_with_both(board: Board, seats: Vec<Seat>, late: Seat) -> Result<bool, AllocError>
     requires seats { All (IsSeatOf board) seats.items }
     requires late { IsSeatOf board late }

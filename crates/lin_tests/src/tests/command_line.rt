@@ -12,15 +12,26 @@ fn request(alloc: Global, words: &[&str]) -> Result<Request, AllocError> {
     options_of(alloc, texts.as_slice())
 }
 
-// Whether they ask for a run with these options, and with this for an explanation.
-fn runs(
-    alloc: Global,
-    words: &[&str],
-    wanted: &Options,
-    explained: bool,
-) -> Result<bool, AllocError> {
+// Whether they ask for a run with these options.
+fn runs(alloc: Global, words: &[&str], wanted: &Options) -> Result<bool, AllocError> {
     match &request(alloc, words)? {
-        Request::Run { options, explain } => Ok(options == wanted && *explain == explained),
+        Request::Run(options) => Ok(options == wanted),
+        _ => Ok(false),
+    }
+}
+
+// Whether they ask for a run with these options and an explanation.
+fn explains(alloc: Global, words: &[&str], wanted: &Options) -> Result<bool, AllocError> {
+    match &request(alloc, words)? {
+        Request::Explain(options) => Ok(options == wanted),
+        _ => Ok(false),
+    }
+}
+
+// Whether they ask for a line for each object, with these options.
+fn asks_of_each(alloc: Global, words: &[&str], wanted: &Options) -> Result<bool, AllocError> {
+    match &request(alloc, words)? {
+        Request::Each(options) => Ok(options == wanted),
         _ => Ok(false),
     }
 }
@@ -58,7 +69,7 @@ fn no_words_run(alloc: Global) -> Result<bool, AllocError> {
     let Ok(usual) = Options::new(4, 16, None, false) else {
         return Ok(false);
     };
-    runs(alloc, &[], &usual, false)
+    runs(alloc, &[], &usual)
 }
 
 // Whether the greatest numbers are taken.
@@ -66,7 +77,21 @@ fn greatest_run(alloc: Global) -> Result<bool, AllocError> {
     let Ok(greatest) = Options::new(64, 256, Some(1_000_000_000_000), true) else {
         return Ok(false);
     };
-    runs(alloc, &GREATEST, &greatest, true)
+    explains(alloc, &GREATEST, &greatest)
+}
+
+// Whether a line for each object is taken.
+fn each_run(alloc: Global) -> Result<bool, AllocError> {
+    let Ok(usual) = Options::new(4, 16, None, false) else {
+        return Ok(false);
+    };
+    asks_of_each(alloc, &["--each"], &usual)
+}
+
+#[test]
+fn words_ask_for_each_object(rt: HostRuntime) {
+    assert!(rt; matches!(each_run(rt.alloc()), Ok(true)));
+    assert!(rt; matches!(is_refused(rt.alloc(), &["--each", "--explain"]), Ok(true)));
 }
 
 #[test]

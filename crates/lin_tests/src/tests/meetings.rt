@@ -59,7 +59,7 @@ impl Watch for Meeting {
     }
 }
 
-// A gate that tells the object of a problem that a worker entered.
+// A gate that shows the object of a problem that a worker entered.
 #[derive(Drop)]
 struct Telling<'a> {
     problem: &'a Problem<Watched<Meeting>>,

@@ -7,7 +7,7 @@
 //! | a memo that is refused memory at one note (`Full` in `searching`) | each note in turn |
 //! | a reader, a writer (`runs`) | the read or write after each number of bytes |
 //!
-//! Each test tells how often it was refused at the least. A test that refuses nothing fails.
+//! Each test shows how often it was refused at the least. A test that refuses nothing fails.
 
 mod checking;
 mod histories;

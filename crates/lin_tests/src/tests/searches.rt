@@ -223,7 +223,7 @@ fn a_hit_is_a_lift(rt: HostRuntime) {
     assert!(rt; matches!(needs(rt.alloc(), &problem, 12, 8), Ok(true)));
 }
 
-// Whether a search that is stopped after three lifts tells so, with two configurations stored.
+// Whether a search that is stopped after three lifts says so, with two configurations stored.
 fn is_stopped(alloc: Global, problem: &Part) -> Result<bool, AllocError> {
     let mut stop = Countdown { lifts: 3 };
     let stored = stored_by(alloc, problem, None, &mut stop, &Outcome::Stopped(0))?;
@@ -352,7 +352,7 @@ fn noted(
     }
 }
 
-// What the memo tells of a copy of the problem's root.
+// What the memo shows of a copy of the problem's root.
 fn told(
     alloc: Global,
     memo: &OwnMemo<'_, AnyObject>,
@@ -362,7 +362,7 @@ fn told(
     Ok(memo.look(problem, &root.copy(alloc, problem)?))
 }
 
-// Whether the memo keeps the root of its problem once, and tells it of no other.
+// Whether the memo keeps the root of its problem once, and shows it of no other.
 fn keeps_once(
     alloc: Global,
     memo: &mut OwnMemo<'_, AnyObject>,

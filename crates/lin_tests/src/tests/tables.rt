@@ -1,4 +1,4 @@
-//! Shards and tables: what they keep and tell, and two threads that search over one table.
+//! Shards and tables: what they keep and show, and two threads that search over one table.
 
 ghost use Rattle.std.specs.Prelude.{All, IfOk};
 ghost use Rattle.lin_table.specs.Hand.{IsHandOf};
@@ -47,7 +47,7 @@ fn added(
     }
 }
 
-// What a shard tells of the problem's root.
+// What a shard shows of the problem's root.
 fn kept(
     alloc: Global,
     shard: &Shard<'_, AnyObject>,
@@ -56,7 +56,7 @@ fn kept(
     Ok(shard.look(problem, &Config::root(alloc, problem)?))
 }
 
-// Whether the shard refuses a stranger, keeps the root of its problem once, and tells it of no other problem.
+// Whether the shard refuses a stranger, keeps the root of its problem once, and shows it of no other problem.
 fn shard_keeps_once(
     alloc: Global,
     shard: &mut Shard<'_, AnyObject>,
@@ -107,7 +107,7 @@ fn noted(
     }
 }
 
-// What a table tells of the problem's root.
+// What a table shows of the problem's root.
 fn told(
     alloc: Global,
     table: &Table<'_, AnyObject>,
@@ -120,7 +120,7 @@ fn told(
     Ok(table.look(hand, problem, &Config::root(alloc, problem)?))
 }
 
-// Whether the table refuses a stranger, keeps the root of its problem once, and tells it of no other problem.
+// Whether the table refuses a stranger, keeps the root of its problem once, and shows it of no other problem.
 fn keeps_once(
     alloc: Global,
     table: &Table<'_, AnyObject>,
@@ -167,7 +167,7 @@ pub(super) fn stored_by_both(
     Ok(stored(table, hands, count))
 }
 
-// Whether a table is given back without its hand, and tells so many configurations with it.
+// Whether a table is given back without its hand, and says so many configurations with it.
 fn totals(
     alloc: Global,
     table: Table<'_, AnyObject>,
@@ -220,7 +220,7 @@ fn refutes(
     Ok(outcome == Outcome::Refuted(THREE_MORE))
 }
 
-// What a memo over the table tells of the problem's root.
+// What a memo over the table shows of the problem's root.
 fn told_by_memo(
     alloc: Global,
     table: &Table<'_, AnyObject>,

@@ -119,7 +119,7 @@ fn starts(rt: &impl Threads) -> bool {
     }
 }
 
-// Whether a check with four workers tells the verdict of a row where no thread starts.
+// Whether a check with four workers shows the verdict of a row where no thread starts.
 fn is_checked_without_threads<R: AllocGlobal + Threads + Sync>(
     rt: &R,
     alloc: Global,
@@ -148,7 +148,7 @@ fn the_verdict_stays_where_no_thread_starts(rt: HostRuntime) {
     assert!(rt; told == Ok(true), "{told:?}");
 }
 
-// Whether a check of one object, of whose steps and copies one is refused, tells the longest run; `None` where it was refused
+// Whether a check of one object, of whose steps and copies one is refused, shows the longest run; `None` where it was refused
 // memory.
 fn is_told<R: AllocGlobal + Threads + Sync>(
     rt: &R,
@@ -213,7 +213,7 @@ fn are_right(values: &[(u64, Outcome)]) -> bool {
     true
 }
 
-// Whether the hand came back to its table, which then tells how much was stored.
+// Whether the hand came back to its table, which then shows how much was stored.
 fn totals(table: Table<'_, Watched<Refusing>>, hands: Vec<Hand<Watched<Refusing>>>) -> bool
     requires { All (IsHandOf table) hands.items }
 {
@@ -302,16 +302,9 @@ fn a_task_that_was_refused_memory_has_no_value_and_the_worker_goes_on(rt: HostRu
 // Whether both ask for the same, with the same text.
 fn are_same(one: &Request, other: &Request) -> bool {
     match (one, other) {
-        (
-            Request::Run {
-                options: a,
-                explain: c,
-            },
-            Request::Run {
-                options: b,
-                explain: d,
-            },
-        ) => a == b && c == d,
+        (Request::Run(a), Request::Run(b)) => a == b,
+        (Request::Explain(a), Request::Explain(b)) => a == b,
+        (Request::Each(a), Request::Each(b)) => a == b,
         (Request::Help(a), Request::Help(b)) => a.as_str() == b.as_str(),
         (Request::Refused(a), Request::Refused(b)) => a.as_str() == b.as_str(),
         _ => false,

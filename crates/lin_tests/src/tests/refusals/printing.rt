@@ -12,7 +12,7 @@ use lincheck::{Verdict, report};
 use std::alloc::{AllocError, Global};
 use std::thread::Threads;
 
-// What stands in a vector before it is printed to, and fills it.
+// What is in a vector before it is printed to, and fills it.
 const BEFORE: [u8; 24] = [b'-'; 24];
 
 // What is printed.

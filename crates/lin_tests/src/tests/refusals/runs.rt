@@ -112,7 +112,7 @@ fn ran<R: AllocGlobal + Threads + Sync, D: Read + Drop>(
         return Err(RunFault::Memory);
     };
     let mut source = StdSource::new(reader);
-    run(rt, &mut source, &mut StdSink::new(writer), &options, false)
+    run(rt, &mut source, &mut StdSink::new(writer), &options)
 }
 
 // Whether a run ends so whose reader fails after so many bytes and whose writer takes so many, with just these of the report

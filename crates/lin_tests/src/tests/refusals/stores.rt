@@ -138,7 +138,7 @@ fn is_refused_a_pair(
     ))
 }
 
-// The same of a new table, which then tells so.
+// The same of a new table, which then says so.
 fn a_table_is_refused(alloc: Global, problem: &Part) -> Result<bool, AllocError> {
     let (table, mut hands) = Table::new(alloc, problem, 1, 1)?;
     let Some(mut hand) = hands.pop() else {
