@@ -1,16 +1,20 @@
 #!/usr/bin/env python3
-"""What `lincheck --explain` prints of a small history that is not linearizable, by the definitions alone.
+"""What `lincheck --explain` prints of a small history that is not linearizable, and what `lincheck --each` prints, by the
+definitions alone.
 
     bench/explanations.py < HISTORY
     bench/explanations.py --compare PROGRAM FILE..
+    bench/explanations.py --random COUNT PROGRAM
     bench/explanations.py --write FOLDER
 
 The runs of each object are all tried, so a history has few calls. The first object without a linearization is told with the
 first of its longest runs, and then the state after the run, the calls that could come next with what each would answer
-there, and the calls that put or took the value that such a call asks for. With --compare the answers of a program are
-compared with these; with --write the cases below are written, for `crates/lin_tests/data`.
+there, and the calls that put or took the value that such a call asks for, each call with the lines on which its events stand.
+With --compare the answers of a program are compared with these, with --random those on so many random histories, each also with
+what each of its objects is; with --write the cases below are written, for `crates/lin_tests/data`.
 """
 import json
+import random
 import subprocess
 import sys
 from pathlib import Path
@@ -67,7 +71,7 @@ def same(a, b):
 def read(text):
     """The objects in their order, each with its name, its kind, its start and its calls."""
     objects, order, open_calls, number = {}, [], {}, 0
-    for line in text.splitlines():
+    for place, line in enumerate(text.split("\n"), 1):
         if not line.strip():
             continue
         event = json.loads(line)
@@ -79,14 +83,16 @@ def read(text):
         elif what == "call":
             number += 1
             call = {"process": event["process"], "op": event["op"], "args": event.get("args", []), "called": number}
-            call["returned"] = PENDING
+            call |= {"returned": PENDING, "lines": [place]}
             objects[event["object"]][2].append(call)
             open_calls[event["process"]] = call, objects[event["object"]]
         elif what == "return":
             number += 1
             result = event["result"]
             reply = "empty" if result is None else result
-            open_calls.pop(event["process"])[0]["returned"] = number, reply
+            call = open_calls.pop(event["process"])[0]
+            call["returned"] = number, reply
+            call["lines"].append(place)
         elif what == "fail":
             call, of = open_calls.pop(event["process"])
             of[2][:] = [x for x in of[2] if x is not call]
@@ -109,17 +115,30 @@ def runs_from(kind, calls, state, run):
         yield from runs_from(kind, calls, answer[0], run + [c])
 
 
+def searched(kind, calls, start):
+    """Whether an object has a linearization, its first longest run, and the state after it."""
+    best, linear = None, False
+    for run, state in runs_from(kind, calls, start, []):
+        linear = linear or all(c in run for c, x in enumerate(calls) if x["returned"] is not PENDING)
+        if best is None or len(run) > len(best[0]):
+            best = run, state
+    return linear, *best
+
+
 def refuted(objects):
     """The first object without a linearization, its first longest run, and the state after it."""
     for name, kind, start, calls in objects:
-        best, linear = None, False
-        for run, state in runs_from(kind, calls, start, []):
-            linear = linear or all(c in run for c, x in enumerate(calls) if x["returned"] is not PENDING)
-            if best is None or len(run) > len(best[0]):
-                best = run, state
+        linear, *best = searched(kind, calls, start)
         if not linear:
             return name, kind, start, calls, *best
     return None
+
+
+def each(text):
+    """A line for each object, and the exit status."""
+    objects = [(name, searched(kind, calls, start)[0]) for name, kind, start, calls in read(text)]
+    lines = [f"{name}: {'linearizable' if linear else 'not linearizable'}\n" for name, linear in objects]
+    return "".join(lines), 0 if all(linear for _, linear in objects) else 1
 
 
 def shown(value):
@@ -131,7 +150,10 @@ def call_text(call):
 
 
 def recorded(call):
-    return "" if call["returned"] is PENDING else f" = {shown(call['returned'][1])}"
+    """The reply and the lines of both events; of a pending call the line of its call."""
+    if call["returned"] is PENDING:
+        return f" (line {call['lines'][0]})"
+    return f" = {shown(call['returned'][1])} (lines {call['lines'][0]} and {call['lines'][1]})"
 
 
 def listed(texts):
@@ -233,27 +255,28 @@ def explained(text):
     return out
 
 
-def history(kind, events, start=None, format_2=False):
-    """The text of a history of one object: `1 enq 3` is a call, `1 = ok` a return, `1 fail` a failure, '' a blank line."""
+def history(kind, events, start=None, format_2=False, line_end="\n"):
+    """The text of a history of one object: `1 enq 3` is a call, `1 = ok` a return, `1 fail` a failure, `1 info` an end, '' a
+    blank line; what begins with a brace stands as it is."""
     name = {"register": "x", "counter": "n", "queue": "q", "stack": "s", "set": "e", "mutex": "m", "map": "d"}[kind]
     lines = ['{"format":2}'] if format_2 else []
     declared = {"event": "object", "object": name, "kind": kind}
     lines.append(json.dumps(declared | ({} if start is None else {"start": start}), separators=(",", ":")))
     for event in events:
         words = event.split()
-        if not words:
-            lines.append("")
+        if not words or event.startswith("{"):
+            lines.append(event)
             continue
         process, what, *rest = words
         line = {"event": "call", "process": int(process), "object": name}
         if what == "=":
             line |= {"event": "return", "result": json.loads(rest[0]) if rest[0] != "ok" else "ok"}
-        elif what == "fail":
-            line |= {"event": "fail"}
+        elif what in ("fail", "info"):
+            line |= {"event": what}
         else:
             line |= {"op": what} | ({"args": [int(x) for x in rest]} if rest else {})
         lines.append(json.dumps(line, separators=(",", ":")))
-    return "\n".join(lines) + "\n"
+    return line_end.join(lines) + line_end
 
 
 CASES = {
@@ -280,42 +303,136 @@ CASES = {
         "map", ["1 put 1 5", "1 = ok", "1 put 2 7", "1 = ok", "2 get 1", "2 = 7", "3 get 2", "3 = 7"]),
     "map_value_that_was_deleted": history(
         "map", ["1 put 3 5", "1 = ok", "2 delete 3", "2 = true", "1 put 4 6", "1 = ok", "3 get 3", "4 put 3 8", "3 = 5"]),
+    "register_write_that_was_called_too_late": history(
+        "register", ["1 write 7", "1 fail", "", "2 read", "3 write 8", "2 = 7", "", "4 write 7", "5 read"], None, True),
+    "counter_between_failures_and_an_end": history(
+        "counter", ["1 add 4", "1 fail", "1 add 2", "2 add 1", "2 fail", "1 = ok", "3 add 8", "3 info", "2 get", "2 = 4"], None, True),
+    "queue_with_carriage_returns_and_blank_lines": history(
+        "queue",
+        ["", "1 enq 5", " \t", "1 = ok", '{"event":"object","object":"x","kind":"register"}', "2 deq", "", "2 = 5",
+         '{"event":"call","process":9,"object":"x","op":"read"}', "3 deq", "4 enq 6", "", "3 = 5", "1 deq"],
+        line_end="\r\n"),
     "register_written_by_many": history(
         "register", [e for p in range(1, 11) for e in (f"{p} write 5", f"{p} = ok")] + ["1 write 6", "1 = ok", "2 read", "2 = 5"]),
 }
 
 
-def compare(program, files):
-    wrong = 0
-    for file in files:
-        text = Path(file).read_text()
-        if refuted(read(text)) is None:
-            continue
-        answer = subprocess.run([program, "--explain"], input=text, capture_output=True, text=True).stdout
-        if answer != explained(text):
-            wrong += 1
-            print(f"differs: {file}\n{answer}---\n{explained(text)}", end="")
+def differs(program, text):
+    """Whether the program tells otherwise what each object is, or explains the history otherwise, by one worker or by four; an
+    explanation of one that is linearizable is passed over."""
+    ran = subprocess.run([program, "--each"], input=text.encode(), capture_output=True)
+    if (ran.stdout.decode(), ran.returncode) != each(text):
+        print(f"differs, each:\n{text}---\n{ran.stdout.decode()}---\n{each(text)[0]}", end="")
+        return True
+    if refuted(read(text)) is None:
+        return False
+    for workers in ("1", "4"):
+        ran = subprocess.run([program, "--explain", "--workers", workers], input=text.encode(), capture_output=True)
+        if ran.stdout.decode() != explained(text):
+            print(f"differs, {workers} workers:\n{text}---\n{ran.stdout.decode()}---\n{explained(text)}", end="")
+            return True
+    return False
+
+
+OF_EACH = {
+    "second_of_three": "".join([
+        history("queue", ["1 enq 1", "1 = ok", "2 deq", "2 = 1"]),
+        history("register", ["1 write 1", "1 = ok", "2 read", "2 = 0", "3 read"]),
+        history("set", ["5 add 1", "4 remove 1", "4 = true"]).replace("\n", "\n\n"),
+    ]),
+    "all": history("stack", ["1 push 1", "1 = ok"]) + history("counter", ["2 get", "2 = 3"], 3),
+    "none": "".join([
+        history("mutex", ["1 lock", "1 = ok", "2 unlock", "2 = ok"]),
+        history("map", ["1 put 1 2", "1 = ok", "3 get 1", "3 = 3"]),
+    ]),
+    "no_object": "",
+}
+MANY_RUNS = history("register", [f"{p} write {p}" for p in range(1, 9)] + [f"{p} = ok" for p in range(1, 9)] + ["9 read", "9 = 99"])
+# Within a limit of 3 the first object is undecided; the other has no more than 3 runs, and so is not.
+WITHIN_3 = {
+    "undecided_and_refuted": MANY_RUNS + history("queue", ["1 deq", "1 = 4"]),
+    "undecided_and_linearizable": MANY_RUNS + history("mutex", ["1 lock", "1 = ok"]),
+}
+
+
+def within_3(text):
+    """The same as `each`, with the first object undecided."""
+    answer, _ = each(text)
+    lines = answer.splitlines(True)
+    lines[0] = lines[0].partition(":")[0] + ": undecided\n"
+    return "".join(lines), 1 if ": not linearizable\n" in "".join(lines) else 3
+
+
+def compare(program, texts):
+    wrong = sum(differs(program, text) for text in texts)
     print(f"{wrong} differ")
     return wrong
+
+
+OPERATIONS = {
+    "register": [("write", 1), ("read", 0), ("cas", 2)], "counter": [("add", 1), ("get", 0)], "queue": [("enq", 1), ("deq", 0)],
+    "stack": [("push", 1), ("pop", 0)], "set": [("add", 1), ("remove", 1), ("contains", 1)],
+    "mutex": [("lock", 0), ("unlock", 0), ("try_lock", 0)], "map": [("put", 2), ("get", 1), ("delete", 1)],
+}
+
+
+def random_history(seed):
+    """A history of one object and 3 to 7 calls, with replies from a walk that now and then errs, failures and blank lines."""
+    choose = random.Random(seed)
+    kind = choose.choice(sorted(OPERATIONS))
+    events, state, open_calls, left = [], START[kind], {}, choose.randint(3, 7)
+    while left or open_calls:
+        if choose.random() < 0.15:
+            events.append(choose.choice(["", " ", "\t"]))
+        process = choose.randint(1, 4)
+        if process not in open_calls and left:
+            left -= 1
+            op, count = choose.choice(OPERATIONS[kind])
+            open_calls[process] = op, [choose.randint(0, 2) for _ in range(count)]
+            events.append(" ".join([str(process), op, *map(str, open_calls[process][1])]))
+        elif process in open_calls:
+            op, args = open_calls.pop(process)
+            answer = step(kind, state, process, op, args)
+            if choose.random() < 0.1:
+                events.append(f"{process} fail")
+            elif choose.random() < 0.1 and not left:
+                continue
+            elif answer is None or choose.random() < 0.2:
+                events.append(f"{process} = {choose.choice(['ok', 'true', 'false', 'null', '0', '1', '2'])}")
+            else:
+                state, reply = answer
+                reply = "null" if reply == "empty" else reply
+                events.append(f"{process} = {shown(reply)}")
+    return history(kind, events, None, True, choose.choice(["\n", "\r\n"]))
 
 
 def write(folder):
     for name, text in CASES.items():
         for workers in (1, 4):
             base = Path(folder) / f"explained_{name}_by_{workers}"
-            base.with_suffix(".jsonl").write_text(text)
+            base.with_suffix(".jsonl").write_bytes(text.encode())
             base.with_suffix(".answer").write_text(explained(text))
             base.with_suffix(".status").write_text("1\n")
             base.with_suffix(".options").write_text(f"--workers {workers}\n--explain\n")
+    for name, text in (OF_EACH | WITHIN_3).items():
+        base = Path(folder) / f"each_object_{name}"
+        answer, status = within_3(text) if name in WITHIN_3 else each(text)
+        base.with_suffix(".jsonl").write_text(text)
+        base.with_suffix(".answer").write_text(answer)
+        base.with_suffix(".status").write_text(f"{status}\n")
+        base.with_suffix(".options").write_text("--each\n" + ("--limit 3\n" if name in WITHIN_3 else ""))
 
 
 def main():
     if sys.argv[1:2] == ["--write"]:
         write(sys.argv[2])
     elif sys.argv[1:2] == ["--compare"]:
-        sys.exit(1 if compare(sys.argv[2], sys.argv[3:]) else 0)
+        texts = (Path(file).read_bytes().decode() for file in sys.argv[3:])
+        sys.exit(1 if compare(sys.argv[2], texts) else 0)
+    elif sys.argv[1:2] == ["--random"]:
+        sys.exit(1 if compare(sys.argv[3], map(random_history, range(int(sys.argv[2])))) else 0)
     else:
-        print(explained(sys.stdin.read()), end="")
+        print(explained(sys.stdin.buffer.read().decode()), end="")
 
 
 if __name__ == "__main__":

@@ -1,10 +1,9 @@
 #!/usr/bin/env python3
 """Runs the gate and tells what it took, crate by crate: the seconds of processor time of proofs, edits and tests.
 
-    bench/gate.py [WORD..]
+    bench/gate.py
 
-Runs `rt ci` with these words (as --anew, for a run from nothing), and twice a second reads the processor time of the processes
-`rattle` below it. The second check of a crate, over which its edits are tried, counts as edits.
+Runs `rt ci`, and twice a second reads the processor time of the processes `rattle` below it. The second check of a crate, over which its edits are tried, counts as edits.
 """
 import collections
 import os
@@ -53,7 +52,7 @@ def part_of(pid):
 
 def main():
     began, parts, seconds = time.monotonic(), {}, {}
-    gate = subprocess.Popen(["rt", "ci", *sys.argv[1:]])
+    gate = subprocess.Popen(["rt", "ci"])
     while gate.poll() is None:
         found = parents()
         for pid, (_, used) in found.items():

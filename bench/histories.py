@@ -240,6 +240,15 @@ def with_swapped_results(events, op):
     return events
 
 
+def with_item_taken_twice(events, op):
+    """A result of the operation, at nine tenths of the history, in the place of one 5 later."""
+    places = [place for place, event in enumerate(events) if event.op == op and isinstance(event.reply, int)]
+    first = len(places) * 9 // 10 - 20
+    one, other = places[first], places[first + 5]
+    events[other] = events[other]._replace(reply=events[one].reply)
+    return events
+
+
 def with_impossible_reply(events, op, tenths):
     """The operation's result that stands after so many tenths of them, replaced by one that is impossible."""
     places = [place for place, event in enumerate(events) if event.op == op and event.reply is not None]
@@ -267,6 +276,41 @@ def concurrent(writes):
     for process in range(writes):
         yield returned(process, "x", OKAY)
     yield from impossible_read("x")
+
+
+def additions(count):
+    """So many additions at once, of numbers that no two sums have in common, and a get beside them of what none adds up to."""
+    yield declared("c", "counter")
+    yield call(0, "c", "get")
+    for process in range(1, count + 1):
+        yield call(process, "c", "add", 2**process)
+    for process in range(1, count + 1):
+        yield returned(process, "c", OKAY)
+    yield returned(0, "c", 2**count - 1)
+
+
+def equal_additions(count):
+    """So many additions of 1 at once, and a get beside them that returned one more than they add."""
+    yield declared("c", "counter")
+    yield call(0, "c", "get")
+    for process in range(1, count + 1):
+        yield call(process, "c", "add", 1)
+    for process in range(1, count + 1):
+        yield returned(process, "c", OKAY)
+    yield returned(0, "c", count + 1)
+
+
+def tries(count):
+    """So many tries at once to take a mutex that is held, and an unlock by one that does not hold it."""
+    yield declared("m", "mutex")
+    yield call(0, "m", "lock")
+    yield returned(0, "m", OKAY)
+    for process in range(1, count + 1):
+        yield call(process, "m", "try_lock")
+    for process in range(1, count + 1):
+        yield returned(process, "m", "false")
+    yield call(1, "m", "unlock")
+    yield returned(1, "m", OKAY)
 
 
 def register(processes):
@@ -331,6 +375,10 @@ def buffer_swapped(model):
 
 def backlog_swapped(model, most):
     return lambda calls: lines("b", model.kind, with_swapped_results(simulated(model(most), 6, calls), model.take))
+
+
+def backlog_taken_twice(model, most):
+    return lambda calls: lines("b", model.kind, with_item_taken_twice(simulated(model(most), 6, calls), model.take))
 
 
 def counter(processes, pending=0):
@@ -499,6 +547,8 @@ FAMILIES = {
     "own_keys": Family("a map, a put of a key of its own each, in turn", "calls", MORE_CALLS[-1:], 0, own_keys),
     "backlog_32_no": Family("a queue filled to 32 items and emptied, two results swapped", "calls", BACKLOG_CALLS, 1, backlog_swapped(FilledQueue, 32)),
     "stack_backlog_32_no": Family("the same of a stack", "calls", BACKLOG_CALLS, 1, backlog_swapped(FilledStack, 32)),
+    "backlog_32_twice": Family("a queue filled to 32 items and emptied, one item taken twice", "calls", BACKLOG_CALLS, 1, backlog_taken_twice(FilledQueue, 32)),
+    "stack_backlog_32_twice": Family("the same of a stack", "calls", BACKLOG_CALLS, 1, backlog_taken_twice(FilledStack, 32)),
     **{
         f"map_{processes}_{keys}_no_{tenths}": Family(
             f"a map of {keys:,} keys, {processes} processes, and an impossible get after {tenths} tenths of the gets",
@@ -513,6 +563,9 @@ FAMILIES = {
     },
     "map_no": Family("the same, and an impossible get", "calls", CALLS, 1, maps_refuted),
     "crashed": Family("pending writes before 1,000 calls, and an impossible read", "pending", [1, 2, 4, 6], 1, crashed),
+    "additions": Family("concurrent additions of different numbers, and an impossible get", "additions", [14, 16, 18, 20], 1, additions),
+    "equal_additions": Family("concurrent additions of 1, and a get of one more", "additions", [16, 40], 1, equal_additions),
+    "tries": Family("concurrent tries of a held mutex, and an unlock by another", "tries", [18, 22, 64], 1, tries),
     "concurrent": Family("concurrent writes, and an impossible read", "writes", [8, 10, 12, 14, 16, 18], 1, concurrent),
 }
 
