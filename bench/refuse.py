@@ -39,7 +39,8 @@ def ran(program, library, options, text, at):
         out, err = it.communicate(text, timeout=60)
     growths = int(os.read(reader, 64) or 0)
     os.close(reader)
-    return (it.returncode, out, err), growths
+    # a refusal and an undecided history may have a hint on standard error, which is no part of the answer
+    return (it.returncode, out, b"" if it.returncode in (2, 3) else err), growths
 
 
 def is_allowed(answer, wanted):
