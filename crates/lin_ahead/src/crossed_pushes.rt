@@ -81,7 +81,7 @@ fn crosses(problem: &Problem<AnyObject>, late: &LateRows, crossing: Crossing) ->
         return false;
     }
     match popped_after(problem, late, crossing.push, crossing.pop) {
-        Some(_event) => finds_under(problem, late, crossing),
+        Some(event) => finds_under(problem, late, crossing),
         None => false,
     }
 }

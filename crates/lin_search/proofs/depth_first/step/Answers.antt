@@ -1,6 +1,6 @@
 use Rattle.lin_history.specs.Problems.Problem.{problem_of}
 use Rattle.lin_search.proofs.PathLemmas.{step_tells, ok_map}
-use Rattle.std.proofs.Common.{◌≡◌, Option, Some, None, sym}
+use Rattle.std.proofs.Common.{◌≡◌, Option, Some, None, sym, ◌∙◌}
 use Rattle.lin_search.proofs.depth_first.step.Goals as goal
 
 some_not_none : {A : Type 0} (x : A) (answer : Option A) → Some x ≡ answer → answer ≡ None → ⊥
