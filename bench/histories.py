@@ -300,6 +300,20 @@ def equal_additions(count):
     yield returned(0, "c", count + 1)
 
 
+def shared_additions(count):
+    """So many numbers, each added at once by two clients and by a third that stops within its add, and a get beside them of
+    what none adds up to."""
+    numbers = [8**place for place in range(count)]
+    adds = [*numbers, *numbers]
+    yield declared("c", "counter")
+    yield call(0, "c", "get")
+    for process, number in enumerate([*adds, *numbers], 1):
+        yield call(process, "c", "add", number)
+    for process in range(1, len(adds) + 1):
+        yield returned(process, "c", OKAY)
+    yield returned(0, "c", 7 * 8**count)
+
+
 def tries(count):
     """So many tries at once to take a mutex that is held, and an unlock by one that does not hold it."""
     yield declared("m", "mutex")
@@ -564,6 +578,9 @@ FAMILIES = {
     "map_no": Family("the same, and an impossible get", "calls", CALLS, 1, maps_refuted),
     "crashed": Family("pending writes before 1,000 calls, and an impossible read", "pending", [1, 2, 4, 6], 1, crashed),
     "additions": Family("concurrent additions of different numbers, and an impossible get", "additions", [14, 16, 18, 20], 1, additions),
+    "shared_additions": Family(
+        "numbers that two clients add at once, and a third that stops, and an impossible get", "numbers", [5, 6, 7, 8], 1, shared_additions
+    ),
     "equal_additions": Family("concurrent additions of 1, and a get of one more", "additions", [16, 40], 1, equal_additions),
     "tries": Family("concurrent tries of a held mutex, and an unlock by another", "tries", [18, 22, 64], 1, tries),
     "concurrent": Family("concurrent writes, and an impossible read", "writes", [8, 10, 12, 14, 16, 18], 1, concurrent),

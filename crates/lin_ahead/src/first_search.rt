@@ -18,7 +18,7 @@ use crate::calls_in_turn::CallsInTurn;
 use crate::finders::Finders;
 use crate::first_answer::FirstAnswer;
 use crate::held_state::held_until;
-use crate::identical_calls::{changes_nothing, stands_for};
+use crate::identical_calls::{changes_nothing, stands_for, stands_where_it_follows};
 use crate::late_pushes::is_late;
 use crate::look_ahead::{KnownAhead, is_empty};
 use crate::needed_calls::{left_out, needed_in_turn};
@@ -32,7 +32,7 @@ use crate::taker_hints::TakerHints;
 use crate::takers::{After, lacks_takers};
 use lin_history::{Order, Problem, ProblemCall};
 use lin_object::{AnyObject, ObjState, Op, Reply, lawful};
-use lin_search::{Config, Frame, Longest, Path, repeated_calls};
+use lin_search::{Config, Frame, IdenticalCalls, Longest, Path};
 use std::alloc::{AllocError, Global};
 use std::ops::ControlFlow;
 
@@ -49,7 +49,7 @@ struct FirstSearch<'p> {
     stack: StackHints,
     takers: TakerHints,
     sums: SumHints,
-    repeated: Vec<usize>,
+    identical: IdenticalCalls,
     lifts: u64,
 }
 
@@ -325,13 +325,39 @@ impl<'p> FirstSearch<'p> {
             self.now.path.config.lifted self.now.path.config.state call }
     {
         lawful::<AnyObject>();
-        let Some(earlier) = self.repeated.get(call) else {
+        let Some(earlier) = self.identical.repeated_by(call) else {
             return false;
         };
-        if self.path.config().has(*earlier) {
+        if self.path.config().has(earlier) {
             return false;
         }
-        stands_for(self.path.problem(), *earlier, call)
+        stands_for(self.path.problem(), earlier, call)
+    }
+
+    // Whether a completed call that is left and can follow stands for the call, which is pending: then that one was tried here
+    // before, and begins no completion.
+    fn is_behind_completed(&self, call: usize) -> Result<bool, AllocError>
+        requires reachable { IsReachable (any_problem self.now.path.entries.problem)
+            self.now.path.config.lifted self.now.path.config.state }
+        requires minimal { IsMinimal (any_problem
+            self.now.path.entries.problem) self.now.path.config.lifted call }
+        requires passed { IsPassed (any_problem self.now.path.entries.problem)
+            self.now.path.config.lifted self.now.path.config.state call }
+        ensures { IfOk result (λ known. IsTrue known → BeginsNone
+            (any_problem self.now.path.entries.problem) self.now.path.config.lifted
+            self.now.path.config.state call) }
+    {
+        lawful::<AnyObject>();
+        let Some(earlier) = self.identical.completed_before(call) else {
+            return Ok(false);
+        };
+        if earlier >= call || self.path.config().has(earlier) {
+            return Ok(false);
+        }
+        if !stands_where_it_follows(self.path.problem(), earlier, call) {
+            return Ok(false);
+        }
+        self.path.can_follow_before(earlier, call)
     }
 
     // The state that the call, which is minimal, leads to. `None` where no completion begins with the call: where that is
@@ -355,7 +381,10 @@ impl<'p> FirstSearch<'p> {
             (any_problem self.now.path.entries.problem)
             self.now.path.config.lifted self.now.path.config.state call)) }
     {
-        if self.repeats_one_left(call) || self.begins_none(ahead, call)? {
+        if self.repeats_one_left(call) || self.is_behind_completed(call)? {
+            return Ok(None);
+        }
+        if self.begins_none(ahead, call)? {
             return Ok(None);
         }
         let Some(state) = self.path.next_state(call)? else {
@@ -540,7 +569,7 @@ struct Hints {
     stack: StackHints,
     takers: TakerHints,
     sums: SumHints,
-    repeated: Vec<usize>,
+    identical: IdenticalCalls,
 }
 
 // What the search of the problem goes by. It is made in a function of its own, where no path is dropped if memory is refused.
@@ -556,13 +585,13 @@ fn hints_of(
         stack: StackHints::new(alloc, problem, &ahead.late)?,
         takers: TakerHints::new(alloc, calls_on_queue(problem, ahead), ahead)?,
         sums: SumHints::new(alloc, problem, ahead)?,
-        repeated: repeated_calls(alloc, problem)?,
+        identical: IdenticalCalls::of(alloc, problem)?,
     })
 }
 
 /// The search from the root that only asks whether there is a linearization, and for the least one (this project's
-/// own). It makes at most so many lifts. It passes over each call that repeats one which is not lifted,
-/// and each that needs one which is not lifted, before a state is made; each push that is known to be too late, each pending call
+/// own). It makes at most so many lifts. It passes over each call that repeats one which is not lifted, each pending one behind a
+/// completed one of its operation that can follow, and each that needs one which is not lifted, before a state is made; each push that is known to be too late, each pending call
 /// that would get a reply which is owed to another, and each call that leaves too few dequeues or pops for what must be taken
 /// out of a queue or off a stack. After a call that changes nothing it tries no other. It keeps of a refuted configuration only
 /// that it is refuted. So it may meet far fewer configurations than `search`, and what it keeps is of no use to that one.
@@ -598,7 +627,7 @@ pub fn search_first(
         stack,
         takers,
         sums,
-        repeated,
+        identical,
     } = hints;
     let mut search = FirstSearch {
         alloc,
@@ -610,7 +639,7 @@ pub fn search_first(
         stack,
         takers,
         sums,
-        repeated,
+        identical,
         lifts: 0,
     };
     search.go(ahead, lifts)

@@ -5,10 +5,11 @@ ghost use Rattle.std.specs.Prelude.{◌≡◌, List, Bool, false, IsTrue};
 ghost use Rattle.lin_history.specs.Problems.Problem.{problem_of};
 ghost use Rattle.lin_history.specs.Problems.Continuations.{has};
 ghost use Rattle.lin_search.specs.NeedlessCalls.{LeavesStates, StandsFor};
+ghost use Rattle.lin_search.specs.NextCall.{IsNext};
 
 use lin_history::Problem;
 use lin_object::SeqObject;
-use lin_search::{ends_the_list, repeats};
+use lin_search::{adds_nothing, ends_the_list, repeats};
 
 /// Whether the call repeats the earlier one, which stands for it as long as that is left (`repeats`): what begins with the call
 /// then begins with the earlier one as well.
@@ -21,6 +22,24 @@ pub(crate) fn stands_for<O: SeqObject>(problem: &Problem<O>, earlier: usize, cal
         return false;
     }
     repeats(problem, earlier, call)
+}
+
+/// Whether the earlier call, where it can follow, stands for the call (`adds_nothing`): what begins with the call then begins with
+/// the earlier one as well.
+pub(crate) fn stands_where_it_follows<O: SeqObject>(
+    problem: &Problem<O>,
+    earlier: usize,
+    call: usize,
+) -> bool
+    ensures { IsTrue result → (set : List Bool) (s t : O.State)
+        → IsNext (problem_of O.after O.State.eq O.Reply.eq problem.now) set s earlier t
+        → StandsFor (problem_of O.after O.State.eq O.Reply.eq problem.now) set s earlier call }
+{
+    let _calls = problem.calls();
+    if earlier >= call || call >= problem.len() {
+        return false;
+    }
+    adds_nothing(problem, earlier, call)
 }
 
 /// Whether the call leaves each state as it is in which it can follow.

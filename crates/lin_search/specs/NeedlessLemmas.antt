@@ -1,8 +1,9 @@
 -- The three ways in which one of two identical calls stands for the other.
-use Rattle.std.proofs.Common.{◌≡◌, ℕ, ◌<◌, ◌≤◌, ◌+◌, Bool, true, false, Option, Some, None, IsSome, List, length, refl, sym, ◌∙◌, subst, arith}
-use Rattle.std.specs.Prelude.{IsSomeAnd, if◌then◌else◌}
+use Rattle.std.proofs.Common.{◌≡◌, ℕ, ◌<◌, ◌≤◌, ◌+◌, ◌⊎◌, inl, inr, Bool, true, false, Option, Some, None, IsSome, List, length, refl, sym, ◌∙◌, subst, arith}
+use Rattle.std.specs.Prelude.{IsSomeAnd, if◌then◌else◌, get_or}
 use Rattle.std.specs.List.{slice_get}
 use Rattle.std.specs.Cmp.{IsEquivalence}
+use Rattle.std.proofs.lemmas.Option.{slice_get_cases}
 use Rattle.lin_object.specs.StepAnswers.{SameStep}
 use Rattle.lin_object.specs.Laws.{IsLawful}
 use Rattle.lin_history.specs.declared.problems.problem.ProblemCall.{ProblemCall}
@@ -13,6 +14,7 @@ use Rattle.lin_history.specs.Problems.LegalLists.{next, fits, state_if_fits}
 use Rattle.lin_history.specs.Problems.Precedence.{Before, IsCompleted}
 use Rattle.lin_history.specs.Problems.Continuations.{has}
 use Rattle.lin_search.specs.NextCall.{IsNext}
+use Rattle.lin_search.specs.Entries.{IsMinimal}
 use Rattle.lin_search.specs.Progress.{IsSearchedTo}
 use Rattle.lin_search.specs.SameLemmas.{alike_itself}
 use Rattle.lin_object.specs.StepAnswers.{IgnoresProcess, ChangesNothing}
@@ -107,6 +109,31 @@ module _ {Op Reply : Type 0} (calls : List (ProblemCall Op Reply)) where
   earlier_number : (c : ℕ) (m n : ℕ) → m ≤ n → IsSomeAnd (slice_get calls c) (λ z. n < z.called) → IsSomeAnd (slice_get calls c) (λ z. m < z.called)
   earlier_number c m n h = some_more (slice_get calls c) (λ z. n < z.called) (λ z. m < z.called) (λ z k. omega (arith, h, k))
 
+module _ {State Op Reply : Type 0} (p : Problem State Op Reply) (timed : AreTimed p.calls) where
+  there_if : (c : ℕ) → c < length p.calls → ((x : ProblemCall Op Reply) × (c < length p.calls) × (slice_get p.calls c ≡ Some x) × (get_or p.calls c x ≡ x)) ⊎ ((length p.calls ≤ c) × (slice_get p.calls c ≡ None)) → (x : ProblemCall Op Reply) × (slice_get p.calls c ≡ Some x)
+  there_if c h (inl k) = (k.0, k.2)
+  there_if c h (inr k) = absurd (let past = k.0 in omega (arith, h, past))
+
+  -- the call of a number
+  there : (c : ℕ) → c < length p.calls → (x : ProblemCall Op Reply) × (slice_get p.calls c ≡ Some x)
+  there c h = there_if c h (slice_get_cases p.calls c).1
+
+  called_later : (a b : ℕ) (x y : ProblemCall Op Reply) → slice_get p.calls a ≡ Some x → slice_get p.calls b ≡ Some y → x.called < y.called → (n : ℕ) → IsSomeAnd (slice_get p.calls a) (λ z. n < z.called) → IsSomeAnd (slice_get p.calls b) (λ z. n < z.called)
+  called_later a b x y at_a at_b later n h = let q : n < x.called = rw at_a at h in rw at_b (omega (arith, q, later))
+
+  -- A call that is left and was called before a minimal one is minimal too.
+  pub minimal_earlier : (set : List Bool) (a b : ℕ) → a < b → has set a ≡ false → IsMinimal p set b → IsMinimal p set a
+  minimal_earlier set a b less free minimal =
+      let within : a < length p.calls = (let h = minimal.within in omega (arith, h, less)) in
+      let x = there a within in
+      let y = there b minimal.within in
+      record {
+        within = within;
+        outside = free;
+        preceded = λ c before.
+            minimal.preceded c (some_more (slice_get p.calls c) _ _ (λ z h. some_more z.returned _ _ (λ r q. called_later a b x.0 y.0 x.1 y.1 (timed.called a b x.0 y.0 less x.1 y.1) r.0 q) h) before);
+      }
+
 module _ {Object State Op Reply : Type 0} {after : Object → State → ℕ → Op → Option (State × Reply)} {same_object : Object → Object → Bool} {same_state : State → State → Bool} {same_op : Op → Op → Bool} {same_reply : Reply → Reply → Bool} (lawful : IsLawful after same_object same_state same_op same_reply) (parts : ProblemParts Object State Op Reply) where
   abbrev P : Problem State Op Reply
   P = problem_of after same_state same_reply parts
@@ -195,6 +222,14 @@ module _ {Object State Op Reply : Type 0} {after : Object → State → ℕ → 
   adds_nothing a b x y at_a at_b timed less same ignores comes set s t more first is_next searched =
       let called : x.called ≤ y.called = (let h = timed.called a b x y less at_a at_b in omega (arith, h)) in
       searched_identical a b x y at_a at_b set s more first is_next.outside less (tried_in_order a b x y at_a at_b s t is_next.step called same ignores comes) searched
+
+  -- The same for a search that tells nothing of longest continuations.
+  pub stands_tried : (a b : ℕ) (x y : ProblemCall Op Reply) → slice_get parts.calls a ≡ Some x → slice_get parts.calls b ≡ Some y → AreTimed parts.calls → a < b
+      → same_op x.op y.op ≡ true → IgnoresProcess same_reply (after parts.object) x.op x.returned → ComesFirst same_reply x.returned y.returned
+      → (set : List Bool) (s t : State) → IsNext P set s a t → StandsFor P set s a b
+  stands_tried a b x y at_a at_b timed less same ignores comes set s t is_next =
+      let called : x.called ≤ y.called = (let h = timed.called a b x y less at_a at_b in omega (arith, h)) in
+      stands_for a b x y at_a at_b set s is_next.outside less (tried_in_order a b x y at_a at_b s t is_next.step called same ignores comes)
 
   -- What a test of the two calls gives, where the first is free: no step need be looked at.
   pub stands_alike : (a b : ℕ) (x y : ProblemCall Op Reply) → slice_get parts.calls a ≡ Some x → slice_get parts.calls b ≡ Some y → AreTimed parts.calls → a < b

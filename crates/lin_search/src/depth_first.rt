@@ -9,6 +9,7 @@ ghost use Rattle.lin_search.specs.CallSet.{with_call, lifted_set};
 ghost use Rattle.lin_search.specs.Memo.{IsClosed, IsKept};
 ghost use Rattle.lin_search.specs.Configuration.{Configuration};
 ghost use Rattle.lin_search.specs.NeedlessCalls.{AddsNothing, EndsTheList};
+ghost use Rattle.lin_search.specs.Entries.{IsMinimal};
 ghost use Rattle.lin_search.specs.NextCall.{IsNext, HasEveryCompleted};
 ghost use Rattle.lin_search.specs.Refutation.{IsRefutedWith};
 ghost use Rattle.lin_search.specs.Path.{Frame as PathFrame, calls_of};
@@ -20,7 +21,7 @@ ghost use Rattle.lin_search.specs.Progress.{GoesOn, IsProgress, IsStep, IsLifted
 use crate::config::Config;
 use crate::longest::Longest;
 use crate::memo::{Memo, Noted};
-use crate::needless_calls::{ends_the_list, repeated_calls, repeats};
+use crate::needless_calls::{IdenticalCalls, adds_nothing, ends_the_list, repeats};
 use crate::outcome::Outcome;
 use crate::path::{Frame, Path, Position};
 use crate::stop::Stop;
@@ -173,19 +174,69 @@ struct Candidate {
 
 // Whether the call repeats one that is not lifted, as the hint has it.
 #[inline(always)]
-fn is_repeated<O: SeqObject>(path: &Path<'_, O>, call: usize, repeated: &[usize]) -> bool
+fn is_repeated<O: SeqObject>(path: &Path<'_, O>, call: usize, identical: &IdenticalCalls) -> bool
     requires { call < length path.now.entries.problem.calls }
     ensures { IsTrue result → AddsNothing
         (problem_of O.after O.State.eq O.Reply.eq path.now.entries.problem) path.now.config.lifted
         path.now.config.state call }
 {
-    let Some(earlier) = repeated.get(call) else {
+    let Some(earlier) = identical.repeated_by(call) else {
         return false;
     };
-    if *earlier >= call || path.config().has(*earlier) {
+    if earlier >= call || path.config().has(earlier) {
         return false;
     }
-    repeats(path.problem(), *earlier, call)
+    repeats(path.problem(), earlier, call)
+}
+
+// Whether the call, which is pending, adds nothing behind a completed one that is not lifted and can follow, as the hint has it.
+#[inline(always)]
+fn is_behind_completed<O: SeqObject>(
+    path: &Path<'_, O>,
+    call: usize,
+    identical: &IdenticalCalls,
+) -> Result<bool, AllocError>
+    requires reachable { IsReachable
+        (problem_of O.after O.State.eq O.Reply.eq path.now.entries.problem) path.now.config.lifted
+        path.now.config.state }
+    requires minimal { IsMinimal (problem_of O.after O.State.eq O.Reply.eq
+        path.now.entries.problem) path.now.config.lifted call }
+    ensures { IfOk result (λ known. IsTrue known → AddsNothing
+        (problem_of O.after O.State.eq O.Reply.eq path.now.entries.problem) path.now.config.lifted
+        path.now.config.state call) }
+{
+    let Some(earlier) = identical.completed_before(call) else {
+        return Ok(false);
+    };
+    if path.config().has(earlier) || earlier >= call {
+        return Ok(false);
+    }
+    if !adds_nothing(path.problem(), earlier, call) {
+        return Ok(false);
+    }
+    path.can_follow_before(earlier, call)
+}
+
+// Whether the call adds nothing: it repeats one that is not lifted, or is behind a completed one that can follow.
+#[inline(always)]
+fn is_needless<O: SeqObject>(
+    path: &Path<'_, O>,
+    call: usize,
+    identical: &IdenticalCalls,
+) -> Result<bool, AllocError>
+    requires reachable { IsReachable
+        (problem_of O.after O.State.eq O.Reply.eq path.now.entries.problem) path.now.config.lifted
+        path.now.config.state }
+    requires minimal { IsMinimal (problem_of O.after O.State.eq O.Reply.eq
+        path.now.entries.problem) path.now.config.lifted call }
+    ensures { IfOk result (λ known. IsTrue known → AddsNothing
+        (problem_of O.after O.State.eq O.Reply.eq path.now.entries.problem) path.now.config.lifted
+        path.now.config.state call) }
+{
+    if is_repeated(path, call, identical) {
+        return Ok(true);
+    }
+    is_behind_completed(path, call, identical)
 }
 
 // The position after the candidate, where calls are passed over and it adds nothing.
@@ -193,14 +244,15 @@ fn is_repeated<O: SeqObject>(path: &Path<'_, O>, call: usize, repeated: &[usize]
 fn passed_over<O: SeqObject>(
     path: &Path<'_, O>,
     candidate: Candidate,
-    repeated: &[usize],
+    identical: &IdenticalCalls,
     passes_over: bool,
-) -> Option<Position>
+) -> Result<Option<Position>, AllocError>
     requires { (root : Configuration O.State) × (limit left : Option ℕ)
         × IsProgress (problem_of O.after O.State.eq O.Reply.eq path.now.entries.problem) root limit
         path.now.entries.lifted path.now.frames.items left path.now.config candidate.longest
         (Some candidate.call) }
-    ensures step { IfSome result (λ position. (root : Configuration O.State)
+    ensures step { IfOk result (λ passed. IfSome passed
+        (λ position. (root : Configuration O.State)
         (limit left : Option ℕ)
         → IsProgress (problem_of O.after O.State.eq O.Reply.eq path.now.entries.problem) root limit
         path.now.entries.lifted path.now.frames.items left path.now.config candidate.longest
@@ -208,16 +260,16 @@ fn passed_over<O: SeqObject>(
         → GoesOn (problem_of O.after O.State.eq O.Reply.eq path.now.entries.problem) root limit
         path.now.entries.lifted path.now.frames.items left path.now.config position.longest
         position.candidate (work (length path.now.entries.problem.calls) root.lifted
-        path.now.frames.items path.now.config.lifted candidate.call)) }
-    ensures none { passes_over ≡ false → result ≡ None }
+        path.now.frames.items path.now.config.lifted candidate.call))) }
+    ensures none { IfOk result (λ passed. passes_over ≡ false → passed ≡ None) }
 {
     if !passes_over {
-        return None;
+        return Ok(None);
     }
-    if !is_repeated(path, candidate.call, repeated) {
-        return None;
+    if !is_needless(path, candidate.call, identical)? {
+        return Ok(None);
     }
-    Some(path.after(candidate.call, candidate.longest))
+    Ok(Some(path.after(candidate.call, candidate.longest)))
 }
 
 // The position after the call, which was tried: where calls are passed over and it changes nothing, no other is tried.
@@ -492,7 +544,7 @@ fn step<O: SeqObject, M: Memo<O>, S: Stop>(
     position: Position,
     memo: &mut M,
     tally: &mut Tally,
-    repeated: &[usize],
+    identical: &IdenticalCalls,
     stop: &mut S,
 ) -> Result<ControlFlow<Outcome, Position>, AllocError>
     requires of { IsTrue tally.old.terms.is_for_problem
@@ -531,7 +583,7 @@ fn step<O: SeqObject, M: Memo<O>, S: Stop>(
     match position.candidate {
         Some(call) => {
             let candidate = Candidate { call, longest };
-            match passed_over(path, candidate, repeated, tally.terms.passes_over) {
+            match passed_over(path, candidate, identical, tally.terms.passes_over)? {
                 Some(next) => Ok(ControlFlow::Continue(next)),
                 None => try_call(path, candidate, memo, tally, stop),
             }
@@ -553,7 +605,7 @@ fn search_on<O: SeqObject, M: Memo<O>, S: Stop>(
     path: &mut Path<'_, O>,
     memo: &mut M,
     terms: Terms,
-    repeated: &[usize],
+    identical: &IdenticalCalls,
     stop: &mut S,
 ) -> Result<Ended, AllocError>
     requires of { IsTrue terms.is_for_problem → M.is_of memo.old path.old.entries.problem }
@@ -591,7 +643,7 @@ fn search_on<O: SeqObject, M: Memo<O>, S: Stop>(
     loop {
         tally.terms.passes_over = passes_over_after(terms, steps);
         steps = steps.saturating_add(1);
-        match step(path, position, memo, &mut tally, repeated, stop)? {
+        match step(path, position, memo, &mut tally, identical, stop)? {
             ControlFlow::Continue(next) => position = next,
             ControlFlow::Break(outcome) => {
                 return Ok(Ended {
@@ -665,7 +717,7 @@ fn search_unknown<O: SeqObject, M: Memo<O>, S: Stop>(
     config: Config<O>,
     memo: &mut M,
     terms: Terms,
-    repeated: &[usize],
+    identical: &IdenticalCalls,
     stop: &mut S,
 ) -> Result<Ended, AllocError>
     requires reachable { IsReachable (problem_of O.after O.State.eq O.Reply.eq problem.now)
@@ -685,7 +737,7 @@ fn search_unknown<O: SeqObject, M: Memo<O>, S: Stop>(
     ensures stop { S.follows stop.old stop.new }
 {
     let mut path = Path::new(terms.alloc, problem, config)?;
-    let searched = search_on(&mut path, memo, terms, repeated, stop);
+    let searched = search_on(&mut path, memo, terms, identical, stop);
     let config = path.into_config();
     let ended = searched?;
     let is_kept = note_root(problem, config, &ended.outcome, memo, terms.is_for_problem);
@@ -699,7 +751,7 @@ pub(crate) fn search_from<O: SeqObject, M: Memo<O>, S: Stop>(
     config: Config<O>,
     memo: &mut M,
     terms: Terms,
-    repeated: &[usize],
+    identical: &IdenticalCalls,
     stop: &mut S,
 ) -> Result<Ended, AllocError>
     requires reachable { IsReachable (problem_of O.after O.State.eq O.Reply.eq problem.now)
@@ -722,7 +774,7 @@ pub(crate) fn search_from<O: SeqObject, M: Memo<O>, S: Stop>(
             whole: true,
         });
     }
-    search_unknown(problem, config, memo, terms, repeated, stop)
+    search_unknown(problem, config, memo, terms, identical, stop)
 }
 
 /// The depth-first search from a configuration over a memo (Wing and Gong 1993; Lowe 2017): a complete
@@ -760,14 +812,16 @@ pub fn search<O: SeqObject, M: Memo<O>, S: Stop>(
         passes_over: false,
     };
     let copy = config.copy(alloc, problem)?;
-    let ended = search_from(problem, copy, memo, terms, &[], stop)?;
+    let none = IdenticalCalls::none(alloc);
+    let ended = search_from(problem, copy, memo, terms, &none, stop)?;
     Ok(ended.outcome)
 }
 
 /// `search`, but after its first 10,000 steps (a step tries a call, or goes back) calls that add nothing are passed over: one
-/// that repeats a call which is not lifted (`repeats`), and all that come after one that changes nothing (`ends_the_list`).
+/// that repeats a call which is not lifted (`repeats`), a pending one behind a completed one of its operation that can follow
+/// (`adds_nothing`), and all that come after one that changes nothing (`ends_the_list`).
 /// Its answers are those of `search`. It makes no more lifts, often far fewer, and so it notes fewer configurations: not each
-/// that one call leads to from a configuration that is noted. `AllocError` also where memory for a number for each call was
+/// that one call leads to from a configuration that is noted. `AllocError` also where memory for two numbers for each call was
 /// refused.
 ///
 /// Condition: the configuration is reachable in the problem.
@@ -787,7 +841,7 @@ pub fn search_passing_over<O: SeqObject, M: Memo<O>, S: Stop>(
     ensures stop { S.follows stop.old stop.new }
 {
     lawful::<O>();
-    let repeated = repeated_calls(alloc, problem)?;
+    let identical = IdenticalCalls::of(alloc, problem)?;
     let terms = Terms {
         alloc,
         is_for_problem: memo.is_for(problem),
@@ -796,6 +850,6 @@ pub fn search_passing_over<O: SeqObject, M: Memo<O>, S: Stop>(
         passes_over: true,
     };
     let copy = config.copy(alloc, problem)?;
-    let ended = search_from(problem, copy, memo, terms, repeated.as_slice(), stop)?;
+    let ended = search_from(problem, copy, memo, terms, &identical, stop)?;
     Ok(ended.outcome)
 }

@@ -26,7 +26,7 @@ pub use entries::Entries;
 pub use longest::Longest;
 pub use longest_runs::longest_run;
 pub use memo::{Memo, Noted};
-pub use needless_calls::{adds_nothing, ends_the_list, repeated_calls, repeats};
+pub use needless_calls::{IdenticalCalls, adds_nothing, ends_the_list, repeats};
 pub use outcome::Outcome;
 pub use own_memo::OwnMemo;
 pub use own_search::{search_alone, search_over};

@@ -14,6 +14,7 @@ use crate::config::Config;
 use crate::depth_first::{Terms, look_at, search_from};
 use crate::longest::Longest;
 use crate::memo::Memo;
+use crate::needless_calls::IdenticalCalls;
 use crate::outcome::Outcome;
 use crate::stop::NoStop;
 use lin_history::{Order, Problem};
@@ -51,7 +52,8 @@ fn longest_of<O: SeqObject, M: Memo<O>>(
         needs_all: false,
         passes_over: false,
     };
-    let ended = search_from(problem, copy, memo, terms, &[], &mut NoStop)?;
+    let none = IdenticalCalls::none(alloc);
+    let ended = search_from(problem, copy, memo, terms, &none, &mut NoStop)?;
     match ended.outcome {
         Outcome::Refuted(longest) => Ok(longest),
         Outcome::Found(_) => unreachable!(),

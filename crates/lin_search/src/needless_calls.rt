@@ -78,7 +78,10 @@ pub fn repeats<O: SeqObject>(problem: &Problem<O>, earlier: usize, call: usize) 
 pub fn adds_nothing<O: SeqObject>(problem: &Problem<O>, tried: usize, call: usize) -> bool
     requires earlier { tried < call }
     requires there { call < length problem.now.calls }
-    ensures { IsTrue result → (set : List Bool) (s t : O.State)
+    ensures stands { IsTrue result → (set : List Bool) (s t : O.State)
+        → IsNext (problem_of O.after O.State.eq O.Reply.eq problem.now) set s tried t
+        → StandsFor (problem_of O.after O.State.eq O.Reply.eq problem.now) set s tried call }
+    ensures nothing { IsTrue result → (set : List Bool) (s t : O.State)
         → IsNext (problem_of O.after O.State.eq O.Reply.eq problem.now) set s tried t
         → AddsNothing (problem_of O.after O.State.eq O.Reply.eq problem.now) set s call }
 {
@@ -107,7 +110,7 @@ pub fn ends_the_list<O: SeqObject>(problem: &Problem<O>, call: usize) -> bool
     problem.object().changes_nothing(&taken.op, &taken.returned)
 }
 
-// So many calls are looked at for one that a call repeats.
+// So many calls are looked at for one that is identical to a call.
 const WINDOW: usize = 32;
 
 // Whether the call had not returned yet when this event came.
@@ -134,25 +137,80 @@ fn latest_repeated<O: SeqObject>(problem: &Problem<O>, calls: &[usize], call: us
     call
 }
 
-/// For each call of the problem one that it repeats, of the 32 before it that are completed or pending as it is, or the call
-/// itself. It is a hint: nothing is promised of the numbers, so who goes by them asks `repeats` again. `AllocError` where
-/// memory was refused.
-pub fn repeated_calls<O: SeqObject>(
-    alloc: Global,
+// The latest of the last 32 of these calls that overlaps the call and may stand for it where it can follow, or else the call
+// itself.
+fn latest_of_one_operation<O: SeqObject>(
     problem: &Problem<O>,
-) -> Result<Vec<usize>, AllocError> {
-    let mut repeated = Vec::new(alloc);
-    let mut completed = Vec::new(alloc);
-    let mut pending = Vec::new(alloc);
-    for call in 0..problem.len() {
-        let earlier = if problem.call(call).returned.is_some() {
-            completed.push(call)?;
-            latest_repeated(problem, completed.as_slice(), call)
-        } else {
-            pending.push(call)?;
-            latest_repeated(problem, pending.as_slice(), call)
-        };
-        repeated.push(earlier)?;
+    calls: &[usize],
+    call: usize,
+) -> usize
+    requires { call < length problem.now.calls }
+{
+    let called = problem.call(call).called;
+    for earlier in calls.iter().rev().take(WINDOW) {
+        if *earlier < call
+            && is_open_at(problem.call(*earlier), called)
+            && adds_nothing(problem, *earlier, call)
+        {
+            return *earlier;
+        }
     }
-    Ok(repeated)
+    call
+}
+
+/// For each call of a problem earlier ones of its operation, as far as they were found: for which it need not be tried.
+///
+/// They are hints: nothing is promised of the numbers, so who goes by them asks `repeats` or `adds_nothing` again.
+#[derive(Drop)]
+pub struct IdenticalCalls {
+    repeated: Vec<usize>,
+    completed: Vec<usize>,
+}
+
+impl IdenticalCalls {
+    /// Of no call any. It takes no memory.
+    pub fn none(alloc: Global) -> IdenticalCalls {
+        IdenticalCalls {
+            repeated: Vec::new(alloc),
+            completed: Vec::new(alloc),
+        }
+    }
+
+    /// For each call of the problem one that it repeats, of the 32 before it that are completed or pending as it is; and for
+    /// each pending call a completed one of its operation, of the 32 before it. `AllocError` where memory was refused.
+    pub fn of<O: SeqObject>(
+        alloc: Global,
+        problem: &Problem<O>,
+    ) -> Result<IdenticalCalls, AllocError> {
+        let mut identical = IdenticalCalls::none(alloc);
+        let mut completed = Vec::new(alloc);
+        let mut pending = Vec::new(alloc);
+        for call in 0..problem.len() {
+            if problem.call(call).returned.is_some() {
+                completed.push(call)?;
+                identical
+                    .repeated
+                    .push(latest_repeated(problem, completed.as_slice(), call))?;
+                identical.completed.push(call)?;
+            } else {
+                pending.push(call)?;
+                identical
+                    .repeated
+                    .push(latest_repeated(problem, pending.as_slice(), call))?;
+                let earlier = latest_of_one_operation(problem, completed.as_slice(), call);
+                identical.completed.push(earlier)?;
+            }
+        }
+        Ok(identical)
+    }
+
+    /// A call that this one may repeat.
+    pub fn repeated_by(&self, call: usize) -> Option<usize> {
+        self.repeated.get(call).copied()
+    }
+
+    /// A completed call of the operation of this one, which is pending.
+    pub fn completed_before(&self, call: usize) -> Option<usize> {
+        self.completed.get(call).copied()
+    }
 }

@@ -9,6 +9,7 @@ ghost use Rattle.lin_search.specs.Store.{configurations, Holds, IsGrown};
 
 use crate::config::Config;
 use crate::depth_first::{Terms, search_from};
+use crate::needless_calls::IdenticalCalls;
 use crate::outcome::Outcome;
 use crate::own_memo::OwnMemo;
 use crate::stop::NoStop;
@@ -42,7 +43,8 @@ fn search_root<'p, O: SeqObject>(
         needs_all: true,
         passes_over: false,
     };
-    let ended = search_from(problem, root, memo, terms, &[], &mut NoStop)?;
+    let none = IdenticalCalls::none(alloc);
+    let ended = search_from(problem, root, memo, terms, &none, &mut NoStop)?;
     if !ended.whole {
         return Err(AllocError);
     }

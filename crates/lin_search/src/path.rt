@@ -1,9 +1,10 @@
 //! The path of a search: where it is, the frames behind it, and the entries left.
 //!
 //! What a search does at each lift is inlined always: `docs/PERFORMANCE.md` shows what that gives.
-ghost use Rattle.std.specs.Prelude.{◌≡◌, ℕ, ◌+◌, ◌<◌, ◌≤◌, ◌↔◌, ◌++◌, ◌∷◌, [], List, Option, Some, None, length, IfOk, IfSome, IfNone, IsTrue};
+ghost use Rattle.std.specs.Prelude.{◌≡◌, ℕ, ◌+◌, ◌<◌, ◌≤◌, ◌↔◌, ◌++◌, ◌∷◌, [], false, List, Option, Some, None, length, IfOk, IfSome, IfNone, IsTrue};
 ghost use Rattle.lin_history.specs.Problems.Problem.{problem_of};
 ghost use Rattle.lin_history.specs.Problems.Configurations.{IsReachable};
+ghost use Rattle.lin_history.specs.Problems.Continuations.{has};
 ghost use Rattle.lin_search.specs.CallSet.{with_call, lifted_set};
 ghost use Rattle.lin_search.specs.Entries.{IsMinimal, IsLeastMinimal};
 ghost use Rattle.lin_search.specs.NextCall.{IsNext, HasEveryCompleted};
@@ -229,6 +230,26 @@ impl<'p, O: SeqObject> Path<'p, O> {
             self.now.config.lifted self.now.config.state call t → ⊥)) }
     {
         self.config.next_state(self.alloc, self.problem(), call)
+    }
+
+    /// Whether the call, which is not lifted and of a smaller number than one that is minimal, can follow. `AllocError` where
+    /// memory was refused.
+    ///
+    /// Condition: the configuration is reachable.
+    #[inline(always)]
+    pub fn can_follow_before(&self, earlier: usize, call: usize) -> Result<bool, AllocError>
+        requires reachable { IsReachable (problem_of O.after O.State.eq O.Reply.eq
+            self.now.entries.problem) self.now.config.lifted self.now.config.state }
+        requires minimal { IsMinimal (problem_of O.after O.State.eq O.Reply.eq
+            self.now.entries.problem) self.now.config.lifted call }
+        requires earlier { earlier < call }
+        requires outside { has self.now.config.lifted earlier ≡ false }
+        ensures { IfOk result (λ follows. IsTrue follows → (t : O.State)
+            × IsNext (problem_of O.after O.State.eq O.Reply.eq self.now.entries.problem)
+            self.now.config.lifted self.now.config.state earlier t) }
+    {
+        let _calls = self.problem().calls();
+        Ok(self.next_state(earlier)?.is_some())
     }
 
     /// The position at a configuration of which no call was tried.
