@@ -5,7 +5,7 @@
 
 Builds `bench/searches.program` by `bin/build_unproved.py` (two minutes), and runs it RUNS times (9) in each way on histories of
 `bench/histories.py`, in turn. Prints the processor seconds of the searches alone: the least of the runs, less the least that
-reading takes; and how many times as much they take over the table. Run it with nothing beside.
+reading takes; and how many times as much they take over the table. Run it on an idle machine.
 """
 import os
 import statistics

@@ -5,7 +5,7 @@
 
 Builds `bench/table.program` by `bin/build_unproved.py` (two minutes), and runs it RUNS times (7) in each way, in turn. A pair is
 a look that finds its configuration and a note of it, which is known. Prints the nanoseconds of a pair, the least and the
-middle of the runs: of processor time with one thread, and of the time by the clock with four. Run it with nothing beside.
+middle of the runs: of processor time with one thread, and of the time by the clock with four. Run it on an idle machine.
 """
 import resource
 import statistics

@@ -1,4 +1,4 @@
--- What each step of a seat does to its view, and what it tells the seat.
+-- What each step of a seat does to its view, and what it answers the seat.
 use Rattle.std.specs.Prelude.{◌≡◌, ◌≢◌, ℕ, ◌+◌, ◌-◌, ◌<◌, ◌≤◌, [], ◌∷◌, ◌++◌, length, All, Contains}
 use Rattle.atomic_table.specs.Table.{Me}
 use Rattle.lin_board.specs.declared.rule.View.{View}

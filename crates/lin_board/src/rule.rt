@@ -1,4 +1,4 @@
-//! The rule of a board's two words and its seats' views, and what each step tells its caller.
+//! The rule of a board's two words and its seats' views, and what each step answers its caller.
 
 use atomic_table::{Join, Play, Split, TableRule};
 use std::collections::LinkedList;

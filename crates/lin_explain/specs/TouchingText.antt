@@ -16,7 +16,7 @@ use Rattle.lin_explain.specs.declared.touching.Touching.{Touching}
 use Rattle.lin_explain.specs.declared.touching_text.TheConstants.{MAX_TOUCHING}
 use Rattle.lin_explain.specs.Touching.{asked_of, touches_from, held_after}
 
--- The line of the input on which an event stands, whose number counts from 1; 0 where none is known.
+-- The line of the input on which an event is, whose number counts from 1; 0 where none is known.
 abbrev pub line_of : List ℕ → ℕ → ℕ
 line_of lines event = unwrap_or (slice_get lines (event - 1)) 0
 
@@ -63,11 +63,11 @@ touch_is_put Took = false
 abbrev pub is_put : Touching → Bool
 is_put t = touch_is_put t.touch
 
--- The line that tells that no call put this value under this key.
+-- The line that says that no call put this value under this key.
 abbrev pub no_pair_line : ℤ → ℤ → List ℕ
 no_pair_line key value = codes "  no call put " ++ signed_decimal key ++ codes ": " ++ signed_decimal value ++ codes "\n"
 
--- The line that tells that no call put what is asked for.
+-- The line that says that no call put what is asked for.
 abbrev pub no_put_line : Asked → List ℕ
 no_put_line (Item value) = codes "  no call put " ++ signed_decimal value ++ codes "\n"
 no_put_line (Value value) = codes "  no call put " ++ signed_decimal value ++ codes "\n"

@@ -1,5 +1,5 @@
 -- The kinds of object: their names, where each starts, and what each operation does (this project's own). Each kind has
--- a file of its own with its operations, its table and its law; what stands here lists them.
+-- a file of its own with its operations, its table and its law; what is here lists them.
 pub mod Counter
 pub mod Map
 pub mod Mutex

@@ -4,7 +4,7 @@ use Rattle.lin_object.specs.declared.op.Op.{Op}
 use Rattle.lin_object.specs.declared.op.OpFault.{OpFault}
 use Rattle.lin_object.specs.declared.op.OpFault.TheVariants.{BadOp, BadArgs}
 
--- What stands beside the word in a table of words; none where the table has no such word.
+-- What is beside the word in a table of words; none where the table has no such word.
 abbrev pub beside : {A : Type 0} → List (List ℕ × A) → List ℕ → Option A
 beside [] word = None
 beside (row ∷ rows) word = if bytes_eq word row.0 then Some row.1 else beside rows word

@@ -1,4 +1,4 @@
--- What the answer of a step tells.
+-- What the answer of a step says.
 use Rattle.std.specs.Prelude.{◌≡◌, ℕ, Bool, true, Option, Some, None, if◌then◌else◌}
 
 -- Two answers of a step are alike: both have none, or both have a state and a reply, equal by the types' own `Eq`.

@@ -12,7 +12,7 @@ abbrev pub HasNoCompletion : {State Op Reply : Type 0} → Problem State Op Repl
 HasNoCompletion p set s = (l : List ℕ) → IsCompletion p set s l → ⊥
 
 -- What each outcome of a search says: the least completion; that there is none, with the longest; that there are more
--- continuations than the limit, which was given; what the stop tells by its number.
+-- continuations than the limit, which was given; what the stop answers by its number.
 abbrev pub IsAnswer : {State Op Reply : Type 0} → Problem State Op Reply → List Bool → State → Option ℕ → (ℕ → Type 0) → Outcome → Type 0
 IsAnswer p set s limit tells (Found order) = IsLeast (IsCompletion p set s) order
 IsAnswer p set s limit tells (Refuted longest) = HasNoCompletion p set s × IsLongest (IsContinuation p set s) longest.more longest.first

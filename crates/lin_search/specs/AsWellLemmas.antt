@@ -67,7 +67,7 @@ module _ {State Op Reply : Type 0} (p : Problem State Op Reply) (set : List Bool
             )
       ]
 
-  -- P: a call that an earlier one stands for adds nothing to what the calls tried so far tell.
+  -- P: a call that an earlier one stands for adds nothing to what the calls tried so far show.
   pub searched_in_order : AreAlike p p → (a b more : ℕ) (first : Option ℕ) → StandsFor p set s a b → IsSearchedTo p set s b more first → IsSearchedTo p set s (b + 1) more first
   searched_in_order alike a b more first stands searched =
       searched_as_well b (b + 1) more first (omega arith) searched (λ c cs up down k. as_well c cs (omega (arith, up, down)) k)

@@ -211,7 +211,7 @@ module _ {Object State Op Reply : Type 0} {after : Object → State → ℕ → 
       returned = in_order same_state lawful.replies x.returned y.returned (after parts.object s x.process x.op) (after parts.object s y.process y.op) t (forward same ignores s) (sym (next_a s) ∙ fits) comes;
     }
 
-    -- P: with an identical call in order before it, a call adds nothing to what the calls tried so far tell.
+    -- P: with an identical call in order before it, a call adds nothing to what the calls tried so far show.
     pub searched_identical : (set : List Bool) (s : State) (more : ℕ) (first : Option ℕ) → has set a ≡ false → a < b → IsInOrder same_op P s x y → IsSearchedTo P set s b more first → IsSearchedTo P set s (b + 1) more first
     searched_identical set s more first free less k searched = searched_in_order P set s (alike_itself lawful parts) a b more first (stands_for set s free less k) searched
 
@@ -223,7 +223,7 @@ module _ {Object State Op Reply : Type 0} {after : Object → State → ℕ → 
       let called : x.called ≤ y.called = (let h = timed.called a b x y less at_a at_b in omega (arith, h)) in
       searched_identical a b x y at_a at_b set s more first is_next.outside less (tried_in_order a b x y at_a at_b s t is_next.step called same ignores comes) searched
 
-  -- The same for a search that tells nothing of longest continuations.
+  -- The same for a search that says nothing of longest continuations.
   pub stands_tried : (a b : ℕ) (x y : ProblemCall Op Reply) → slice_get parts.calls a ≡ Some x → slice_get parts.calls b ≡ Some y → AreTimed parts.calls → a < b
       → same_op x.op y.op ≡ true → IgnoresProcess same_reply (after parts.object) x.op x.returned → ComesFirst same_reply x.returned y.returned
       → (set : List Bool) (s t : State) → IsNext P set s a t → StandsFor P set s a b

@@ -1,4 +1,4 @@
--- How the views of all hands become one, and what the end of a table tells (this project's own).
+-- How the views of all hands become one, and what the end of a table says (this project's own).
 use Rattle.std.specs.Prelude.{◌≡◌, ℕ, ◌+◌, ◌<◌, ◌++◌, List, [], ◌∷◌, length, All, None}
 use mathlib.Core.Option.{some}
 use lib.ListN.{get_elem?}
@@ -32,7 +32,7 @@ module _ {O S A R : Type 0} where
     pub entries : u.entries ++ entries_in left ≡ v.entries ++ entries_in all
 
   -- Where these are the pairs of each shard, in order of storing, and these are the entries of all hands: each shard is lawful, each configuration is in its
-  -- home and was not known before, the entries name each place of each shard once and no other, and at each stands the configuration of the entry.
+  -- home and was not known before, the entries name each place of each shard once and no other, and at each is the configuration of the entry.
   pub record AreStored (p : Problem S A R) (known : Pairs S) (shards : ℕ) (lists : ℕ → Pairs S) (entries : List (Entry O S A R)) : Type 0 where
     pub lawful : (k : ℕ) → k < shards → IsStore p (lists k)
     pub belongs : (k : ℕ) → k < shards → All (λ (pair : Configuration S × Longest). home_of pair.0.lifted shards ≡ k) (lists k)

@@ -19,7 +19,7 @@ use Rattle.lin_table.specs.Totals.{total, once_below, one_if_same}
 abbrev pub Pairs : Type 0 → Type 0
 Pairs S = List (Configuration S × Longest)
 
--- the pairs of the memo that a table stands over, where there is one: what was known before it was made
+-- the pairs of the memo that a table is over, where there is one: what was known before it was made
 abbrev pub known_in : {O S A R : Type 0} → Option (Bor (Store O S A R)) → Pairs S
 known_in (Some memo) = memo.now.pairs
 known_in None = []
@@ -42,11 +42,11 @@ module _ {O S A R : Type 0} where
   abbrev pub names_of : ℕ → ℕ → View O S A R → ℕ
   names_of k p v = total (named_by k p) v.entries
 
-  -- at the place of an entry stands its configuration
+  -- at the place of an entry is its configuration
   abbrev pub Stands : (ℕ → Pairs S) → ℕ → Entry O S A R → Type 0
   Stands lists n e = (e.shard < n) × ((pair : Configuration S × Longest) × (get_elem? (lists e.shard) e.place ≡ some pair) × (pair.0 ≡ e.config))
 
-  -- what holds of one view by itself: a shard that it has out has the pairs of that shard, its entries tell what stands where, and a view with no part is empty
+  -- what holds of one view by itself: a shard that it has out has the pairs of that shard, its entries say what is where, and a view with no part is empty
   pub record Fits (problem : ProblemParts O S A R) (n : ℕ) (lists : ℕ → Pairs S) (v : View O S A R) : Type 0 where
     pub problem_is : 0 < v.parts → v.problem ≡ Some problem
     pub out : (o : ShardOut O S A R) → v.out ≡ Some o → (o.shard < n) × (o.pairs ≡ lists o.shard)
@@ -64,7 +64,7 @@ module _ {O S A R : Type 0} where
   pub record RuleHolds (problem : ProblemParts O S A R) (n hands : ℕ) (words : List ℕ) (homes : List (Maybe (Store O S A R))) (views : List (View O S A R)) (lists : ℕ → Pairs S) : Type 0 where
     pub long : (length words ≡ n) × (length homes ≡ n)
     pub parts : total (λ (v : View O S A R). v.parts) views ≡ hands
-    -- a shard's word tells how many views have it out, which is at most one
+    -- a shard's word says how many views have it out, which is at most one
     pub words_are : (k : ℕ) → k < n → slice_index words k ≡ outs k views
     pub at_most_one : (k : ℕ) → k < n → outs k views ≤ 1
     pub at_home : (k : ℕ) → k < n → outs k views ≡ 0 → IsHome problem (lists k) (get_elem? homes k)

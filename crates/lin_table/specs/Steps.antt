@@ -1,4 +1,4 @@
--- What each step of a hand does to its view, and what it tells the hand (this project's own).
+-- What each step of a hand does to its view, and what it answers the hand (this project's own).
 use Rattle.std.specs.Prelude.{◌≡◌, ℕ, ◌+◌, ◌-◌, Bool, List, [], ◌∷◌, ◌++◌, length, map, drop, Option, Some, None}
 use Rattle.atomic_table.specs.Table.{Me, Step, rest}
 use Rattle.lin_search.specs.declared.longest.Longest.{Longest}

@@ -1,4 +1,4 @@
-//! The rule of a table's words and its hands' views, and what each step tells its caller.
+//! The rule of a table's words and its hands' views, and what each step answers its caller.
 
 use crate::shard::Shard;
 use atomic_table::{Join, Play, Split, TableRule};

@@ -31,7 +31,7 @@ type Inner<'p, O> = AtomicTable<Shard<'p, O>, View<O>, Plan<'p, O>, ShardRule, G
 // A memo that has 2^52 configurations or more is not taken for what was known before.
 pub(crate) const MAX_KNOWN: u64 = 4_503_599_627_370_496;
 
-/// The number of configurations stored, in the memo that a table stands over and by its hands, is less than this: 2^54.
+/// The number of configurations stored, in the memo that a table is over and by its hands, is less than this: 2^54.
 pub const STORED_BOUND: u64 = 18_014_398_509_481_984;
 
 /// Refuted configurations of one problem, which several threads share. They are kept in shards, each of which one hand

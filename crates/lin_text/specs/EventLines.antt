@@ -5,7 +5,7 @@ use Rattle.lin_text.specs.Events.{TextEvents}
 use Rattle.lin_text.specs.Line.{LineEvent, states, declares, calls, returns_, fails, ends}
 use Rattle.lin_text.specs.Text.{IsReached, IsToldBy}
 
--- The line of this number, counted from 1 with blank lines, tells the call or return event of this number: what is told before
+-- The line of this number, counted from 1 with blank lines, gives the call or return event of this number: what is given before
 -- it has one such event less than what is told with it.
 pub record IsLineOfEvent (text : List ℕ) (event number : ℕ) : Type 0 where
   pub line : List ℕ

@@ -18,7 +18,7 @@ pub record TextEvents : Type 0 where
   pub objects : List DeclaredObject
   pub events : List (Event Op Reply)
 
--- No line tells anything.
+-- No line gives anything.
 abbrev pub nothing_told : TextEvents
 nothing_told = record { format = Unstated; objects = []; events = [] }
 
@@ -55,7 +55,7 @@ objects_with objects (returns_ process name reply) = objects
 objects_with objects (fails process name) = objects
 objects_with objects (ends process name) = objects
 
--- The events of processes that one line tells, after these objects were declared.
+-- The events of processes that one line gives, after these objects were declared.
 abbrev pub events_by : List DeclaredObject → LineEvent → List (Event Op Reply)
 events_by objects states = []
 events_by objects (declares name kind start) = []
@@ -68,7 +68,7 @@ events_by objects (ends process name) = event_on (λ object. events.ends process
 abbrev pub told_with : TextEvents → LineEvent → TextEvents
 told_with told event = record { format = format_after told.format event; objects = objects_with told.objects event; events = told.events ++ events_by told.objects event }
 
--- What is told with a line that tells this event, or none.
+-- What is given with a line that gives this event, or none.
 abbrev pub told_after : TextEvents → Option LineEvent → TextEvents
 told_after told None = told
 told_after told (Some event) = told_with told event

@@ -44,7 +44,7 @@ events = (codes "object", Declaration) ∷ (codes "call", Call) ∷ (codes "retu
 unfoldable pub kind_by_word : Data → Option EventKind
 kind_by_word d = option_and_then (beside events) (text_at (codes "event") d)
 
--- The line is a header: no line that counts stands before it, and it has a format and no event.
+-- The line is a header: no line that counts comes before it, and it has a format and no event.
 unfoldable pub is_header : Format → Data → Bool
 is_header Unstated d = is_some (get (codes "format") d) && is_none (get (codes "event") d)
 is_header One d = false

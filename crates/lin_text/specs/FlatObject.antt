@@ -16,7 +16,7 @@ value_of (Float x) = number (float x)
 value_of (Text s) = string s.now
 value_of (Wholes numbers) = array (items_of numbers)
 
--- The members of an object, with these put in one after another: of a key that stands twice the last value stays.
+-- The members of an object, with these put in one after another: of a key that is there twice the last value stays.
 abbrev pub members_with : List Member → Members → Members
 members_with [] found = found
 members_with (m ∷ ms) found = members_with ms (put m.key.now (value_of m.field) found)

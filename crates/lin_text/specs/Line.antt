@@ -18,7 +18,7 @@ use Rattle.lin_text.specs.declared.cause.Cause.TheVariants.{NotJson, NotObject, 
 use Rattle.lin_text.specs.declared.cause.Cause.TheVariants as causes
 use Rattle.lin_text.specs.Fields.{event_kind_in, states_two, process_in, name_in, kind_in, start_in, declared_kind, maker_in, op_in, reply_in}
 
--- What a line tells: that the text has the second format, or an event: a declaration, a call, a return, a failure or the
+-- What a line says: that the text has the second format, or an event: a declaration, a call, a return, a failure or the
 -- end of a process, with the name of its object.
 pub data LineEvent : Type 0 where
   states : LineEvent
@@ -54,7 +54,7 @@ is_of_process (Some Return) = true
 is_of_process (Some Fail) = true
 is_of_process (Some Info) = true
 
--- The causes of a JSON value that is this kind of event, in order, each with whether it holds. `known` tells the kind of
+-- The causes of a JSON value that is this kind of event, in order, each with whether it holds. `known` gives the kind of
 -- each object that is declared before.
 abbrev pub conditions_as : Option EventKind → (List ℕ → Option Kind) → Data → List (Bool × Cause)
 conditions_as kind known d =

@@ -20,7 +20,7 @@ use Rattle.lin_text.specs.Line.{LineEvent, states, declares, calls, returns_, fa
 abbrev pub is_newline : ℕ → Bool
 is_newline b = b == 10
 
--- The lines of a text that is split at its line feeds, where `front` stands before the text in its first line.
+-- The lines of a text that is split at its line feeds, where `front` comes before the text in its first line.
 abbrev pub split : List ℕ → List ℕ → List (List ℕ)
 split [] [] = []
 split (b ∷ front) [] = (b ∷ front) ∷ []
@@ -41,7 +41,7 @@ is_blank line = list_all is_blank_byte line
 -- ---- one line, after the events of the lines before it. What a line may not say is told by the text's format and by the
 -- recording of those events
 
--- The event of a line that stands after what is recorded so far, in a text of this format.
+-- The event of a line that comes after what is recorded so far, in a text of this format.
 unfoldable pub event_at : Format → Recording → List ℕ → Option LineEvent
 event_at format r line = option_and_then (event_in format (kind_named r)) (json line)
 

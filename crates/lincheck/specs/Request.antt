@@ -19,7 +19,7 @@ IsRequestOf options explain each (Version text) = ⊥
 IsRequestOf options explain each (Refused text) = (explain ≡ true) × (each ≡ true)
 
 -- What is answered where the words were not taken: help and the version only where they were asked for, a refusal only where
--- there is another kind of error than want of memory, and options never.
+-- there is another kind of error than being out of memory, and options never.
 abbrev pub AnswersKind : {E : Type 0} → ErrorKind → Result Request E → Type 0
 AnswersKind kind (Ok (Run options)) = ⊥
 AnswersKind kind (Ok (Explain options)) = ⊥

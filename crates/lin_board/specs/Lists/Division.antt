@@ -6,15 +6,15 @@ use Rattle.lin_board.specs.Lists.Totals.{one_if, times}
 abbrev pub once_below : ℕ → ℕ → ℕ
 once_below x n = one_if (nat_lt x n)
 
--- x stands in exactly one of the lists, and in that one once
+-- x is in exactly one of the lists, and in that one once
 abbrev pub InExactlyOne : ℕ → List (List ℕ) → Type 0
 InExactlyOne x lists = (i : ℕ) × (i < length lists) × (times x (slice_index_or lists i []) ≡ 1) × ((j : ℕ) → j < length lists → j ≢ i → times x (slice_index_or lists j []) ≡ 0)
 
--- x stands in none of the lists
+-- x is in none of the lists
 abbrev pub InNone : ℕ → List (List ℕ) → Type 0
 InNone x lists = All (λ l. times x l ≡ 0) lists
 
--- the lists divide the numbers below n: each of these stands in exactly one list, once, and no other number stands in any
+-- the lists divide the numbers below n: each of these is in exactly one list, once, and no other number is in any
 pub record Divides (n : ℕ) (lists : List (List ℕ)) : Type 0 where
   pub below : (x : ℕ) → x < n → InExactlyOne x lists
   pub others : (x : ℕ) → n ≤ x → InNone x lists

@@ -40,7 +40,7 @@ module _ {X : Type 0} (f : X → ℕ) (d : X) where
       at_head z i rest zero h ne = omega arith
       at_head z i rest (suc j) h ne = rest j (omega arith) (λ e. ne (ap suc e))
 
--- lists in which, together, each number below n stands once and no other number stands divide the numbers below n
+-- lists in which, together, each number below n is once and no other number is, divide the numbers below n
 pub Divides-from_total : (n : ℕ) (lists : List (List ℕ)) → ((x : ℕ) → total (times x) lists ≡ once_below x n) → Divides n lists
 Divides-from_total n lists sums = record {
   below = λ x h. one_from_total (times x) [] lists (sums x ∙ once_below-lt x n h);

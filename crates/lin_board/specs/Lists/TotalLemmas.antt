@@ -1,4 +1,4 @@
--- Lemmas on sums over a list, and on how often a number stands in one.
+-- Lemmas on sums over a list, and on how often a number is in one.
 use Rattle.std.proofs.Common.{◌≡◌, ◌≢◌, ℕ, zero, suc, ◌+◌, ◌<◌, ◌≤◌, List, [], ◌∷◌, ◌++◌, length, set, map, refl, sym, ap, arith, eqb, eq-eqb, ne_eqb, ⊎_elim, All, Contains}
 use Rattle.std.specs.List.{Any}
 use mathlib.Core.Option.{some, some-ne-none, some-injective}
@@ -102,12 +102,12 @@ times-append x xs ys = total-append (λ (z : ℕ). one_if (eqb z x)) xs ys
 pub times-push : (x y : ℕ) (xs : List ℕ) → times x (xs ++ y ∷ []) ≡ times x xs + one_if (eqb y x)
 times-push x y xs = total-push (λ (z : ℕ). one_if (eqb z x)) xs y
 
--- a list in which no number stands is empty
+-- a list that has no number is empty
 pub nil_from_times : (xs : List ℕ) → ((x : ℕ) → times x xs ≡ 0) → xs ≡ []
 nil_from_times [] none = refl
 nil_from_times (x ∷ xs) none = let s = one_if-same x in let n = none x in absurd (omega arith)
 
--- a number that stands in the list at all is an element of it
+-- a number that is in the list at all is an element of it
 pub Contains-from_times : (x : ℕ) (xs : List ℕ) → 0 < times x xs → Contains xs x
 Contains-from_times x [] h = absurd (omega arith)
 Contains-from_times x (y ∷ ys) h =
@@ -116,14 +116,14 @@ Contains-from_times x (y ∷ ys) h =
     (λ (ne : y ≢ x). let z = one_if-other y x ne in let r = Contains-from_times x ys (omega arith) in let b = r.1 in (suc r.0, omega arith, r.2))
     (cases_eq y x)
 
--- an element of the list stands in it
+-- an element of the list is in it
 pub times-from_Contains : (x : ℕ) (xs : List ℕ) → Contains xs x → 0 < times x xs
 times-from_Contains x xs c =
     let m = at_index_most_total (λ (z : ℕ). one_if (eqb z x)) xs c.0 x c.1 in
     let e = ap (λ (z : ℕ). one_if (eqb z x)) c.2 in
     let s = one_if-same x in omega arith
 
--- what holds of each number that stands in the list holds of each element
+-- what holds of each number that is in the list holds of each element
 pub All-from_times : (P : ℕ → Type 0) (xs : List ℕ) → ((x : ℕ) → 0 < times x xs → P x) → All P xs
 All-from_times P xs each k d h =
     let x : ℕ = get_or xs k d in

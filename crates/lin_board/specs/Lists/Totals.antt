@@ -1,4 +1,4 @@
--- Sums over a list, and how often a number stands in one.
+-- Sums over a list, and how often a number is in one.
 use Rattle.std.specs.Prelude.{ℕ, ◌+◌, ◌==◌, List, [], ◌∷◌, Bool, if◌then◌else◌}
 
 -- 1 for true, and 0 for false
@@ -10,6 +10,6 @@ abbrev pub total : {X : Type 0} → (X → ℕ) → List X → ℕ
 total f [] = 0
 total f (x ∷ xs) = f x + total f xs
 
--- how often x stands in the list
+-- how often x is in the list
 abbrev pub times : ℕ → List ℕ → ℕ
 times x = total (λ y. one_if (y == x))

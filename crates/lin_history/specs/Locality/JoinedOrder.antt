@@ -32,7 +32,7 @@ module _ {State Op Reply : Type 0} (h : Whole State Op Reply) where
   greatest_call [] = 0
   greatest_call (x ∷ xs) = max (called_at x.call) (greatest_call xs)
 
-  -- The point of a call that stands after these in its object's order: the greatest number of a call event among them
+  -- The point of a call that comes after these in its object's order: the greatest number of a call event among them
   -- and its own.
   abbrev pub point : List (Placed Reply) → ℕ → ℕ
   point early a = max (greatest_call early) (called_at a)
@@ -41,7 +41,7 @@ module _ {State Op Reply : Type 0} (h : Whole State Op Reply) where
   abbrev pub object_of : ℕ → ℕ
   object_of a = option_map_or (λ x. x.object) (slice_get h.calls a) 0
 
-  -- The point of a call that stands after these in an order of the whole.
+  -- The point of a call that comes after these in an order of the whole.
   abbrev pub point_after : List (Placed Reply) → Placed Reply → ℕ
   point_after early x = point (part h (object_of x.call) early) x.call
 

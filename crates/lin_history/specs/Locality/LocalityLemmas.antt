@@ -90,7 +90,7 @@ module _ {State Op Reply : Type 0} (h : Whole State Op Reply) where
 
   -- ---- real time
 
-  -- a call stands somewhere in a list that has it
+  -- a call is somewhere in a list that has it
   record StandsIn (a : ℕ) (l : List (Placed Reply)) : Type 0 where
     early : List (Placed Reply)
     placed : Placed Reply

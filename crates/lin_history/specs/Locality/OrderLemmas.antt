@@ -18,7 +18,7 @@ use Rattle.lin_history.specs.Locality.PartProblem.{part_problem}
 use Rattle.lin_history.specs.OptionLemmas.{some_more}
 
 module _ {State Op Reply : Type 0} (p : Problem State Op Reply) where
-  -- no call of the list precedes one that stands before it, or itself
+  -- no call of the list precedes one that comes before it, or itself
   abbrev pub KeepsTime : List ℕ → Type 0
   KeepsTime [] = Unit {0}
   KeepsTime (c ∷ cs) = ((d : ℕ) → In d (c ∷ cs) → Before p d c → ⊥) × KeepsTime cs

@@ -63,7 +63,7 @@ module _ {State Op Reply : Type 0} (h : Whole State Op Reply) where
       some_more (slice_get h.calls a) (λ c. IsSomeAnd c.returned (λ r. r.0 < called_at h b)) (λ x. IsSomeAnd x.returned (λ r. IsSomeAnd (slice_get h.calls b) (λ y. r.0 < y.called)))
       (λ c q. some_more c.returned (λ r. r.0 < called_at h b) (λ r. IsSomeAnd (slice_get h.calls b) (λ y. r.0 < y.called)) (λ r below. some_called (slice_get h.calls b) r.0 below) q) p
 
-  -- No call of the list returned before the event n, or before the call event of one that stands before it, or its own.
+  -- No call of the list returned before the event n, or before the call event of one that comes before it, or its own.
   abbrev pub IsTimely : ℕ → List (Placed Reply) → Type 0
   IsTimely n [] = Unit {0}
   IsTimely n (x ∷ xs) = (ReturnsBefore x.call (max n (called_at h x.call)) → ⊥) × IsTimely (max n (called_at h x.call)) xs

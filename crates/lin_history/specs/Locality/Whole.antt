@@ -33,7 +33,7 @@ module _ {State Op Reply : Type 0} (h : Whole State Op Reply) where
   AreDistinct [] = Unit {0}
   AreDistinct (x ∷ xs) = (Has x.call xs → ⊥) × AreDistinct xs
 
-  -- The list keeps real time: no call of it precedes one that stands before it, or itself.
+  -- The list keeps real time: no call of it precedes one that comes before it, or itself.
   abbrev pub KeepsOrder : List (Placed Reply) → Type 0
   KeepsOrder [] = Unit {0}
   KeepsOrder (x ∷ xs) = ((a : ℕ) → Has a (x ∷ xs) → Precedes a x.call → ⊥) × KeepsOrder xs

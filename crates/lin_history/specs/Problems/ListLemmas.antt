@@ -15,7 +15,7 @@ pub in_either : (c : ℕ) (xs ys : List ℕ) → In c (xs ++ ys) → In c xs ⊎
 in_either c [] ys h = inr h
 in_either c (x ∷ xs) ys h = elim h [ inl e ↦ inl (inl e) | inr more ↦ elim (in_either c xs ys more) [ inl p ↦ inl (inr p) | inr p ↦ inr p ] ]
 
--- a call of a list stands somewhere in it
+-- a call of a list is somewhere in it
 pub in_place : (c : ℕ) (l : List ℕ) → In c l → (early : List ℕ) × (late : List ℕ) × (l ≡ early ++ c ∷ late)
 in_place c [] h = absurd h
 in_place c (d ∷ l) h = elim h [

@@ -5,7 +5,7 @@ use Rattle.lin_history.specs.Problems.Lists.{In}
 use Rattle.lin_history.specs.Problems.Problem.{Problem}
 use Rattle.lin_history.specs.Problems.Linearizations.{IsLinearization}
 
--- Call b needs call a: in every linearization in which b stands, a stands before it. A pending call may be needed too.
+-- Call b needs call a: in every linearization that has b, a comes before it. A pending call may be needed too.
 abbrev pub Needs : {State Op Reply : Type 0} → Problem State Op Reply → ℕ → ℕ → Type 0
 Needs p a b = (l : List ℕ) → IsLinearization p l → (early : List ℕ) (late : List ℕ) → l ≡ early ++ b ∷ late → In a early
 

@@ -1,4 +1,4 @@
--- Lists of calls that are equal call by call, beside what stands at each index.
+-- Lists of calls that are equal call by call, beside what is at each index.
 use Rattle.std.proofs.Common.{◌≡◌, ℕ, zero, suc, ◌<◌, Bool, Option, Some, None, List, [], ◌∷◌, length, refl, ap, arith}
 use Rattle.std.specs.List.{slice_get}
 use Rattle.lin_history.specs.declared.problems.problem.ProblemCall.{ProblemCall}

@@ -12,7 +12,7 @@ HasNumber p (Return c) n = IsSomeAnd (slice_get p.calls c) (λ x. IsSomeAnd x.re
 
 -- The list has the call event of each call and the return event of each completed call, each of them once and nothing
 -- else, in the order of the events' numbers. So calls are called in the order of their own numbers, each returns after it
--- was called, and a return stands before a call exactly where the one call precedes the other.
+-- was called, and a return comes before a call exactly where the one call precedes the other.
 pub record IsTimeline {State Op Reply : Type 0} (p : Problem State Op Reply) (events : List ProblemEvent) : Type 0 where
   pub called : (c : ℕ) → c < length p.calls → (i : ℕ) × (slice_get events i ≡ Some (Call c))
   pub returned : (c : ℕ) → IsCompleted p c → (i : ℕ) × (slice_get events i ≡ Some (Return c))

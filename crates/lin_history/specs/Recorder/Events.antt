@@ -46,7 +46,7 @@ abbrev pub events_of : {Op Reply : Type 0} → ℕ → List (Event Op Reply) →
 events_of process events = filter (λ e. process_of e == process) events
 
 -- The events of a process by itself are sequential: a call, its return or its failure on the same object, a call, and so
--- on, with at most the last call pending; where the process ended with that call, no event stands after it.
+-- on, with at most the last call pending; where the process ended with that call, no event comes after it.
 abbrev pub IsSequential : {Op Reply : Type 0} → List (Event Op Reply) → Type 0
 IsSequential [] = Unit {0}
 IsSequential (calls p object op ∷ []) = Unit {0}

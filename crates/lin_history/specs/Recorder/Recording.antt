@@ -38,7 +38,7 @@ IsRecording r = (events : List (Event Op Reply)) × IsRecordingOf events r
 abbrev pub history_of : Recording → RecordedHistory
 history_of r = record { objects = r.objects; calls = calls_of r.made; events = r.events }
 
--- ---- what stands in the recording so far
+-- ---- what is in the recording so far
 
 -- The index of the object of this name.
 abbrev pub index_named : Recording → List ℕ → Option ℕ

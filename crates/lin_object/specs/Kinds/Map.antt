@@ -22,7 +22,7 @@ map_operations =
     ∷ (codes "delete", of_one Delete)
     ∷ []
 
--- put(k,v) gives the key the value, get(k) answers the value of the key, delete(k) takes the key out, and tells whether
+-- put(k,v) gives the key the value, get(k) answers the value of the key, delete(k) takes the key out, and says whether
 -- it was in.
 abbrev pub map_step : List Pair → Op → Option (ObjState × Reply)
 map_step pairs (Put key value) = Some (Map (with_value key value pairs), Okay)

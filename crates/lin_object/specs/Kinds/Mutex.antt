@@ -19,7 +19,7 @@ mutex_operations =
     ∷ []
 
 -- Free, or held by a process: lock() has a step where it is free, unlock() where the same process holds it, and
--- try_lock() tells whether it was free.
+-- try_lock() says whether it was free.
 abbrev pub mutex_step : Option ℕ → ℕ → Op → Option (ObjState × Reply)
 mutex_step None process Lock = Some (Mutex (Some process), Okay)
 mutex_step (Some holder) process Lock = None

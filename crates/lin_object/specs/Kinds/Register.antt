@@ -19,7 +19,7 @@ register_operations =
     ∷ (codes "cas", of_two Cas)
     ∷ []
 
--- write(v) sets the value, read() answers it, cas(a,b) sets it to b where it is a, and tells whether it did.
+-- write(v) sets the value, read() answers it, cas(a,b) sets it to b where it is a, and says whether it did.
 abbrev pub register_step : ℤ → Op → Option (ObjState × Reply)
 register_step value (Write v) = Some (Register v, Okay)
 register_step value Read = Some (Register value, Int value)
