@@ -1,5 +1,6 @@
 mod AnswerLemmas
 mod BoolLemmas
+mod EditLemmas
 mod NumberLemmas
 mod PlaceLemmas
 mod StepTableLemmas

@@ -3,6 +3,8 @@ pub mod ItemLemmas
 pub mod Pairs
 pub mod PairLemmas
 pub mod StepAnswers
+pub mod StepBacks
+pub mod Changes
 pub mod Laws
 pub mod Names
 pub mod Runs

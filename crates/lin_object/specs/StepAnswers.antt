@@ -13,6 +13,11 @@ abbrev pub step_reply : {S R : Type 0} → Option (S × R) → Option R
 step_reply None = None
 step_reply (Some answer) = Some answer.1
 
+-- The state of a step's answer, where there is one.
+abbrev pub step_state : {S R : Type 0} → Option (S × R) → Option S
+step_state None = None
+step_state (Some answer) = Some answer.0
+
 -- The state of a step's answer, where its reply equals this one.
 abbrev pub state_with : {S R : Type 0} → (R → R → Bool) → R → Option (S × R) → Option S
 state_with same reply None = None
@@ -22,6 +27,11 @@ state_with same reply (Some answer) = if same answer.1 reply then Some answer.0 
 abbrev pub fits : {R : Type 0} → (R → R → Bool) → R → Option (ℕ × R) → Bool
 fits same reply None = true
 fits same reply (Some recorded) = same reply recorded.1
+
+-- The state of a step's answer, where its reply fits.
+abbrev pub state_if_fits : {State Reply : Type 0} → (Reply → Reply → Bool) → Option (ℕ × Reply) → Option (State × Reply) → Option State
+state_if_fits same recorded None = None
+state_if_fits same recorded (Some answer) = if fits same answer.1 recorded then Some answer.0 else None
 
 -- A step of this operation whose reply is the recorded one, where one is recorded, is that of any process (this project's own).
 abbrev pub IgnoresProcess : {S O R : Type 0} → (R → R → Bool) → (S → ℕ → O → Option (S × R)) → O → Option (ℕ × R) → Type 0

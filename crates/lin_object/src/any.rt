@@ -1,15 +1,21 @@
 //! The object that the checker judges histories by: it lists the steps of the kinds.
-ghost use Rattle.std.specs.Prelude.{◌≡◌, true, IfOk, IfErr};
-ghost use Rattle.lin_object.specs.StepAnswers.{step_reply};
+ghost use Rattle.std.specs.Prelude.{◌≡◌, true, Some, None, IfOk, IfErr, IfSome, IfNone};
+ghost use Rattle.lin_object.specs.StepAnswers.{step_reply, step_state};
+ghost use Rattle.lin_object.specs.StepBacks.{LeadsBack};
+ghost use Rattle.lin_object.specs.Changes.{WasBefore};
+ghost use Rattle.lin_object.specs.declared.state.ObjState.{ObjState as State};
+ghost use Rattle.lin_object.specs.declared.step_back.StepBack.TheVariants.{Changed};
 ghost use Rattle.lin_object.specs.Kinds.{after as step_of, holds_items};
 
 use crate::kinds::{Answer, counter, map, mutex, queue, register, set, stack};
-use crate::object::SeqObject;
+use crate::object::{SeqObject, is_recorded};
 use crate::op::Op;
 use crate::reply::Reply;
 use crate::state::ObjState;
+use crate::step_back::{Change, StepBack};
 use crate::step_tables::{changes_nothing, looks_at_process};
 use std::alloc::{AllocError, Global};
+use std::mem;
 
 // What the step replies. It needs no memory: no state with items is made.
 #[inline(always)]
@@ -24,6 +30,80 @@ fn reply_of(state: &ObjState, process: u32, op: &Op) -> Option<Reply>
         ObjState::Set(items) => set::reply(items, op),
         ObjState::Mutex(holder) => mutex::step(*holder, process, op).map(|(_, reply)| reply),
         ObjState::Map(pairs) => map::reply(pairs, op),
+    }
+}
+
+// Puts the step's state in place of this one: what takes that back.
+#[inline(always)]
+fn replaced(state: &mut ObjState, answer: Answer) -> Option<StepBack<ObjState>>
+    ensures step { IfSome result (λ back. step_state answer ≡ Some state.new) }
+    ensures back { IfSome result (λ back. LeadsBack WasBefore back state.new state.old) }
+    ensures none { IfNone result ((step_state answer ≡ None) × (state.new ≡ state.old)) }
+{
+    match answer {
+        Some((next, _)) => Some(StepBack::Before(mem::replace(state, next))),
+        None => None,
+    }
+}
+
+// What takes the change back, where there is one.
+fn changed(change: Option<Change>) -> Option<StepBack<ObjState>>
+    ensures some { IfSome change (λ change. result ≡ Some (Changed change)) }
+    ensures none { IfNone change (result ≡ None) }
+{
+    match change {
+        Some(change) => Some(StepBack::Changed(change)),
+        None => None,
+    }
+}
+
+// Makes the step in the state itself, whatever it replies.
+#[inline(always)]
+fn stepped(
+    alloc: Global,
+    state: &mut ObjState,
+    process: u32,
+    op: &Op,
+) -> Result<Option<StepBack<ObjState>>, AllocError>
+    ensures step { IfOk result (λ answer. IfSome answer (λ back.
+        step_state (step_of state.old process op.now) ≡ Some state.new)) }
+    ensures back { IfOk result (λ answer. IfSome answer (λ back.
+        LeadsBack WasBefore back state.new state.old)) }
+    ensures none { IfOk result (λ answer. IfNone answer (
+        (step_state (step_of state.old process op.now) ≡ None) × (state.new ≡ state.old))) }
+    ensures kept { IfErr result (λ _. state.new ≡ state.old) }
+    ensures memory { IfErr result (λ _. holds_items state.old ≡ true) }
+{
+    match state {
+        ObjState::Register(value) => {
+            let answer = register::step(*value, op);
+            Ok(replaced(state, answer))
+        }
+        ObjState::Counter(value) => {
+            let answer = counter::step(*value, op);
+            Ok(replaced(state, answer))
+        }
+        ObjState::Queue(items) => Ok(changed(queue::step_in_place(items, op)?)),
+        ObjState::Stack(items) => Ok(changed(stack::step_in_place(alloc, items, op)?)),
+        ObjState::Set(items) => set::step_in_place(alloc, items, op),
+        ObjState::Mutex(holder) => {
+            let answer = mutex::step(*holder, process, op);
+            Ok(replaced(state, answer))
+        }
+        ObjState::Map(pairs) => map::step_in_place(alloc, pairs, op),
+    }
+}
+
+// Takes the change back.
+fn change_taken_back(state: &mut ObjState, change: Change) -> Result<(), AllocError>
+    ensures { IfOk result (λ done. (s : State) → WasBefore change state.old s → state.new ≡ s) }
+{
+    match state {
+        ObjState::Queue(items) => queue::take_back(items, change),
+        ObjState::Stack(items) => stack::take_back(items, change),
+        ObjState::Set(items) => set::take_back(items, change),
+        ObjState::Map(pairs) => map::take_back(pairs, change),
+        _ => Ok(()),
     }
 }
 
@@ -55,6 +135,7 @@ impl SeqObject for AnyObject {
     ghost use Rattle.lin_object.specs.contracts.state.ObjStatePartialEq.TheImpl.{eq-value as state_eq};
     ghost use Rattle.lin_object.specs.StepAnswers.{IgnoresProcess, ChangesNothing};
     ghost use Rattle.lin_object.specs.StepTables.{looks_at_process, changes_nothing};
+    ghost use Rattle.lin_object.specs.Changes.{WasBefore};
 
     type State = ObjState;
 
@@ -65,6 +146,8 @@ impl SeqObject for AnyObject {
     ghost after = { λ _ state process op. step_of state process op };
 
     ghost may_allocate = { holds_items };
+
+    ghost was_before = { λ change t s. WasBefore change t s };
 
     #[inline(always)]
     fn step(
@@ -99,6 +182,37 @@ impl SeqObject for AnyObject {
                 Ok(self.step(alloc, state, process, op)?.map(|(next, _)| next))
             }
             _ => Ok(None),
+        }
+    }
+
+    #[inline(always)]
+    fn step_in_place(
+        &self,
+        alloc: Global,
+        state: &mut ObjState,
+        process: u32,
+        op: &Op,
+        returned: &Option<(u32, Reply)>,
+    ) -> Result<Option<StepBack<ObjState>>, AllocError> {
+        match reply_of(state, process, op) {
+            Some(answered) if is_recorded(&answered, returned) => {
+                stepped(alloc, state, process, op)
+            }
+            _ => Ok(None),
+        }
+    }
+
+    fn take_back(
+        &self,
+        state: &mut ObjState,
+        back: &mut StepBack<ObjState>,
+    ) -> Result<(), AllocError> {
+        match back {
+            StepBack::Before(before) => {
+                mem::swap(state, before);
+                Ok(())
+            }
+            StepBack::Changed(change) => change_taken_back(state, *change),
         }
     }
 

@@ -5,6 +5,7 @@
 //! - `kinds`: a file for each kind, with its operations by name and what each of them does.
 //! - `kind`, `op`, `reply`, `state`: what declarations, calls and returns are made of.
 //! - `step_tables`: which operations look at the process, and which calls change nothing.
+//! - `step_back`: what takes a step back that was made on a state in place.
 //! - `items`: the items that queues, stacks and sets hold.
 //! - `pairs`: the keys and values that maps hold.
 //!
@@ -22,6 +23,7 @@ mod op;
 mod pairs;
 mod reply;
 mod state;
+mod step_back;
 mod step_tables;
 
 pub use any::AnyObject;
@@ -39,3 +41,4 @@ pub use op::{Op, OpFault, is_op, read_op, write_op};
 pub use pairs::{Pair, Pairs};
 pub use reply::{Reply, write_reply};
 pub use state::{ObjState, start_state};
+pub use step_back::{Change, StepBack};

@@ -1,10 +1,24 @@
 //! What a sequential object is: the trait that the search is generic over, with its laws.
-ghost use Rattle.std.specs.Prelude.{◌≡◌, ℕ, Bool, true, Option, IfOk, IfErr, IsTrue};
-ghost use Rattle.lin_object.specs.StepAnswers.{SameStep, state_with, IgnoresProcess, ChangesNothing};
+ghost use Rattle.std.specs.Prelude.{◌≡◌, ℕ, Bool, true, Option, Some, None, IfOk, IfErr, IfSome, IfNone, IsTrue};
+ghost use Rattle.lin_object.specs.StepAnswers.{SameStep, fits, state_with, state_if_fits, IgnoresProcess, ChangesNothing};
+ghost use Rattle.lin_object.specs.StepBacks.{LeadsBack, IsTakenBack};
+ghost use Rattle.lin_object.specs.declared.step_back.Change.{Change};
 ghost use Rattle.lin_object.specs.Laws.{IsLawful};
 
+use crate::step_back::StepBack;
 use std::alloc::{AllocError, Global};
 use std::hash::Hash;
+use std::mem;
+
+// Whether the reply is the recorded one, where one is recorded.
+pub(crate) fn is_recorded<R: Eq>(reply: &R, returned: &Option<(u32, R)>) -> bool
+    ensures { result ≡ fits R.eq reply.now returned.now }
+{
+    match returned {
+        Some((_, recorded)) => *reply == *recorded,
+        None => true,
+    }
+}
 
 /// A sequential object: what its operations do when they are called one at a time.
 ///
@@ -26,6 +40,9 @@ pub trait SeqObject: Eq + Drop {
     // Whether a step from the state, or a copy of it, may take memory. Where an object does not
     // say, each may.
     ghost may_allocate: { Self.State → Bool } = { λ _. true };
+
+    // Which state a change led to which other from: the state after it comes first. Where an object does not say, none.
+    ghost was_before: { Change → Self.State → Self.State → Type 0 } = { λ _ _ _. ⊥ };
 
     /// Applies an operation of a process to a state: the next state and the reply, or `None` where the
     /// object has no step. `AllocError` where memory for the next state was refused.
@@ -63,6 +80,57 @@ pub trait SeqObject: Eq + Drop {
             Ok(Some(next))
         } else {
             Ok(None)
+        }
+    }
+
+    /// Makes the step in the state itself, where the object has one whose reply is the recorded one, or any where none
+    /// has returned: what takes it back. `None` where it has none, and then the state stays as it is. `AllocError` where
+    /// memory was refused; the state stays as it is then too.
+    ///
+    /// An object whose states are large does better with a body of its own.
+    fn step_in_place(
+        &self,
+        alloc: Global,
+        state: &mut Self::State,
+        process: u32,
+        op: &Self::Op,
+        returned: &Option<(u32, Self::Reply)>,
+    ) -> Result<Option<StepBack<Self::State>>, AllocError>
+        ensures step { IfOk result (λ answer. IfSome answer (λ back.
+            state_if_fits Self.Reply.eq returned.now (after self.now state.old process op.now)
+            ≡ Some state.new)) }
+        ensures back { IfOk result (λ answer. IfSome answer (λ back.
+            LeadsBack was_before back state.new state.old)) }
+        ensures none { IfOk result (λ answer. IfNone answer (
+            (state_if_fits Self.Reply.eq returned.now (after self.now state.old process op.now) ≡ None)
+            × (state.new ≡ state.old))) }
+        ensures kept { IfErr result (λ _. state.new ≡ state.old) }
+        ensures memory { IfErr result (λ _. may_allocate state.old ≡ true) }
+    {
+        let Some((next, reply)) = self.step(alloc, state, process, op)? else {
+            return Ok(None);
+        };
+        if !is_recorded(&reply, returned) {
+            return Ok(None);
+        }
+        Ok(Some(StepBack::Before(mem::replace(state, next))))
+    }
+
+    /// Takes a step back that led to the state: the state is what it was before. No memory is asked for: `AllocError`
+    /// where there is no room for what is put in again. What took the step back is of no more use.
+    fn take_back(
+        &self,
+        state: &mut Self::State,
+        back: &mut StepBack<Self::State>,
+    ) -> Result<(), AllocError>
+        ensures { IfOk result (λ done. IsTakenBack was_before back.old state.old state.new) }
+    {
+        match back {
+            StepBack::Before(before) => {
+                mem::swap(state, before);
+                Ok(())
+            }
+            StepBack::Changed(_) => Err(AllocError),
         }
     }
 

@@ -1,5 +1,7 @@
 //! The pairs of a key and its value that maps hold.
-ghost use Rattle.std.specs.Prelude.{◌≡◌, ◌≤◌, ◌∷◌, [], ◌++◌, not, length, int_lt, position, ◌<◌, IfSome, IfOk};
+ghost use Rattle.std.specs.Prelude.{◌≡◌, ◌≤◌, ◌+◌, ◌∷◌, [], ◌++◌, not, length, int_lt, position, ◌<◌, drop, false, IsTrue, IfSome, IfNone, IfOk, IfErr};
+ghost use Rattle.std.specs.List.{list_any};
+ghost use Rattle.std.specs.Ordering.{int_eq};
 ghost use Rattle.lin_object.specs.Pairs.{place_of_key, behind_key};
 
 use crate::reply::Reply;
@@ -81,6 +83,44 @@ fn place_of_key(pairs: &[Pair], key: i64) -> usize
     first_not_lower(pairs, key).unwrap_or(pairs.len())
 }
 
+// The first place of the key.
+fn first_place_of(pairs: &[Pair], key: i64) -> Option<usize>
+    ensures value { result ≡ position (λ pair. int_eq pair.key key) pairs.now }
+    ensures within { IfSome result (λ place. place < length pairs.now) }
+{
+    pairs.iter().position(|pair| pair.key == key)
+}
+
+// Whether one of the pairs has the key.
+fn has_key(pairs: &[Pair], key: i64) -> bool
+    ensures { result ≡ list_any (λ pair. int_eq pair.key key) pairs.now }
+{
+    pairs.iter().any(|pair| pair.key == key)
+}
+
+// Whether the key is not behind the place.
+fn is_only_at(pairs: &[Pair], key: i64, place: usize) -> bool
+    requires { place < length pairs.now }
+    ensures { IsTrue result → list_any (λ pair. int_eq pair.key key) (drop (place + 1) pairs.now)
+        ≡ false }
+{
+    let (_, behind) = pairs.split_at(place + 1);
+    !has_key(behind, key)
+}
+
+// The pair at the place, where it has the key.
+fn pair_with_key(pairs: &[Pair], place: usize, key: i64) -> Option<Pair>
+    ensures within { IfSome result (λ pair. place < length pairs.now) }
+    ensures some { IfSome result (λ pair. behind_key key (drop place pairs.now)
+        ≡ drop (place + 1) pairs.now) }
+    ensures none { IfNone result (behind_key key (drop place pairs.now) ≡ drop place pairs.now) }
+{
+    match pairs.get(place) {
+        Some(pair) if pair.key == key => Some(*pair),
+        _ => None,
+    }
+}
+
 // The pairs, without the first where it has the key.
 fn behind_key(pairs: &[Pair], key: i64) -> &[Pair]
     ensures { result.now ≡ behind_key key pairs.now }
@@ -103,7 +143,7 @@ fn joined(alloc: Global, front: &[Pair], pair: Pair, behind: &[Pair]) -> Result<
 }
 
 impl Pairs {
-    ghost use Rattle.std.specs.Prelude.{is_some};
+    ghost use Rattle.std.specs.Prelude.{is_some, insert, remove, set};
     ghost use Rattle.lin_object.specs.Pairs.{value_at, reply_to_lookup, with_value, without_key};
 
     /// No pair. It takes no memory.
@@ -165,5 +205,98 @@ impl Pairs {
         let mut pairs = Vec::from_slice(alloc, self.pairs.as_slice())?;
         pairs.retain(|pair| pair.key != key);
         Ok(Pairs { pairs })
+    }
+
+    /// The place of the key, or where it would be put in, and the pair there where it has the key.
+    pub(crate) fn find(&self, key: i64) -> (usize, Option<Pair>)
+        ensures place { result.0 ≡ place_of_key key self.now }
+        ensures within { result.0 ≤ length self.now }
+        ensures there { IfSome result.1 (λ pair. result.0 < length self.now) }
+        ensures some { IfSome result.1 (λ pair. behind_key key (drop result.0 self.now)
+            ≡ drop (result.0 + 1) self.now) }
+        ensures none { IfNone result.1 (behind_key key (drop result.0 self.now)
+            ≡ drop result.0 self.now) }
+    {
+        let pairs = self.pairs.as_slice();
+        let place = place_of_key(pairs, key);
+        (place, pair_with_key(pairs, place, key))
+    }
+
+    /// Puts the pair in place of that at the place, which is returned.
+    ///
+    /// Condition: there is one.
+    pub(crate) fn replace(&mut self, place: usize, pair: Pair) -> Pair
+        requires { place < length self.old }
+        ensures done { self.new ≡ set self.old place pair }
+        ensures back { (place < length self.new) × (set self.new place result ≡ self.old) }
+    {
+        let before = self.pairs[place];
+        self.pairs[place] = pair;
+        before
+    }
+
+    /// Whether no pair has the key.
+    pub(crate) fn lacks(&self, key: i64) -> bool
+        ensures { IsTrue result → without_key key self.now ≡ self.now }
+    {
+        !has_key(self.pairs.as_slice(), key)
+    }
+
+    /// Puts the pair in at the place. `AllocError` where memory was refused; the pairs stay as they are then.
+    ///
+    /// Condition: the place is within the pairs, or behind the last.
+    pub(crate) fn put_in(&mut self, place: usize, pair: Pair) -> Result<(), AllocError>
+        requires { place ≤ length self.old }
+        ensures done { IfOk result (λ done. self.new ≡ insert self.old place pair) }
+        ensures back { IfOk result (λ done. (place < length self.new)
+            × (remove self.new place ≡ self.old)) }
+        ensures kept { IfErr result (λ _. self.new ≡ self.old) }
+    {
+        self.pairs.insert(place, pair)?;
+        Ok(())
+    }
+
+    /// Puts a pair that was at the place in again. No memory is asked for: `AllocError` where there is no room.
+    ///
+    /// Condition: the place is within the pairs, or behind the last.
+    pub(crate) fn put_in_again(&mut self, place: usize, pair: Pair) -> Result<(), AllocError>
+        requires { place ≤ length self.old }
+        ensures done { IfOk result (λ done. self.new ≡ insert self.old place pair) }
+        ensures kept { IfErr result (λ _. self.new ≡ self.old) }
+    {
+        if self.pairs.len() >= self.pairs.capacity() {
+            return Err(AllocError);
+        }
+        self.put_in(place, pair)
+    }
+
+    /// The place of the key, where one pair has it. `None` where none has, or more than one.
+    pub(crate) fn only_place_of(&self, key: i64) -> Option<usize>
+        ensures within { IfSome result (λ place. place < length self.now) }
+        ensures without { IfSome result (λ place. without_key key self.now ≡ remove self.now place) }
+    {
+        let pairs = self.pairs.as_slice();
+        match first_place_of(pairs, key) {
+            Some(place) if is_only_at(pairs, key, place) => Some(place),
+            _ => None,
+        }
+    }
+
+    /// Takes the pair at the place out.
+    ///
+    /// Condition: there is one.
+    pub(crate) fn take_out(&mut self, place: usize) -> Pair
+        requires { place < length self.old }
+        ensures rest { self.new ≡ remove self.old place }
+        ensures back { (place ≤ length self.new) × (insert self.new place result ≡ self.old) }
+    {
+        self.pairs.remove(place)
+    }
+
+    /// How many pairs there are.
+    pub(crate) fn count(&self) -> usize
+        ensures { result ≡ length self.now }
+    {
+        self.pairs.len()
     }
 }

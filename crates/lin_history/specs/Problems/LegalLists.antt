@@ -1,13 +1,8 @@
 -- Legal lists of calls (Herlihy and Wing 1990): each call in its turn has a step whose reply is the recorded one.
-use Rattle.std.specs.Prelude.{◌≡◌, ℕ, Bool, true, Option, Some, None, List, [], ◌∷◌, slice_get, if◌then◌else◌}
-pub use Rattle.lin_object.specs.StepAnswers.{fits}
+use Rattle.std.specs.Prelude.{◌≡◌, ℕ, Option, Some, None, List, [], ◌∷◌, slice_get}
+pub use Rattle.lin_object.specs.StepAnswers.{fits, state_if_fits}
 use Rattle.lin_history.specs.declared.problems.problem.ProblemCall.{ProblemCall}
 use Rattle.lin_history.specs.Problems.Problem.{Problem}
-
--- The state of a step's answer, where its reply fits.
-abbrev pub state_if_fits : {State Reply : Type 0} → (Reply → Reply → Bool) → Option (ℕ × Reply) → Option (State × Reply) → Option State
-state_if_fits same recorded None = None
-state_if_fits same recorded (Some answer) = if fits same answer.1 recorded then Some answer.0 else None
 
 -- The state after a call, where it has a step at s whose reply fits.
 abbrev pub after_call : {State Op Reply : Type 0} → Problem State Op Reply → State → Option (ProblemCall Op Reply) → Option State

@@ -1,7 +1,11 @@
 //! Sets: items that are in it or not.
-ghost use Rattle.std.specs.Prelude.{◌≡◌, is_some, IfOk};
+ghost use Rattle.std.specs.Prelude.{◌≡◌, is_some, Some, None, IfOk, IfErr, IfSome, IfNone};
 ghost use Rattle.lin_object.specs.Names.{beside, made_of};
-ghost use Rattle.lin_object.specs.StepAnswers.{step_reply};
+ghost use Rattle.lin_object.specs.StepAnswers.{step_reply, step_state};
+ghost use Rattle.lin_object.specs.StepBacks.{LeadsBack};
+ghost use Rattle.lin_object.specs.Changes.{WasBefore};
+ghost use Rattle.lin_object.specs.declared.state.ObjState.{ObjState as State};
+ghost use Rattle.lin_object.specs.declared.state.ObjState.TheVariants.{Set};
 ghost use Rattle.lin_object.specs.Kinds.Set.{set_operations, set_step, SetLaw};
 ghost use Rattle.lin_object.specs.Kinds.{after};
 ghost use Rattle.lin_object.specs.declared.op.Op.TheVariants.{Insert, Remove};
@@ -11,7 +15,9 @@ use crate::kinds::Answer;
 use crate::op::Op;
 use crate::reply::Reply;
 use crate::state::ObjState;
+use crate::step_back::{Change, StepBack};
 use std::alloc::{AllocError, Global};
+use std::mem;
 
 /// Whether sets have an operation of that name.
 pub(crate) fn has_op(name: &str) -> bool
@@ -79,6 +85,83 @@ pub(crate) fn reply(items: &Items, op: &Op) -> Option<Reply>
         Op::Insert(item) => Some(Reply::Flag(!items.has(*item))),
         Op::Remove(item) | Op::Contains(item) => Some(Reply::Flag(items.has(*item))),
         _ => None,
+    }
+}
+
+// Puts the item in, in the items themselves: what takes that back.
+fn insert_in_place(items: &mut Items, item: i64) -> Result<StepBack<ObjState>, AllocError>
+    ensures step { IfOk result (λ back. step_state (set_step items.old (Insert item)) ≡ Some (Set items.new)) }
+    ensures back { IfOk result (λ back. LeadsBack WasBefore back (Set items.new) (Set items.old)) }
+    ensures kept { IfErr result (λ _. items.new ≡ items.old) }
+{
+    if !items.has(item) {
+        let place = items.put_in_order(item)?;
+        return Ok(StepBack::Changed(Change::PutItem(place)));
+    }
+    // It was there before, and stays there.
+    Ok(StepBack::Changed(Change::Nothing))
+}
+
+// Takes the item out, from the items themselves: what takes that back.
+fn remove_in_place(
+    alloc: Global,
+    items: &mut Items,
+    item: i64,
+) -> Result<StepBack<ObjState>, AllocError>
+    ensures step { IfOk result (λ back. step_state (set_step items.old (Remove item)) ≡ Some (Set items.new)) }
+    ensures back { IfOk result (λ back. LeadsBack WasBefore back (Set items.new) (Set items.old)) }
+    ensures kept { IfErr result (λ _. items.new ≡ items.old) }
+{
+    if !items.has(item) {
+        return Ok(StepBack::Changed(Change::Nothing));
+    }
+    match items.only_place_of(item) {
+        Some(place) => {
+            let taken = items.take_out(place);
+            Ok(StepBack::Changed(Change::TookItem(place, taken)))
+        }
+        None => {
+            let fewer = items.without(alloc, item)?;
+            let before = mem::replace(items, fewer);
+            Ok(StepBack::Before(ObjState::Set(before)))
+        }
+    }
+}
+
+/// Makes the step in the set of the items itself: what takes it back. `None` where it has none; the items stay as they
+/// are then, and where memory was refused.
+pub(crate) fn step_in_place(
+    alloc: Global,
+    items: &mut Items,
+    op: &Op,
+) -> Result<Option<StepBack<ObjState>>, AllocError>
+    ensures step { IfOk result (λ answer. IfSome answer (λ back.
+        step_state (set_step items.old op.now) ≡ Some (Set items.new))) }
+    ensures back { IfOk result (λ answer. IfSome answer (λ back.
+        LeadsBack WasBefore back (Set items.new) (Set items.old))) }
+    ensures none { IfOk result (λ answer. IfNone answer (
+        (step_state (set_step items.old op.now) ≡ None) × (items.new ≡ items.old))) }
+    ensures kept { IfErr result (λ _. items.new ≡ items.old) }
+{
+    match op {
+        Op::Insert(item) => Ok(Some(insert_in_place(items, *item)?)),
+        Op::Remove(item) => Ok(Some(remove_in_place(alloc, items, *item)?)),
+        Op::Contains(_) => Ok(Some(StepBack::Changed(Change::Nothing))),
+        _ => Ok(None),
+    }
+}
+
+/// Takes the change of a set back. No memory is asked for: `AllocError` where there is no room for an item.
+pub(crate) fn take_back(items: &mut Items, change: Change) -> Result<(), AllocError>
+    ensures { IfOk result (λ done. (s : State) → WasBefore change (Set items.old) s → Set items.new ≡ s) }
+{
+    match change {
+        Change::PutItem(place) if place < items.count() => {
+            items.take_out(place);
+            Ok(())
+        }
+        Change::TookItem(place, item) if place <= items.count() => items.put_in_again(place, item),
+        _ => Ok(()),
     }
 }
 

@@ -1,15 +1,19 @@
 //! Stacks: items of which the newest comes out first.
-ghost use Rattle.std.specs.Prelude.{◌≡◌, is_some, IfOk};
+ghost use Rattle.std.specs.Prelude.{◌≡◌, is_some, Some, None, IfOk, IfErr, IfSome, IfNone};
 ghost use Rattle.lin_object.specs.Names.{beside, made_of};
-ghost use Rattle.lin_object.specs.StepAnswers.{step_reply};
+ghost use Rattle.lin_object.specs.StepAnswers.{step_reply, step_state};
 ghost use Rattle.lin_object.specs.Kinds.Stack.{stack_operations, stack_step, StackLaw};
 ghost use Rattle.lin_object.specs.Kinds.{after};
+ghost use Rattle.lin_object.specs.Changes.{WasBefore};
+ghost use Rattle.lin_object.specs.declared.state.ObjState.{ObjState as State};
+ghost use Rattle.lin_object.specs.declared.state.ObjState.TheVariants.{Stack};
 
 use crate::items::Items;
 use crate::kinds::Answer;
 use crate::op::Op;
 use crate::reply::Reply;
 use crate::state::ObjState;
+use crate::step_back::Change;
 use std::alloc::{AllocError, Global};
 
 /// Whether stacks have an operation of that name.
@@ -55,6 +59,51 @@ pub(crate) fn reply(items: &Items, op: &Op) -> Option<Reply>
         Op::Push(_) => Some(Reply::Okay),
         Op::Pop => Some(items.reply_to_first()),
         _ => None,
+    }
+}
+
+/// Makes the step in the stack of the items itself: what it changed. `None` where it has none; the items stay as they are
+/// then, and where memory was refused.
+pub(crate) fn step_in_place(
+    alloc: Global,
+    items: &mut Items,
+    op: &Op,
+) -> Result<Option<Change>, AllocError>
+    ensures step { IfOk result (λ answer. IfSome answer (λ change.
+        step_state (stack_step items.old op.now) ≡ Some (Stack items.new))) }
+    ensures back { IfOk result (λ answer. IfSome answer (λ change.
+        WasBefore change (Stack items.new) (Stack items.old))) }
+    ensures none { IfOk result (λ answer. IfNone answer (
+        (step_state (stack_step items.old op.now) ≡ None) × (items.new ≡ items.old))) }
+    ensures kept { IfErr result (λ _. items.new ≡ items.old) }
+{
+    match op {
+        Op::Push(item) => {
+            items.put_first(alloc, *item)?;
+            Ok(Some(Change::PutFirst))
+        }
+        Op::Pop => match items.first() {
+            Some(item) => {
+                items.take_first();
+                Ok(Some(Change::TookFirst(item)))
+            }
+            None => Ok(Some(Change::Nothing)),
+        },
+        _ => Ok(None),
+    }
+}
+
+/// Takes the change of a stack back. No memory is asked for: `AllocError` where there is no room for an item.
+pub(crate) fn take_back(items: &mut Items, change: Change) -> Result<(), AllocError>
+    ensures { IfOk result (λ done. (s : State) → WasBefore change (Stack items.old) s → Stack items.new ≡ s) }
+{
+    match change {
+        Change::PutFirst => {
+            items.take_first();
+            Ok(())
+        }
+        Change::TookFirst(item) => items.put_first_again(item),
+        _ => Ok(()),
     }
 }
 

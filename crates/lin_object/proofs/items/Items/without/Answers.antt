@@ -6,5 +6,5 @@ use Rattle.lin_object.proofs.items.Items.without.Goals as goal
 
 pub returns : goal.returns
 returns c =
-    filter_same _ (λ x. not (int_eq x c.args.item)) _ (λ x b f' k. search rules) _ _ c.retain.ensures.filtered
+    c.of.ensures ∙ filter_same _ (λ x. not (int_eq x c.args.item)) _ (λ x b f' k. search rules) _ _ c.retain.ensures.filtered
     ∙ ap (λ xs. without_item c.args.item xs) (search rules)
