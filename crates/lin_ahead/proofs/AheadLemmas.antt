@@ -19,13 +19,13 @@ use Rattle.lin_ahead.specs.ItemCalls.{goes_in_once, nothing_told, told, told_in,
 use Rattle.lin_ahead.specs.Owed.{HasReply, IsOwed, AreOwed}
 use Rattle.lin_ahead.specs.Behind.{AreNeedsBehind, IsRightAhead, NeedsBehind}
 use Rattle.lin_ahead.specs.CallNumbers.{by_row, from_row}
-use Rattle.lin_ahead.specs.ToldAhead.{took_once, once_row, taken_number, taken_row, is_taker, takers_from, PutOnce, IsTaker, IsToldAhead}
+use Rattle.lin_ahead.specs.ToldAhead.{took_once, once_row, taken_number, taken_row, is_taker, takers_from, PutOnce, IsTaker, AreLateEnqueues, IsToldAhead}
 use Rattle.lin_ahead.specs.declared.look_ahead.KnownAhead.{KnownAhead}
 use Rattle.lin_ahead.specs.Queue.{Puts, Took, OnlyPuts}
 use Rattle.lin_history.specs.ReplyLemmas.{reply_same}
 use Rattle.lin_ahead.proofs.AnyLemmas.{of_any, known}
 use Rattle.lin_ahead.proofs.ExactLemmas.{alone, below_takers, are_numbers}
-use Rattle.lin_ahead.proofs.LateLemmas.{nothing_late}
+use Rattle.lin_ahead.proofs.QueueLateLemmas.{no_enqueue_late}
 use Rattle.lin_ahead.proofs.OverLemmas.{nothing_over}
 use Rattle.lin_ahead.specs.Sums.{AreNoLimits}
 use Rattle.lin_ahead.proofs.NumberLemmas.{taken_need}
@@ -160,8 +160,8 @@ taken_at p b n v e (x, there, op) =
     let same : k.0 ≡ x = (let h = k.1 in cc) in
     sym k.2 ∙ ap (λ (y : ProblemCall Op Reply). taken_number (told p.calls) y.op) same ∙ ap (λ (o : Op). taken_number (told p.calls) o) op
 
-pub is_told : (p : Problem ObjState Op Reply) → AreTimed p.calls → (ahead : KnownAhead) → ahead.needs.by ≡ by_row (told p.calls) p.calls → ahead.needs.from ≡ from_row (told p.calls) (least_pending p.calls) p.calls → ahead.taken.items ≡ taken_row (told p.calls) p.calls → ahead.takers.items ≡ takers_from 0 p.calls → ahead.owed.items ≡ once_row (told p.calls) p.calls → IsToldAhead p ahead
-is_told p timed ahead bys froms taken takers owed = record {
+pub is_told : (p : Problem ObjState Op Reply) → AreTimed p.calls → (ahead : KnownAhead) → ahead.needs.by ≡ by_row (told p.calls) p.calls → ahead.needs.from ≡ from_row (told p.calls) (least_pending p.calls) p.calls → ahead.taken.items ≡ taken_row (told p.calls) p.calls → ahead.takers.items ≡ takers_from 0 p.calls → ahead.owed.items ≡ once_row (told p.calls) p.calls → AreLateEnqueues p.calls ahead.late → IsToldAhead p ahead
+is_told p timed ahead bys froms taken takers owed late = record {
   numbers = are_numbers p timed ahead.needs bys froms;
   owed = λ c e. flagged_took p c (rw (← owed) e);
   each_owed = rw owed (length-map p.calls _);
@@ -174,6 +174,7 @@ is_told p timed ahead bys froms taken takers owed = record {
   takers = λ i c e. takers_are p i c (rw (← takers) e);
   every_taker = λ c is. rw takers (every_taker p c is);
   rising_takers = λ i j c d e f h. takers_rise 0 p.calls i j c d (rw (← takers) e) (rw (← takers) f) h;
+  late = late;
 }
 
 module _ {Object : Type 0} (p : ProblemParts Object ObjState Op Reply) where
@@ -215,14 +216,14 @@ module _ {Object : Type 0} (p : ProblemParts Object ObjState Op Reply) where
       go x is (Lookup k) e f = absurd (omega (arith, below, f))
       go x is (Delete k) e f = absurd (omega (arith, below, f))
 
-  pub is_right : p.start ≡ Queue [] → AreTimed p.calls → (ahead : KnownAhead) → ahead.needs.by ≡ by_row (told p.calls) p.calls → ahead.needs.from ≡ from_row (told p.calls) (least_pending p.calls) p.calls → ahead.taken.items ≡ taken_row (told p.calls) p.calls → ahead.takers.items ≡ takers_from 0 p.calls → ahead.owed.items ≡ once_row (told p.calls) p.calls → ahead.held.items ≡ [] → ahead.in_vain ≡ false → ahead.late.from.items ≡ [] → AreNoLimits ahead.sums → ((v : ℤ) → told_in (get int_eq ahead.items) v ≡ told p.calls v) → IsRightAhead (any_problem p) ahead
+  pub is_right : p.start ≡ Queue [] → AreTimed p.calls → (ahead : KnownAhead) → ahead.needs.by ≡ by_row (told p.calls) p.calls → ahead.needs.from ≡ from_row (told p.calls) (least_pending p.calls) p.calls → ahead.taken.items ≡ taken_row (told p.calls) p.calls → ahead.takers.items ≡ takers_from 0 p.calls → ahead.owed.items ≡ once_row (told p.calls) p.calls → ahead.held.items ≡ [] → ahead.in_vain ≡ false → AreLateEnqueues p.calls ahead.late → AreNoLimits ahead.sums → ((v : ℤ) → told_in (get int_eq ahead.items) v ≡ told p.calls v) → IsRightAhead (any_problem p) ahead
   is_right start timed ahead bys froms taken takers owed held in_vain late sums items = record {
     needs = (let k = known p ahead.needs start timed bys froms in record { each_by = k.each_by; each_from = k.each_from; needed = λ a b m n there here below other. k.needed a b m n there here below });
     behind = rw (bys, taken, takers) (are_behind start timed);
     owed = rw owed (are_owed start);
     held = rw held (λ g e. absurd (cc));
     in_vain = λ e. absurd (cc);
-    late = nothing_late (any_problem p) ahead.late late;
+    late = no_enqueue_late (of_any p [] start) ahead.late late timed;
     sums = nothing_over (any_problem p) ahead.sums sums;
     queue = λ e. (items, takers);
     stack = λ e. absurd (let f = start in cc);

@@ -247,7 +247,7 @@ module _ (p : Problem ObjState Op Reply) (exact : IsExact p) (set : List Bool) (
 
 -- ---- by numbers
 
-before_by : (p : Problem ObjState Op Reply) (a i m n : ℕ) → ReturnsAt p a m → m < n → CalledFrom p n i → Before p a i
+pub before_by : (p : Problem ObjState Op Reply) (a i m n : ℕ) → ReturnsAt p a m → m < n → CalledFrom p n i → Before p a i
 before_by p a i m n (x, there, (r, back)) less from =
     let k = some_and (slice_get p.calls i) (λ y. n ≤ y.called) from in
     and_some (slice_get p.calls a) (λ x. IsSomeAnd x.returned (λ r. IsSomeAnd (slice_get p.calls i) (λ y. r.0 < y.called))) x there

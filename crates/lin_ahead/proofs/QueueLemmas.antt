@@ -353,11 +353,31 @@ module _ {p : Problem ObjState Op Reply} {start : List ℤ} (of_queue : IsOfQueu
       let f = fifo early start k.0 k.1 in
       record { mid = k.0; end = run.legal.0; so_far = f; goes_on = subst (λ (s : ObjState). Legal p s (i ∷ late) run.legal.0) f.ends k.2 }
 
+  -- an item that goes in once and came out before a call is not taken behind it
+  pub not_taken_behind : (early : List ℕ) (i : ℕ) (late : List ℕ) → IsRun p (early ++ i ∷ late) → (k : Moment early i late) → (b : ℕ) (v : ℤ) → OnlyPuts p b v → (Item v start → ⊥) → Item v k.so_far.took → (j : ℕ) → Took p j v → In j late → ⊥
+  not_taken_behind early i late run k b v only fresh h j took there =
+      let at = in_place j late there in
+      let goes : Legal p (Queue k.so_far.rest) ((i ∷ at.0) ++ j ∷ at.1) k.end = subst (λ (l : List ℕ). Legal p (Queue k.so_far.rest) (i ∷ l) k.end) at.2 k.goes_on in
+      let two = legal_split (i ∷ at.0) (j ∷ at.1) (Queue k.so_far.rest) k.end goes in
+      let more = fifo (i ∷ at.0) k.so_far.rest two.0 two.1 in
+      let last : Legal p (Queue more.rest) (j ∷ at.1) k.end = subst (λ (s : ObjState). Legal p s (j ∷ at.1) k.end) more.ends two.2 in
+      let answer = replied more.rest last.0 j took.0 took.3.0 (Int v) took.1 took.2 took.3.1 last.1 in
+      let front = queue_answered more.rest last.0 v answer in
+      let left : Item v (k.so_far.rest ++ puts (i ∷ at.0)) = subst (λ (l : List ℤ). Item v l) (sym more.same) (Item_late v more.took more.rest (subst (λ (l : List ℤ). Item v l) (sym front.1) (inl refl))) in
+      let all : start ++ puts (early ++ i ∷ at.0) ≡ k.so_far.took ++ (k.so_far.rest ++ puts (i ∷ at.0)) =
+      ap (λ (l : List ℤ). start ++ l) (puts_joined early (i ∷ at.0))
+      ∙ sym (append_assoc start (puts early) (puts (i ∷ at.0)))
+      ∙ ap (λ (l : List ℤ). l ++ puts (i ∷ at.0)) k.so_far.same
+      ∙ append_assoc k.so_far.took k.so_far.rest (puts (i ∷ at.0)) in
+      let shape : early ++ i ∷ late ≡ (early ++ i ∷ at.0) ++ j ∷ at.1 = ap (λ (l : List ℕ). early ++ i ∷ l) at.2 ∙ sym (append_assoc early (i ∷ at.0) (j ∷ at.1)) in
+      let distinct : IsDistinct (early ++ i ∷ at.0) = distinct_early (early ++ i ∷ at.0) (j ∷ at.1) (subst IsDistinct shape run.distinct) in
+      once (early ++ i ∷ at.0) b v k.so_far.took (k.so_far.rest ++ puts (i ∷ at.0)) distinct only fresh all h left
+
   -- an item that is not taken before a call is not among what came out before it
   none_taken : (early : List ℕ) (i : ℕ) (late : List ℕ) → IsLinearization p (early ++ i ∷ late) → (k : Moment early i late) → (b : ℕ) (v : ℤ) → IsTakenAfter p start i b v → Item v k.so_far.took → ⊥
   none_taken early i late whole k b v after_it h = elim after_it [
     | inl all ↦ (let t = k.so_far.taker v h in not_before early i late run t.0 (all t.0 t.2) t.1)
-    | inr one ↦ taken_once one.0 one.1 one.2.0 one.2.1 one.2.2 (place one.2.0 one.2.1 one.2.2)
+    | inr one ↦ not_taken_behind early i late run k b v one.0 one.1 h one.2.0 one.2.1 (place one.2.0 one.2.1 one.2.2)
   ]
     where
       run : IsRun p (early ++ i ∷ late)
@@ -372,25 +392,6 @@ module _ {p : Problem ObjState Op Reply} {start : List ℤ} (of_queue : IsOfQueu
           | inr (inr r) ↦ r
         ]
       ]
-
-      taken_once : OnlyPuts p b v → (Item v start → ⊥) → (j : ℕ) → Took p j v → Before p i j → In j late → ⊥
-      taken_once only fresh j took before there =
-          let at = in_place j late there in
-          let goes : Legal p (Queue k.so_far.rest) ((i ∷ at.0) ++ j ∷ at.1) k.end = subst (λ (l : List ℕ). Legal p (Queue k.so_far.rest) (i ∷ l) k.end) at.2 k.goes_on in
-          let two = legal_split (i ∷ at.0) (j ∷ at.1) (Queue k.so_far.rest) k.end goes in
-          let more = fifo (i ∷ at.0) k.so_far.rest two.0 two.1 in
-          let last : Legal p (Queue more.rest) (j ∷ at.1) k.end = subst (λ (s : ObjState). Legal p s (j ∷ at.1) k.end) more.ends two.2 in
-          let answer = replied more.rest last.0 j took.0 took.3.0 (Int v) took.1 took.2 took.3.1 last.1 in
-          let front = queue_answered more.rest last.0 v answer in
-          let left : Item v (k.so_far.rest ++ puts (i ∷ at.0)) = subst (λ (l : List ℤ). Item v l) (sym more.same) (Item_late v more.took more.rest (subst (λ (l : List ℤ). Item v l) (sym front.1) (inl refl))) in
-          let all : start ++ puts (early ++ i ∷ at.0) ≡ k.so_far.took ++ (k.so_far.rest ++ puts (i ∷ at.0)) =
-          ap (λ (l : List ℤ). start ++ l) (puts_joined early (i ∷ at.0))
-          ∙ sym (append_assoc start (puts early) (puts (i ∷ at.0)))
-          ∙ ap (λ (l : List ℤ). l ++ puts (i ∷ at.0)) k.so_far.same
-          ∙ append_assoc k.so_far.took k.so_far.rest (puts (i ∷ at.0)) in
-          let shape : early ++ i ∷ late ≡ (early ++ i ∷ at.0) ++ j ∷ at.1 = ap (λ (l : List ℕ). early ++ i ∷ l) at.2 ∙ sym (append_assoc early (i ∷ at.0) (j ∷ at.1)) in
-          let distinct : IsDistinct (early ++ i ∷ at.0) = distinct_early (early ++ i ∷ at.0) (j ∷ at.1) (subst IsDistinct shape run.distinct) in
-          once (early ++ i ∷ at.0) b v k.so_far.took (k.so_far.rest ++ puts (i ∷ at.0)) distinct only fresh all h left
 
   -- what was taken before another item could be went in before it
   pub queue_needs_item : (a b i : ℕ) (v w : ℤ) → a ≢ b → OnlyPuts p a w → (Item w start → ⊥) → Took p i w → Puts p b v → IsTakenAfter p start i b v → Needs p a b
@@ -419,7 +420,7 @@ module _ {p : Problem ObjState Op Reply} {start : List ℤ} (of_queue : IsOfQueu
             )
       ]
 
-  not_both : (c d : ℕ) (v : ℤ) → FoundEmpty p c → Puts p d v → c ≢ d
+  pub not_both : (c d : ℕ) (v : ℤ) → FoundEmpty p c → Puts p d v → c ≢ d
   not_both c d v found put e =
       let f : slice_get p.calls d ≡ Some found.0 = subst (λ (n : ℕ). slice_get p.calls n ≡ Some found.0) e found.1 in
       let g : found.0 ≡ put.0 = (let h = put.1 in cc) in

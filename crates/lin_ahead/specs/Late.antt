@@ -1,4 +1,5 @@
--- Pushes that are too late on a stack, by rows of numbers of the calls (this project's own).
+-- Pushes that are too late on a stack, and enqueues on a queue, by rows of numbers of the calls (this project's own). What is said of a
+-- push and of pops is meant of an enqueue and of dequeues, too.
 use Rattle.std.specs.Prelude.{◌≡◌, ℕ, ◌<◌, Bool, true, false, Some, List, [], ◌∷◌, ◌++◌, ◌⊎◌, slice_get}
 use Rattle.lin_object.specs.declared.op.Op.{Op}
 use Rattle.lin_object.specs.declared.reply.Reply.{Reply}
@@ -20,7 +21,7 @@ ReturnsOutside {State} {Op} {Reply} p set c m = (has set c ≡ false) × ((x : P
 abbrev pub IsPoppedAfter : LateRows → ℕ → ℕ → Type 0
 IsPoppedAfter late c m = (n : ℕ) × (slice_get late.from.items c ≡ Some n) × (m < n)
 
--- A chain of pushes that must lie above push b, the last of them first: it was returned from before the call was called that pops
+-- A chain of pushes that must lie above push b, or of enqueues whose items must be out before the same call, the last of them first: it was returned from before the call was called that pops
 -- the item of the one before, and the call that pops its own item was called after the event.
 abbrev pub LeadsBeyond : {State Op Reply : Type 0} → Problem State Op Reply → LateRows → List Bool → ℕ → List ℕ → ℕ → Type 0
 LeadsBeyond p late set b [] m = IsPoppedAfter late b m

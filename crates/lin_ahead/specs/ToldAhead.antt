@@ -3,13 +3,15 @@ use Rattle.std.specs.Prelude.{◌≡◌, ℕ, ◌+◌, ◌<◌, ◌≤◌, ◌^�
 use Rattle.lin_object.specs.declared.op.Op.{Op}
 use Rattle.lin_object.specs.declared.op.Op.TheVariants.{Enqueue, Dequeue}
 use Rattle.lin_object.specs.declared.reply.Reply.{Reply}
-use Rattle.lin_object.specs.declared.reply.Reply.TheVariants.{Int}
+use Rattle.lin_object.specs.declared.reply.Reply.TheVariants.{Int, Empty}
 use Rattle.lin_object.specs.declared.state.ObjState.{ObjState}
 use Rattle.lin_history.specs.declared.problems.problem.ProblemCall.{ProblemCall}
 use Rattle.lin_history.specs.Problems.Problem.{Problem}
 use Rattle.lin_ahead.specs.declared.item_calls.ItemCalls.{ItemCalls}
 use Rattle.lin_ahead.specs.declared.look_ahead.KnownAhead.{KnownAhead}
-use Rattle.lin_ahead.specs.ItemCalls.{goes_in_once}
+use Rattle.lin_ahead.specs.declared.late_pushes.LateRows.{LateRows}
+use Rattle.lin_ahead.specs.ItemCalls.{goes_in_once, told, least_pending}
+use Rattle.lin_ahead.specs.CallNumbers.{from_row}
 use Rattle.lin_ahead.specs.Numbers.{CalledFrom, AreNumbers}
 use Rattle.lin_ahead.specs.Queue.{Puts, Took, OnlyPuts}
 
@@ -41,6 +43,22 @@ abbrev pub takers_from : ℕ → List (ProblemCall Op Reply) → List ℕ
 takers_from n [] = []
 takers_from n (c ∷ cs) = if is_taker c.op c.returned then n ∷ takers_from (n + 1) cs else takers_from (n + 1) cs
 
+-- The call returned as it found the queue empty.
+abbrev pub queue_empty : Op → Option (ℕ × Reply) → Bool
+queue_empty Dequeue (Some (number, Empty)) = true
+queue_empty op returned = false
+
+-- Whether each call did.
+abbrev pub queue_empty_row : List (ProblemCall Op Reply) → List Bool
+queue_empty_row calls = map (λ c. queue_empty c.op c.returned) calls
+
+-- What is known of the calls by which enqueues are too late: the first event at which a call was called that may take the item of
+-- an enqueue, and which calls found the queue empty.
+pub record AreLateEnqueues (calls : List (ProblemCall Op Reply)) (late : LateRows) : Type 0 where
+  pub from : late.from.items ≡ from_row (told calls) (least_pending calls) calls
+  pub poppers : late.poppers.items ≡ []
+  pub found_empty : late.found_empty.items ≡ queue_empty_row calls
+
 module _ (p : Problem ObjState Op Reply) where
   -- No two calls put the item in.
   abbrev pub PutOnce : ℤ → Type 0
@@ -68,3 +86,5 @@ pub record IsToldAhead (p : Problem ObjState Op Reply) (ahead : KnownAhead) : Ty
   pub takers : (i c : ℕ) → slice_get ahead.takers.items i ≡ Some c → IsTaker p c
   pub every_taker : (c : ℕ) → IsTaker p c → (i : ℕ) × (slice_get ahead.takers.items i ≡ Some c)
   pub rising_takers : (i j c d : ℕ) → slice_get ahead.takers.items i ≡ Some c → slice_get ahead.takers.items j ≡ Some d → i < j → c < d
+  -- The numbers by which enqueues are too late are those of the calls.
+  pub late : AreLateEnqueues p.calls ahead.late

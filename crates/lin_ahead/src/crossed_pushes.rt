@@ -9,9 +9,9 @@ ghost use Rattle.lin_ahead.specs.Numbers.{ReturnsAt};
 ghost use Rattle.lin_ahead.specs.Late.{IsPoppedAfter, FindsUnder, IsCrossed};
 
 use crate::item_calls::BEYOND;
+use crate::late_hints::returned_at;
 use crate::late_pushes::{LateRows, popped_from};
 use crate::look_ahead::KnownAhead;
-use crate::stack_hints::returned_at;
 use crate::sum_tree::SumTree;
 use crate::takers::is_before;
 use lin_history::{Problem, ProblemEvent};
@@ -268,7 +268,7 @@ pub fn some_push_crosses(
     ensures { IfOk result (λ found. IsTrue found
         → (l : List ℕ) → IsLinearization (any_problem problem.now) l → ⊥) }
 {
-    if ahead.late.from.is_empty() {
+    if ahead.late.poppers.is_empty() {
         return Ok(false);
     }
     match find_crossing(alloc, problem, &ahead.late)? {

@@ -176,7 +176,7 @@ impl<'p> FirstSearch<'p> {
         }
     }
 
-    // Whether the call is known to be a push that is too late.
+    // Whether the call is known to be a push or an enqueue that is too late.
     fn comes_too_late(&self, ahead: &KnownAhead, call: usize) -> bool
         requires ahead { IsRightAhead (any_problem
             self.now.path.entries.problem) ahead.now }
@@ -206,8 +206,8 @@ impl<'p> FirstSearch<'p> {
         is_over(problem, &ahead.sums, &self.sums, self.path.config(), call)
     }
 
-    // Whether the call, which is minimal, is known to begin no completion: it needs one that is not lifted, is a push that is
-    // too late, adds more than a `get` has room for, or would take a reply that is owed to another.
+    // Whether the call, which is minimal, is known to begin no completion: it needs one that is not lifted, is a push or an enqueue
+    // that is too late, adds more than a `get` has room for, or would take a reply that is owed to another.
     fn begins_none(&self, ahead: &KnownAhead, call: usize) -> Result<bool, AllocError>
         requires ahead { IsRightAhead (any_problem
             self.now.path.entries.problem) ahead.now }
@@ -591,7 +591,8 @@ fn hints_of(
 
 /// The search from the root that only asks whether there is a linearization, and for the least one (this project's
 /// own). It makes at most so many lifts. It passes over each call that repeats one which is not lifted, each pending one behind a
-/// completed one of its operation that can follow, and each that needs one which is not lifted, before a state is made; each push that is known to be too late, each pending call
+/// completed one of its operation that can follow, and each that needs one which is not lifted, before a state is made; each push
+/// or enqueue that is known to be too late, each pending call
 /// that would get a reply which is owed to another, and each call that leaves too few dequeues or pops for what must be taken
 /// out of a queue or off a stack. After a call that changes nothing it tries no other. It keeps of a refuted configuration only
 /// that it is refuted. So it may meet far fewer configurations than `search`, and what it keeps is of no use to that one.

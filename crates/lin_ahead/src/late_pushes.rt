@@ -1,25 +1,27 @@
-//! Pushes that are too late: their items would still lie on the stack when a call is made that has to find what is under them.
+//! Pushes that are too late: their items would still lie on the stack when a call is made that has to find what is under them. So
+//! it is with an enqueue, and a call that has to find the queue empty.
 
 ghost use Rattle.std.specs.Prelude.{◌≡◌, ◌⊎◌, [], true, Some, slice_get, IfSome, IsTrue};
 ghost use Rattle.lin_history.specs.Problems.Continuations.{has};
 ghost use Rattle.lin_history.specs.Problems.Problem.{problem_of};
 ghost use Rattle.lin_ahead.specs.Late.{ReturnsOutside, Grows, IsHeldTo, IsDeadline, IsLate};
 
+use crate::late_hints::LateHints;
 use crate::stack_hints::StackHints;
 use lin_history::Problem;
 use lin_object::SeqObject;
 use lin_search::Config;
 use std::alloc::Global;
 
-/// What is known ahead of each call on a stack, by which a search finds pushes that are too late. All three are empty where
-/// nothing is known.
+/// What is known ahead of each call on a stack or a queue, by which a search finds pushes or enqueues that are too late. All three
+/// are empty where nothing is known.
 #[derive(Debug, Drop)]
 pub struct LateRows {
-    /// Of a push: the call that pops its item was called at this event or later. 0 of another call.
+    /// Of a push or an enqueue: the call that takes its item was called at this event or later. 0 of another call.
     pub from: Vec<u64>,
-    /// Of a push whose item no other call pushes: a call that returned with it, where one did.
+    /// Of a push whose item no other call pushes: a call that returned with it, where one did. Empty of a queue.
     pub poppers: Vec<Option<usize>>,
-    /// Whether the call returned as it found the stack empty.
+    /// Whether the call returned as it found the stack or the queue empty.
     pub found_empty: Vec<bool>,
 }
 
@@ -101,11 +103,11 @@ fn lowest_popped_at<O: SeqObject>(
     }
 }
 
-// When the first call returned that found the stack empty and is not lifted.
+// When the first call returned that found the stack or the queue empty and is not lifted.
 fn empty_at<O: SeqObject>(
     problem: &Problem<O>,
     late: &LateRows,
-    hints: &StackHints,
+    hints: &LateHints,
     config: &Config<O>,
     push: usize,
 ) -> Option<u64>
@@ -143,7 +145,7 @@ fn deadline_of<O: SeqObject>(
 {
     let own = popped_at(problem, late, config, push, push);
     let lowest = lowest_popped_at(problem, late, hints, config, push);
-    let empty = empty_at(problem, late, hints, config, push);
+    let empty = empty_at(problem, late, hints.late(), config, push);
     earlier(own, earlier(lowest, empty))
 }
 
@@ -188,11 +190,12 @@ pub(crate) fn popped_from(late: &LateRows, push: usize) -> u64
     }
 }
 
-// The event to which the push is held by the pushes that must lie above it; no more is asked once that is beyond the deadline.
+// The event to which the push is held by the pushes that must lie above it, and an enqueue by those whose items must be out before
+// the same call; no more is asked where no chain leads beyond the deadline, or once one does.
 fn held_to<O: SeqObject>(
     problem: &Problem<O>,
     late: &LateRows,
-    hints: &StackHints,
+    hints: &LateHints,
     config: &Config<O>,
     push: usize,
     deadline: u64,
@@ -201,11 +204,14 @@ fn held_to<O: SeqObject>(
         config.now.lifted push result }
 {
     let mut held = popped_from(late, push);
+    if hints.end(push) <= deadline {
+        return held;
+    }
     for count in 0..problem.len() {
         if deadline < held {
             return held;
         }
-        let Some(other) = hints.push_ahead(count) else {
+        let Some(other) = hints.putter_ahead(count) else {
             return held;
         };
         held = held_with(problem, late, config, held, other);
@@ -216,7 +222,7 @@ fn held_to<O: SeqObject>(
     held
 }
 
-// Whether the call is a push that is known to be too late at the configuration.
+// Whether the call is a push or an enqueue that is known to be too late at the configuration.
 pub(crate) fn is_late<O: SeqObject>(
     problem: &Problem<O>,
     late: &LateRows,
@@ -230,6 +236,6 @@ pub(crate) fn is_late<O: SeqObject>(
     let Some(deadline) = deadline_of(problem, late, hints, config, call) else {
         return false;
     };
-    let held = held_to(problem, late, hints, config, call, deadline);
+    let held = held_to(problem, late, hints.late(), config, call, deadline);
     deadline < held
 }

@@ -7,7 +7,8 @@
 //!   it returned and were called; `each_value`: the same of each value, by one pass; `value_rows`: the rows of a register;
 //!   `needed_pairs`: two calls that need each other; `call_values`: the values of each call by numbers.
 //! - `key_value`: the calls of a map on one key, as calls of a register that holds the key's value.
-//! - `stack_rows`: the rows of a stack, whose calls are read as those on a queue.
+//! - `stack_rows`: the rows of a stack, whose calls are read as those on a queue; `late_enqueues`: rows of a queue by which enqueues
+//!   are too late.
 //! - `sum_rows`: the limits of a counter's `get`s, by one pass over the events for each sum.
 //! - `look_ahead`: what is known ahead of a whole problem; `impossible_items`: items that a call returned with before any call
 //!   put them there; `taken_twice`: items that two calls returned with, though one put them there; `crossed_pushes`: items that
@@ -15,7 +16,8 @@
 //! - `first_search`: a search that passes over calls that need one left out, that would take a reply which is owed to
 //!   another, that are too late, that would change a state which is held, or that leave too few takers; `needed_calls`: the calls by how early they are needed;
 //!   `owed_replies`: the replies that are owed; `calls_in_turn`: calls in an order, and the first that is not lifted;
-//!   `late_pushes`: pushes that are too late, by the pushes that must lie above them; `stack_hints`: which of those to ask of;
+//!   `late_pushes`: pushes that are too late, by the pushes that must lie above them, and enqueues that are too late for a call that
+//!   found the queue empty; `late_hints`, `stack_hints`: which of those to ask of;
 //!   `sums`: adds that are too much for a `get` of a counter; `sum_hints`: which `get` to ask of, and which calls to count;
 //!   `sum_tree`: the room that each `get` leaves;
 //!   `takers`: calls that leave too few dequeues for what must be taken out of a queue; `stack_takers`: the same of pops and a
@@ -38,6 +40,8 @@ mod identical_calls;
 mod impossible_items;
 mod item_calls;
 mod key_value;
+mod late_enqueues;
+mod late_hints;
 mod late_pushes;
 mod look_ahead;
 mod needed_calls;

@@ -8,7 +8,7 @@ ghost use Rattle.lin_object.specs.declared.state.ObjState.TheVariants.{Queue, Re
 ghost use Rattle.lin_ahead.specs.ItemCalls.{told, told_in, least_pending};
 ghost use Rattle.lin_ahead.specs.CallNumbers.{by_row, from_row};
 ghost use Rattle.lin_ahead.specs.Behind.{IsRightAhead};
-ghost use Rattle.lin_ahead.specs.ToldAhead.{once_row, taken_row, takers_from, IsToldAhead};
+ghost use Rattle.lin_ahead.specs.ToldAhead.{once_row, taken_row, takers_from, AreLateEnqueues, IsToldAhead};
 ghost use Rattle.lin_ahead.specs.ToldOfRegister.{IsToldOfRegister};
 ghost use Rattle.lin_ahead.specs.declared.key_value.TheConstants.{NOTHING};
 ghost use Rattle.lin_ahead.specs.KeyValue.{call_on_value, of_one_key, on_value, AreRowsOf};
@@ -21,6 +21,7 @@ use crate::call_values::ValueNumbers;
 use crate::each_item::told_by_calls;
 use crate::item_calls::{ItemCalls, least_pending};
 use crate::key_value::{NOTHING, calls_on_value, of_one_key};
+use crate::late_enqueues::late_enqueues;
 use crate::late_pushes::LateRows;
 use crate::numbers::{by_of, from_of, is_taker, taken_of, took_once};
 use crate::stack_rows::told_of_stack;
@@ -143,7 +144,7 @@ pub struct KnownAhead {
     pub in_vain: bool,
     /// The values of each call, by which a search finds one that has this flag.
     pub values: ValueNumbers,
-    /// What is known of each call on a stack, by which a search finds pushes that are too late.
+    /// What is known of each call on a stack or a queue, by which a search finds pushes or enqueues that are too late.
     pub late: LateRows,
     /// What is known of each call on a counter, by which a search finds adds that are too much.
     pub sums: SumRows,
@@ -177,7 +178,7 @@ fn told_of_queue(alloc: Global, calls: &[ProblemCall<Op, Reply>]) -> Result<Know
         ≡ once_row (told calls.now) calls.now) }
     ensures held { IfOk result (λ ahead. ahead.held.items ≡ []) }
     ensures in_vain { IfOk result (λ ahead. ahead.in_vain ≡ false) }
-    ensures late { IfOk result (λ ahead. ahead.late.from.items ≡ []) }
+    ensures late { IfOk result (λ ahead. AreLateEnqueues calls.now ahead.late) }
     ensures sums { IfOk result (λ ahead. AreNoLimits ahead.sums) }
     ensures items { IfOk result (λ ahead. (v : ℤ)
         → told_in (get int_eq ahead.items) v ≡ told calls.now v) }
@@ -185,6 +186,7 @@ fn told_of_queue(alloc: Global, calls: &[ProblemCall<Op, Reply>]) -> Result<Know
     let items = told_by_calls(alloc, calls)?;
     let by = by_row(alloc, &items, calls)?;
     let from = from_row(alloc, &items, calls)?;
+    let late = late_enqueues(alloc, from.as_slice(), calls)?;
     Ok(KnownAhead {
         needs: NeedRows::new(by, from),
         taken: taken_row(alloc, &items, calls)?,
@@ -195,7 +197,7 @@ fn told_of_queue(alloc: Global, calls: &[ProblemCall<Op, Reply>]) -> Result<Know
         held: Vec::new(alloc),
         in_vain: false,
         values: ValueNumbers::none(alloc),
-        late: LateRows::none(alloc),
+        late,
         sums: SumRows::none(alloc),
     })
 }

@@ -1,8 +1,8 @@
-//! What a search of a stack goes by: the pushes and the empty answers that are left, and what lies on the stack. All of it is a
-//! hint.
+//! What a search of a stack or a queue goes by: the calls that put an item in and the empty answers that are left, and what lies
+//! on the stack. All of it is a hint.
 
-use crate::calls_in_turn::CallsInTurn;
 use crate::item_calls::BEYOND;
+use crate::late_hints::{LateHints, putter_flags, returned_at};
 use crate::late_pushes::LateRows;
 use lin_history::Problem;
 use lin_object::SeqObject;
@@ -22,64 +22,15 @@ struct Lying {
     first_lost: Option<usize>,
 }
 
-/// The calls on a stack that are left, by their returns, and the pushes whose items lie on it.
+/// The calls that are left, by their returns, and of a stack the pushes whose items lie on it.
 #[derive(Drop)]
 pub(crate) struct StackHints {
-    pushes: CallsInTurn,
-    empties: CallsInTurn,
+    late: LateHints,
     is_push: Vec<bool>,
     lying: Vec<Lying>,
     // What lay on top before it, of each call that is lifted and no push.
     before: Vec<Option<usize>>,
     top: Option<usize>,
-}
-
-// A call, and when it returned.
-#[derive(Clone, Copy, Drop)]
-struct Returned {
-    event: u64,
-    call: usize,
-}
-
-/// When the call returned; beyond all events where it did not.
-pub(crate) fn returned_at<O: SeqObject>(problem: &Problem<O>, call: usize) -> u64 {
-    if call >= problem.len() {
-        return BEYOND;
-    }
-    match &problem.call(call).returned {
-        Some((number, _)) => u64::from(*number),
-        None => BEYOND,
-    }
-}
-
-// The completed calls with a flag, in the order of their returns.
-fn by_returns<O: SeqObject>(
-    alloc: Global,
-    problem: &Problem<O>,
-    flags: &[bool],
-) -> Result<CallsInTurn, AllocError> {
-    let mut returned = Vec::new(alloc);
-    for call in 0..flags.len() {
-        let event = returned_at(problem, call);
-        if flags[call] && event < BEYOND {
-            returned.push(Returned { event, call })?;
-        }
-    }
-    returned.sort_by_key(|one| one.event)?;
-    let mut order = Vec::with_capacity(alloc, returned.len())?;
-    for one in &returned {
-        order.push(one.call)?;
-    }
-    CallsInTurn::new(alloc, order, flags.len())
-}
-
-// For each call whether it is a push.
-fn push_flags(alloc: Global, late: &LateRows) -> Result<Vec<bool>, AllocError> {
-    let mut flags = Vec::with_capacity(alloc, late.from.len())?;
-    for from in &late.from {
-        flags.push(0 < *from)?;
-    }
-    Ok(flags)
 }
 
 // Each push before any is lifted.
@@ -105,21 +56,40 @@ fn lying_of<O: SeqObject>(
 }
 
 impl StackHints {
-    // Those of a problem none of whose calls is lifted.
+    // Those of a queue. Nothing lies on a stack.
+    fn of_queue(alloc: Global, late: LateHints) -> Self {
+        StackHints {
+            late,
+            is_push: Vec::new(alloc),
+            lying: Vec::new(alloc),
+            before: Vec::new(alloc),
+            top: None,
+        }
+    }
+
+    // Those of a problem none of whose calls is lifted. Of a queue no poppers are known.
     pub(crate) fn new<O: SeqObject>(
         alloc: Global,
         problem: &Problem<O>,
         late: &LateRows,
     ) -> Result<Self, AllocError> {
-        let is_push = push_flags(alloc, late)?;
+        let hints = LateHints::new(alloc, problem, late)?;
+        if late.poppers.is_empty() {
+            return Ok(StackHints::of_queue(alloc, hints));
+        }
+        let is_push = putter_flags(alloc, late)?;
         Ok(StackHints {
-            pushes: by_returns(alloc, problem, is_push.as_slice())?,
-            empties: by_returns(alloc, problem, late.found_empty.as_slice())?,
+            late: hints,
             lying: lying_of(alloc, problem, late)?,
             before: vec![in alloc; None; is_push.len()]?,
             is_push,
             top: None,
         })
+    }
+
+    // The calls that put an item in and the empty answers that are left.
+    pub(crate) fn late(&self) -> &LateHints {
+        &self.late
     }
 
     // When the item of the push is popped.
@@ -147,12 +117,7 @@ impl StackHints {
 
     // The first call that found the stack empty and is not lifted.
     pub(crate) fn first_empty(&self) -> Option<usize> {
-        self.empties.ahead(0)
-    }
-
-    // The completed push that is so many behind the first that is not lifted.
-    pub(crate) fn push_ahead(&self, count: usize) -> Option<usize> {
-        self.pushes.ahead(count)
+        self.late.first_empty()
     }
 
     // Puts the item of the push, which may be lost, on top.
@@ -207,8 +172,7 @@ impl StackHints {
             *before = self.top;
             self.top = self.under_top();
         }
-        self.pushes.lifted(config);
-        self.empties.lifted(config);
+        self.late.lifted(config);
     }
 
     // Goes back to before the call, which was taken out again.
@@ -218,7 +182,6 @@ impl StackHints {
         } else if let Some(before) = self.before.get(call) {
             self.top = *before;
         }
-        self.pushes.unlifted(call);
-        self.empties.unlifted(call);
+        self.late.unlifted(call);
     }
 }

@@ -15,13 +15,13 @@ pub returns-in_ok-told_of_queue-in-Queue-clause-right :
 returns-in_ok-told_of_queue-in-Queue-clause-right c =
     let start : c.args.problem.now.start ≡ Queue [] = search rules in
     let tells = c.in_ok-told_of_queue-in-Queue.ensures in
-    is_right c.args.problem.now start c.calls-calls.ensures.timed _ (rw c.calls-calls.ensures.calls at tells.by) (rw c.calls-calls.ensures.calls at tells.from) (rw c.calls-calls.ensures.calls at tells.taken) (rw c.calls-calls.ensures.calls at tells.takers) (rw c.calls-calls.ensures.calls at tells.owed) tells.held tells.in_vain tells.late tells.sums (rw c.calls-calls.ensures.calls at tells.items)
+    is_right c.args.problem.now start c.calls-calls.ensures.timed _ (rw c.calls-calls.ensures.calls at tells.by) (rw c.calls-calls.ensures.calls at tells.from) (rw c.calls-calls.ensures.calls at tells.taken) (rw c.calls-calls.ensures.calls at tells.takers) (rw c.calls-calls.ensures.calls at tells.owed) tells.held tells.in_vain (rw c.calls-calls.ensures.calls at tells.late) tells.sums (rw c.calls-calls.ensures.calls at tells.items)
 
 pub returns-in_ok-told_of_queue-in-Queue-clause-told :
     goal.returns-in_ok-told_of_queue-in-Queue-clause-told
 returns-in_ok-told_of_queue-in-Queue-clause-told c = λ start.
     (let tells = c.in_ok-told_of_queue-in-Queue.ensures in
-    is_told (any_problem c.args.problem.now) c.calls-calls.ensures.timed _ (rw c.calls-calls.ensures.calls at tells.by) (rw c.calls-calls.ensures.calls at tells.from) (rw c.calls-calls.ensures.calls at tells.taken) (rw c.calls-calls.ensures.calls at tells.takers) (rw c.calls-calls.ensures.calls at tells.owed))
+    is_told (any_problem c.args.problem.now) c.calls-calls.ensures.timed _ (rw c.calls-calls.ensures.calls at tells.by) (rw c.calls-calls.ensures.calls at tells.from) (rw c.calls-calls.ensures.calls at tells.taken) (rw c.calls-calls.ensures.calls at tells.takers) (rw c.calls-calls.ensures.calls at tells.owed) (rw c.calls-calls.ensures.calls at tells.late))
 
 pub returns-in_ok-told_of_register-in-Register-clause-right :
     goal.returns-in_ok-told_of_register-in-Register-clause-right

@@ -18,3 +18,10 @@ returns-clause-taken c = c.in_ok-taken_row.ensures ∙ told_row taken_row _ _ _ 
 
 pub returns-clause-owed : goal.returns-clause-owed
 returns-clause-owed c = c.in_ok-once_row.ensures ∙ told_row once_row _ _ _ c.in_ok-items.ensures
+
+pub returns-clause-late : goal.returns-clause-late
+returns-clause-late c = record {
+  from = c.in_ok-late.ensures.from ∙ c.as_slice.ensures.value ∙ (c.in_ok-from.ensures ∙ told_row (λ told calls. from_row told (least_pending calls) calls) _ _ _ c.in_ok-items.ensures);
+  poppers = c.in_ok-late.ensures.poppers;
+  found_empty = c.in_ok-late.ensures.found_empty;
+}
