@@ -1,9 +1,8 @@
 //! The object that the checker judges histories by: it lists the steps of the kinds.
 ghost use Rattle.std.specs.Prelude.{◌≡◌, true, Some, None, IfOk, IfErr, IfSome, IfNone};
 ghost use Rattle.lin_object.specs.StepAnswers.{step_reply, step_state};
-ghost use Rattle.lin_object.specs.StepBacks.{LeadsBack};
-ghost use Rattle.lin_object.specs.Changes.{WasBefore};
-ghost use Rattle.lin_object.specs.declared.state.ObjState.{ObjState as State};
+ghost use Rattle.lin_object.specs.StepBacks.{state_before};
+ghost use Rattle.lin_object.specs.Changes.{undone};
 ghost use Rattle.lin_object.specs.declared.step_back.StepBack.TheVariants.{Changed};
 ghost use Rattle.lin_object.specs.Kinds.{after as step_of, holds_items};
 
@@ -37,7 +36,7 @@ fn reply_of(state: &ObjState, process: u32, op: &Op) -> Option<Reply>
 #[inline(always)]
 fn replaced(state: &mut ObjState, answer: Answer) -> Option<StepBack<ObjState>>
     ensures step { IfSome result (λ back. step_state answer ≡ Some state.new) }
-    ensures back { IfSome result (λ back. LeadsBack WasBefore back state.new state.old) }
+    ensures back { IfSome result (λ back. state_before undone back state.new ≡ state.old) }
     ensures none { IfNone result ((step_state answer ≡ None) × (state.new ≡ state.old)) }
 {
     match answer {
@@ -68,7 +67,7 @@ fn stepped(
     ensures step { IfOk result (λ answer. IfSome answer (λ back.
         step_state (step_of state.old process op.now) ≡ Some state.new)) }
     ensures back { IfOk result (λ answer. IfSome answer (λ back.
-        LeadsBack WasBefore back state.new state.old)) }
+        state_before undone back state.new ≡ state.old)) }
     ensures none { IfOk result (λ answer. IfNone answer (
         (step_state (step_of state.old process op.now) ≡ None) × (state.new ≡ state.old))) }
     ensures kept { IfErr result (λ _. state.new ≡ state.old) }
@@ -96,14 +95,14 @@ fn stepped(
 
 // Takes the change back.
 fn change_taken_back(state: &mut ObjState, change: Change) -> Result<(), AllocError>
-    ensures { IfOk result (λ done. (s : State) → WasBefore change state.old s → state.new ≡ s) }
+    ensures { IfOk result (λ done. state.new ≡ undone change state.old) }
 {
     match state {
         ObjState::Queue(items) => queue::take_back(items, change),
         ObjState::Stack(items) => stack::take_back(items, change),
         ObjState::Set(items) => set::take_back(items, change),
         ObjState::Map(pairs) => map::take_back(pairs, change),
-        _ => Ok(()),
+        _ => Err(AllocError),
     }
 }
 
@@ -135,7 +134,7 @@ impl SeqObject for AnyObject {
     ghost use Rattle.lin_object.specs.contracts.state.ObjStatePartialEq.TheImpl.{eq-value as state_eq};
     ghost use Rattle.lin_object.specs.StepAnswers.{IgnoresProcess, ChangesNothing};
     ghost use Rattle.lin_object.specs.StepTables.{looks_at_process, changes_nothing};
-    ghost use Rattle.lin_object.specs.Changes.{WasBefore};
+    ghost use Rattle.lin_object.specs.Changes.{undone};
 
     type State = ObjState;
 
@@ -147,7 +146,7 @@ impl SeqObject for AnyObject {
 
     ghost may_allocate = { holds_items };
 
-    ghost was_before = { λ change t s. WasBefore change t s };
+    ghost undone = { λ change t. undone change t };
 
     #[inline(always)]
     fn step(

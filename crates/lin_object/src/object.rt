@@ -1,7 +1,7 @@
 //! What a sequential object is: the trait that the search is generic over, with its laws.
 ghost use Rattle.std.specs.Prelude.{◌≡◌, ℕ, Bool, true, Option, Some, None, IfOk, IfErr, IfSome, IfNone, IsTrue};
 ghost use Rattle.lin_object.specs.StepAnswers.{SameStep, fits, state_with, state_if_fits, IgnoresProcess, ChangesNothing};
-ghost use Rattle.lin_object.specs.StepBacks.{LeadsBack, IsTakenBack};
+ghost use Rattle.lin_object.specs.StepBacks.{state_before};
 ghost use Rattle.lin_object.specs.declared.step_back.Change.{Change};
 ghost use Rattle.lin_object.specs.Laws.{IsLawful};
 
@@ -41,8 +41,8 @@ pub trait SeqObject: Eq + Drop {
     // say, each may.
     ghost may_allocate: { Self.State → Bool } = { λ _. true };
 
-    // Which state a change led to which other from: the state after it comes first. Where an object does not say, none.
-    ghost was_before: { Change → Self.State → Self.State → Type 0 } = { λ _ _ _. ⊥ };
+    // The state before a change that led to this one. Where an object does not say, it is the same.
+    ghost undone: { Change → Self.State → Self.State } = { λ _ t. t };
 
     /// Applies an operation of a process to a state: the next state and the reply, or `None` where the
     /// object has no step. `AllocError` where memory for the next state was refused.
@@ -100,7 +100,7 @@ pub trait SeqObject: Eq + Drop {
             state_if_fits Self.Reply.eq returned.now (after self.now state.old process op.now)
             ≡ Some state.new)) }
         ensures back { IfOk result (λ answer. IfSome answer (λ back.
-            LeadsBack was_before back state.new state.old)) }
+            state_before undone back state.new ≡ state.old)) }
         ensures none { IfOk result (λ answer. IfNone answer (
             (state_if_fits Self.Reply.eq returned.now (after self.now state.old process op.now) ≡ None)
             × (state.new ≡ state.old))) }
@@ -123,7 +123,7 @@ pub trait SeqObject: Eq + Drop {
         state: &mut Self::State,
         back: &mut StepBack<Self::State>,
     ) -> Result<(), AllocError>
-        ensures { IfOk result (λ done. IsTakenBack was_before back.old state.old state.new) }
+        ensures { IfOk result (λ done. state.new ≡ state_before undone back.old state.old) }
     {
         match back {
             StepBack::Before(before) => {

@@ -2,10 +2,9 @@
 ghost use Rattle.std.specs.Prelude.{◌≡◌, is_some, Some, None, IfOk, IfErr, IfSome, IfNone};
 ghost use Rattle.lin_object.specs.Names.{beside, made_of};
 ghost use Rattle.lin_object.specs.StepAnswers.{step_reply, step_state};
-ghost use Rattle.lin_object.specs.StepBacks.{LeadsBack};
+ghost use Rattle.lin_object.specs.StepBacks.{state_before};
 ghost use Rattle.lin_object.specs.declared.op.Op.TheVariants.{Put, Delete};
-ghost use Rattle.lin_object.specs.Changes.{WasBefore};
-ghost use Rattle.lin_object.specs.declared.state.ObjState.{ObjState as State};
+ghost use Rattle.lin_object.specs.Changes.{undone};
 ghost use Rattle.lin_object.specs.declared.state.ObjState.TheVariants.{Map};
 ghost use Rattle.lin_object.specs.Kinds.Map.{map_operations, map_step, MapLaw};
 ghost use Rattle.lin_object.specs.Kinds.{after};
@@ -74,7 +73,7 @@ pub(crate) fn reply(pairs: &Pairs, op: &Op) -> Option<Reply>
 // Gives the key the value, in the pairs themselves: what takes that back.
 fn put_in_place(pairs: &mut Pairs, key: i64, value: i64) -> Result<StepBack<ObjState>, AllocError>
     ensures step { IfOk result (λ back. step_state (map_step pairs.old (Put key value)) ≡ Some (Map pairs.new)) }
-    ensures back { IfOk result (λ back. LeadsBack WasBefore back (Map pairs.new) (Map pairs.old)) }
+    ensures back { IfOk result (λ back. state_before undone back (Map pairs.new) ≡ Map pairs.old) }
     ensures kept { IfErr result (λ _. pairs.new ≡ pairs.old) }
 {
     let pair = Pair { key, value };
@@ -97,7 +96,7 @@ fn delete_in_place(
     key: i64,
 ) -> Result<StepBack<ObjState>, AllocError>
     ensures step { IfOk result (λ back. step_state (map_step pairs.old (Delete key)) ≡ Some (Map pairs.new)) }
-    ensures back { IfOk result (λ back. LeadsBack WasBefore back (Map pairs.new) (Map pairs.old)) }
+    ensures back { IfOk result (λ back. state_before undone back (Map pairs.new) ≡ Map pairs.old) }
     ensures kept { IfErr result (λ _. pairs.new ≡ pairs.old) }
 {
     if pairs.lacks(key) {
@@ -126,7 +125,7 @@ pub(crate) fn step_in_place(
     ensures step { IfOk result (λ answer. IfSome answer (λ back.
         step_state (map_step pairs.old op.now) ≡ Some (Map pairs.new))) }
     ensures back { IfOk result (λ answer. IfSome answer (λ back.
-        LeadsBack WasBefore back (Map pairs.new) (Map pairs.old))) }
+        state_before undone back (Map pairs.new) ≡ Map pairs.old)) }
     ensures none { IfOk result (λ answer. IfNone answer (
         (step_state (map_step pairs.old op.now) ≡ None) × (pairs.new ≡ pairs.old))) }
     ensures kept { IfErr result (λ _. pairs.new ≡ pairs.old) }
@@ -139,9 +138,10 @@ pub(crate) fn step_in_place(
     }
 }
 
-/// Takes the change of a map back. No memory is asked for: `AllocError` where there is no room for a pair.
+/// Takes the change of a map back. No memory is asked for: `AllocError` where there is no room for a pair, or the
+/// change is none of its kind's.
 pub(crate) fn take_back(pairs: &mut Pairs, change: Change) -> Result<(), AllocError>
-    ensures { IfOk result (λ done. (s : State) → WasBefore change (Map pairs.old) s → Map pairs.new ≡ s) }
+    ensures { IfOk result (λ done. Map pairs.new ≡ undone change (Map pairs.old)) }
 {
     match change {
         Change::PutPair(place) if place < pairs.count() => {
@@ -153,7 +153,8 @@ pub(crate) fn take_back(pairs: &mut Pairs, change: Change) -> Result<(), AllocEr
             Ok(())
         }
         Change::TookPair(place, pair) if place <= pairs.count() => pairs.put_in_again(place, pair),
-        _ => Ok(()),
+        Change::Nothing => Ok(()),
+        _ => Err(AllocError),
     }
 }
 

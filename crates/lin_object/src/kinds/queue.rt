@@ -4,8 +4,7 @@ ghost use Rattle.lin_object.specs.Names.{beside, made_of};
 ghost use Rattle.lin_object.specs.StepAnswers.{step_reply, step_state};
 ghost use Rattle.lin_object.specs.Kinds.Queue.{queue_operations, queue_step, QueueLaw};
 ghost use Rattle.lin_object.specs.Kinds.{after};
-ghost use Rattle.lin_object.specs.Changes.{WasBefore};
-ghost use Rattle.lin_object.specs.declared.state.ObjState.{ObjState as State};
+ghost use Rattle.lin_object.specs.Changes.{undone};
 ghost use Rattle.lin_object.specs.declared.state.ObjState.TheVariants.{Queue};
 
 use crate::items::Items;
@@ -68,7 +67,7 @@ pub(crate) fn step_in_place(items: &mut Items, op: &Op) -> Result<Option<Change>
     ensures step { IfOk result (λ answer. IfSome answer (λ change.
         step_state (queue_step items.old op.now) ≡ Some (Queue items.new))) }
     ensures back { IfOk result (λ answer. IfSome answer (λ change.
-        WasBefore change (Queue items.new) (Queue items.old))) }
+        undone change (Queue items.new) ≡ Queue items.old)) }
     ensures none { IfOk result (λ answer. IfNone answer (
         (step_state (queue_step items.old op.now) ≡ None) × (items.new ≡ items.old))) }
     ensures kept { IfErr result (λ _. items.new ≡ items.old) }
@@ -89,9 +88,10 @@ pub(crate) fn step_in_place(items: &mut Items, op: &Op) -> Result<Option<Change>
     }
 }
 
-/// Takes the change of a queue back. No memory is asked for: `AllocError` where there is no room for an item.
+/// Takes the change of a queue back. No memory is asked for: `AllocError` where there is no room for an item, or the
+/// change is none of its kind's.
 pub(crate) fn take_back(items: &mut Items, change: Change) -> Result<(), AllocError>
-    ensures { IfOk result (λ done. (s : State) → WasBefore change (Queue items.old) s → Queue items.new ≡ s) }
+    ensures { IfOk result (λ done. Queue items.new ≡ undone change (Queue items.old)) }
 {
     match change {
         Change::PutLast => {
@@ -99,7 +99,8 @@ pub(crate) fn take_back(items: &mut Items, change: Change) -> Result<(), AllocEr
             Ok(())
         }
         Change::TookFirst(item) => items.put_first_again(item),
-        _ => Ok(()),
+        Change::Nothing => Ok(()),
+        _ => Err(AllocError),
     }
 }
 

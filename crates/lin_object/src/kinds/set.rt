@@ -2,9 +2,8 @@
 ghost use Rattle.std.specs.Prelude.{◌≡◌, is_some, Some, None, IfOk, IfErr, IfSome, IfNone};
 ghost use Rattle.lin_object.specs.Names.{beside, made_of};
 ghost use Rattle.lin_object.specs.StepAnswers.{step_reply, step_state};
-ghost use Rattle.lin_object.specs.StepBacks.{LeadsBack};
-ghost use Rattle.lin_object.specs.Changes.{WasBefore};
-ghost use Rattle.lin_object.specs.declared.state.ObjState.{ObjState as State};
+ghost use Rattle.lin_object.specs.StepBacks.{state_before};
+ghost use Rattle.lin_object.specs.Changes.{undone};
 ghost use Rattle.lin_object.specs.declared.state.ObjState.TheVariants.{Set};
 ghost use Rattle.lin_object.specs.Kinds.Set.{set_operations, set_step, SetLaw};
 ghost use Rattle.lin_object.specs.Kinds.{after};
@@ -91,7 +90,7 @@ pub(crate) fn reply(items: &Items, op: &Op) -> Option<Reply>
 // Puts the item in, in the items themselves: what takes that back.
 fn insert_in_place(items: &mut Items, item: i64) -> Result<StepBack<ObjState>, AllocError>
     ensures step { IfOk result (λ back. step_state (set_step items.old (Insert item)) ≡ Some (Set items.new)) }
-    ensures back { IfOk result (λ back. LeadsBack WasBefore back (Set items.new) (Set items.old)) }
+    ensures back { IfOk result (λ back. state_before undone back (Set items.new) ≡ Set items.old) }
     ensures kept { IfErr result (λ _. items.new ≡ items.old) }
 {
     if !items.has(item) {
@@ -109,7 +108,7 @@ fn remove_in_place(
     item: i64,
 ) -> Result<StepBack<ObjState>, AllocError>
     ensures step { IfOk result (λ back. step_state (set_step items.old (Remove item)) ≡ Some (Set items.new)) }
-    ensures back { IfOk result (λ back. LeadsBack WasBefore back (Set items.new) (Set items.old)) }
+    ensures back { IfOk result (λ back. state_before undone back (Set items.new) ≡ Set items.old) }
     ensures kept { IfErr result (λ _. items.new ≡ items.old) }
 {
     if !items.has(item) {
@@ -138,7 +137,7 @@ pub(crate) fn step_in_place(
     ensures step { IfOk result (λ answer. IfSome answer (λ back.
         step_state (set_step items.old op.now) ≡ Some (Set items.new))) }
     ensures back { IfOk result (λ answer. IfSome answer (λ back.
-        LeadsBack WasBefore back (Set items.new) (Set items.old))) }
+        state_before undone back (Set items.new) ≡ Set items.old)) }
     ensures none { IfOk result (λ answer. IfNone answer (
         (step_state (set_step items.old op.now) ≡ None) × (items.new ≡ items.old))) }
     ensures kept { IfErr result (λ _. items.new ≡ items.old) }
@@ -151,9 +150,10 @@ pub(crate) fn step_in_place(
     }
 }
 
-/// Takes the change of a set back. No memory is asked for: `AllocError` where there is no room for an item.
+/// Takes the change of a set back. No memory is asked for: `AllocError` where there is no room for an item, or the
+/// change is none of its kind's.
 pub(crate) fn take_back(items: &mut Items, change: Change) -> Result<(), AllocError>
-    ensures { IfOk result (λ done. (s : State) → WasBefore change (Set items.old) s → Set items.new ≡ s) }
+    ensures { IfOk result (λ done. Set items.new ≡ undone change (Set items.old)) }
 {
     match change {
         Change::PutItem(place) if place < items.count() => {
@@ -161,7 +161,8 @@ pub(crate) fn take_back(items: &mut Items, change: Change) -> Result<(), AllocEr
             Ok(())
         }
         Change::TookItem(place, item) if place <= items.count() => items.put_in_again(place, item),
-        _ => Ok(()),
+        Change::Nothing => Ok(()),
+        _ => Err(AllocError),
     }
 }
 

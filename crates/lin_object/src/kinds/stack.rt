@@ -4,8 +4,7 @@ ghost use Rattle.lin_object.specs.Names.{beside, made_of};
 ghost use Rattle.lin_object.specs.StepAnswers.{step_reply, step_state};
 ghost use Rattle.lin_object.specs.Kinds.Stack.{stack_operations, stack_step, StackLaw};
 ghost use Rattle.lin_object.specs.Kinds.{after};
-ghost use Rattle.lin_object.specs.Changes.{WasBefore};
-ghost use Rattle.lin_object.specs.declared.state.ObjState.{ObjState as State};
+ghost use Rattle.lin_object.specs.Changes.{undone};
 ghost use Rattle.lin_object.specs.declared.state.ObjState.TheVariants.{Stack};
 
 use crate::items::Items;
@@ -72,7 +71,7 @@ pub(crate) fn step_in_place(
     ensures step { IfOk result (λ answer. IfSome answer (λ change.
         step_state (stack_step items.old op.now) ≡ Some (Stack items.new))) }
     ensures back { IfOk result (λ answer. IfSome answer (λ change.
-        WasBefore change (Stack items.new) (Stack items.old))) }
+        undone change (Stack items.new) ≡ Stack items.old)) }
     ensures none { IfOk result (λ answer. IfNone answer (
         (step_state (stack_step items.old op.now) ≡ None) × (items.new ≡ items.old))) }
     ensures kept { IfErr result (λ _. items.new ≡ items.old) }
@@ -93,9 +92,10 @@ pub(crate) fn step_in_place(
     }
 }
 
-/// Takes the change of a stack back. No memory is asked for: `AllocError` where there is no room for an item.
+/// Takes the change of a stack back. No memory is asked for: `AllocError` where there is no room for an item, or the
+/// change is none of its kind's.
 pub(crate) fn take_back(items: &mut Items, change: Change) -> Result<(), AllocError>
-    ensures { IfOk result (λ done. (s : State) → WasBefore change (Stack items.old) s → Stack items.new ≡ s) }
+    ensures { IfOk result (λ done. Stack items.new ≡ undone change (Stack items.old)) }
 {
     match change {
         Change::PutFirst => {
@@ -103,7 +103,8 @@ pub(crate) fn take_back(items: &mut Items, change: Change) -> Result<(), AllocEr
             Ok(())
         }
         Change::TookFirst(item) => items.put_first_again(item),
-        _ => Ok(()),
+        Change::Nothing => Ok(()),
+        _ => Err(AllocError),
     }
 }
 

@@ -1,4 +1,4 @@
-use Rattle.std.proofs.Common.{rules, refl}
+use Rattle.std.proofs.Common.{rules}
 use Rattle.lin_object.proofs.EditLemmas.{set_there}
 use Rattle.lin_object.proofs.kinds.map.put_in_place.Goals as goal
 

@@ -1,4 +1,4 @@
-use Rattle.std.proofs.Common.{rules, refl}
+use Rattle.std.proofs.Common.{rules}
 use Rattle.std.specs.Ordering.{int_eq}
 use Rattle.lin_object.specs.declared.pairs.Pair.{Pair}
 use Rattle.lin_object.proofs.EditLemmas.{kept_all}

@@ -1,4 +1,4 @@
-use Rattle.std.proofs.Common.{rules, refl}
+use Rattle.std.proofs.Common.{rules}
 use Rattle.lin_object.proofs.EditLemmas.{removed_again, inserted_within}
 use Rattle.lin_object.proofs.pairs.Pairs.put_in.Goals as goal
 

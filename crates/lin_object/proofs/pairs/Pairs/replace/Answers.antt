@@ -1,4 +1,4 @@
-use Rattle.std.proofs.Common.{rules, refl}
+use Rattle.std.proofs.Common.{rules}
 use Rattle.lin_object.proofs.EditLemmas.{set_again}
 use Rattle.lin_object.proofs.pairs.Pairs.replace.Goals as goal
 

@@ -1,4 +1,4 @@
-use Rattle.std.proofs.Common.{rules, refl}
+use Rattle.std.proofs.Common.{rules}
 use Rattle.lin_object.proofs.EditLemmas.{inserted_again, removed_within}
 use Rattle.lin_object.proofs.pairs.Pairs.take_out.Goals as goal
 
