@@ -171,7 +171,10 @@ impl<'p> FirstSearch<'p> {
         lawful::<AnyObject>();
         let problem = self.path.problem();
         match pending_answer(self.alloc, problem, self.path.config(), call)? {
-            Some(reply) => Ok(is_owed(problem, ahead.owed.as_slice(), &self.owed, &reply)),
+            Some(reply) => {
+                let popper = self.stack.popper_of_top(&ahead.late);
+                Ok(is_owed(problem, ahead.owed.as_slice(), &self.owed, popper, &reply))
+            }
             None => Ok(false),
         }
     }
@@ -562,10 +565,11 @@ fn hints_of(
 
 /// The search from the root that only asks whether there is a linearization, and for the least one (this project's
 /// own). It makes at most so many lifts. It passes over each call that repeats one which is not lifted,
-/// and each that needs one which is not lifted, before a state is made; each push or enqueue that is known to be too late, each pending call
-/// that would get a reply which is owed to another, and each call that leaves too few dequeues or pops for what must be taken
-/// out of a queue or off a stack. After a call that changes nothing it tries no other. It keeps of a refuted configuration only
-/// that it is refuted. So it may meet far fewer configurations than `search`, and what it keeps is of no use to that one.
+/// and each that needs one which is not lifted, before a state is made; each push or enqueue that is known to be
+/// too late, each pending call that would get a reply which is owed to another, and each call that leaves too few dequeues or pops
+/// for what must be taken out of a queue or off a stack. After a call that changes nothing it tries no other. It keeps of a refuted
+/// configuration only that it is refuted. So it may meet far fewer configurations than `search`, and what it keeps is of no use to
+/// that one.
 ///
 /// `Found` with the least linearization; `Refuted` where there is none; `Exhausted` where as many lifts were made and
 /// another was to be made. `AllocError` where memory was refused.
