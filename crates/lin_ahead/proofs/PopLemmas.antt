@@ -13,7 +13,7 @@ use Rattle.lin_history.specs.declared.problems.problem.ProblemCall.{ProblemCall}
 use Rattle.lin_history.specs.OptionLemmas.{some_and, and_some}
 use Rattle.lin_history.specs.Problems.Problem.{Problem}
 use Rattle.lin_history.specs.Problems.Lists.{In, IsDistinct}
-use Rattle.lin_history.specs.Problems.ListLemmas.{distinct_early, in_late, in_place}
+use Rattle.lin_history.specs.Problems.ListLemmas.{distinct_early, in_early, in_late, in_either, in_place}
 use Rattle.lin_history.specs.Problems.LegalLists.{next, Legal}
 use Rattle.lin_history.specs.Problems.Precedence.{Before}
 use Rattle.lin_history.specs.Problems.Continuations.{IsCompletion}
@@ -24,7 +24,7 @@ use Rattle.lin_ahead.specs.ItemCalls.{goes_in_once, told}
 use Rattle.lin_ahead.specs.Queue.{Item, Puts, Took}
 use Rattle.lin_ahead.specs.Queue as on_queues
 use Rattle.lin_ahead.specs.Stack.{Pushes, Popped, FoundEmpty}
-use Rattle.lin_ahead.specs.StackTakers.{on_queue, LieAbove, TookLifted, FindsGoneAbove, LacksPops}
+use Rattle.lin_ahead.specs.StackTakers.{on_queue, LieAbove, TookLifted, FindsGoneAbove, StandsBy, LacksPops}
 use Rattle.lin_ahead.specs.Takers.{queue_of, AreApart, is_left, IsLost, IsTakerLeft, GoesBefore, AreTooFew}
 use Rattle.lin_ahead.specs.ToldAhead.{IsTaker}
 use Rattle.lin_ahead.specs.ToldOfStack.{exchanged_op, exchanged_call, exchanged_calls}
@@ -32,11 +32,11 @@ use Rattle.lin_ahead.proofs.AboveLemmas.{PushedIn, lies_or_popped, pushed_above}
 use Rattle.lin_ahead.proofs.ChainLemmas.{legal_split, returned_with, completed}
 use Rattle.lin_ahead.proofs.OwedStackLemmas.{still_stack, item_at}
 use Rattle.lin_ahead.proofs.PlaceLemmas.{put_on, taken_off}
-use Rattle.lin_ahead.proofs.QueueLemmas.{Item_either}
+use Rattle.lin_ahead.proofs.QueueLemmas.{Item_late, Item_either, Item_place, item_split}
 use Rattle.lin_ahead.proofs.RowLemmas.{through, seen_through}
 use Rattle.lin_ahead.proofs.StackLemmas.{IsExact, MayPop, LeavesBelow, call_moves, push_is_no_pop, one_item, inside_stack, leaves_legal, legal_rest, never_there, pops_top}
 use Rattle.lin_ahead.proofs.StackRowLemmas.{op_of, pushes_puts, puts_pushes, popped_took, took_popped}
-use Rattle.lin_ahead.proofs.TakerLemmas.{once_is, among_false, without_one, both_true, in_front, distinct, outside, called}
+use Rattle.lin_ahead.proofs.TakerLemmas.{once_is, left_is, left_tells, among_false, among_value, without_one, both_true, in_front, distinct, outside, called}
 
 module _ (p : Problem ObjState Op Reply) where
   -- what the calls on a queue say of those on the stack
@@ -60,6 +60,23 @@ module _ (p : Problem ObjState Op Reply) where
   no_item : (below above : List ℤ) (v : ℤ) → above ++ below ≡ [] → Item v above → ⊥
   no_item below [] v e h = h
   no_item below (x ∷ above) v e h = absurd (cc)
+
+-- an item that lies there once, and above others, is not among those
+not_twice : (items above rest gone below : List ℤ) (u : ℤ) → items ≡ above ++ u ∷ rest → (Item u above → ⊥) → (Item u rest → ⊥) → items ≡ gone ++ below → Item u gone → Item u below → ⊥
+not_twice items above rest gone below u whole not_above not_rest also there again =
+    let at = Item_place u gone there in
+    let shape : above ++ u ∷ rest ≡ at.0 ++ u ∷ (at.1 ++ below) = sym whole ∙ also ∙ ap (λ (l : List ℤ). l ++ below) at.2 ∙ append_assoc at.0 (u ∷ at.1) below in
+    elim (item_split above (u ∷ rest) at.0 u (at.1 ++ below) shape) [
+      | inl q ↦ not_above q
+      | inr q ↦ later q.0 at.1 q.2
+    ]
+  where
+    behind : (g : List ℤ) → Item u (g ++ below)
+    behind g = Item_late u g below again
+
+    later : (more : List ℤ) → (g : List ℤ) → u ∷ rest ≡ more ++ u ∷ (g ++ below) → ⊥
+    later [] g e = let same : g ++ below ≡ rest = cc in not_rest (subst (λ (l : List ℤ). Item u l) same (behind g))
+    later (x ∷ more) g e = let same : more ++ u ∷ (g ++ below) ≡ rest = cc in not_rest (subst (λ (l : List ℤ). Item u l) same (Item_late u more (u ∷ (g ++ below)) (inl refl)))
 
 module _ (p : Problem ObjState Op Reply) (exact : IsExact p) where
   -- ---- what is popped, and by whom
@@ -169,15 +186,11 @@ module _ (p : Problem ObjState Op Reply) (exact : IsExact p) where
 
   -- ---- a call that leaves too few pops
 
-  -- these are gone after the calls, and so is all that they push
-  abbrev AllGone : List ℤ → List ℕ → Type 0
-  AllGone gone mid = (below : List ℤ) × LeavesBelow p below gone mid []
-
   -- a call that returned with an item of these finds gone what lies above it
   module _ (gone : List ℤ) (w : ℤ) (below : List ℤ) (mid : List ℕ) (none : (d : ℕ) → In d mid → Pushes p d w → ⊥) (not_above : Item w gone → ⊥) (not_below : Item w below → ⊥) (z : ℕ) (popped : Popped p z w) (u : ObjState) where
     -- where the item still lies there
-    lies_there : (end : List ℤ) → LeavesBelow p (w ∷ below) gone mid end → next p (Stack (end ++ w ∷ below)) z ≡ Some u → AllGone gone mid
-    lies_there [] leaves step = (w ∷ below, leaves)
+    lies_there : (end : List ℤ) → LeavesBelow p (w ∷ below) gone mid end → next p (Stack (end ++ w ∷ below)) z ≡ Some u → LeavesBelow p (w ∷ below) gone mid []
+    lies_there [] leaves step = leaves
     lies_there (x ∷ end) leaves step =
         let top = pops_top p exact (x ∷ end ++ w ∷ below) u z w popped step in
         let same : x ≡ w = (let e = top.1 in cc) in
@@ -186,7 +199,7 @@ module _ (p : Problem ObjState Op Reply) (exact : IsExact p) where
           | inr at ↦ absurd (not_above (subst (λ (l : List ℤ). Item w l) (sym at.2) (item_at w at.0 at.1)))
         ]
 
-    above_gone : (t : ObjState) → Legal p (Stack (gone ++ w ∷ below)) mid t → next p t z ≡ Some u → AllGone gone mid
+    above_gone : (t : ObjState) → Legal p (Stack (gone ++ w ∷ below)) mid t → next p t z ≡ Some u → LeavesBelow p (w ∷ below) gone mid []
     above_gone t legal step = elim (lies_or_popped p exact mid gone w below t legal) [
       | inl lies ↦ lies_there lies.0 lies.2 (subst (λ (s : ObjState). next p s z ≡ Some u) lies.1 step)
       | inr at ↦ (
@@ -212,35 +225,78 @@ module _ (p : Problem ObjState Op Reply) (exact : IsExact p) where
           let e : x.0.called ≡ taker.0.called = ap (λ (y : ProblemCall Op Reply). y.called) x.2 in
           (taker, both_true (outside p set s c cs h mid z late m place returns d there) (rw taker.1 (subst (λ (n : ℕ). nat_le n m ≡ true) e (called p set s c cs h mid z late m place returns d there x.0 x.1))))
 
+      -- these are gone after the calls, and so is all that they push
+      abbrev AllGone : List ℤ → Type 0
+      AllGone gone = (below : List ℤ) × (items ≡ gone ++ below) × LeavesBelow p below gone mid []
+
       -- what the call finds gone is gone
-      all_gone : (gone : List ℤ) → FindsGoneAbove (on_queue p) set c items z gone → AllGone gone mid
+      all_gone : (gone : List ℤ) → FindsGoneAbove (on_queue p) set c items z gone → AllGone gone
       all_gone gone (inl (none, same)) =
           let end = still_stack p exact mid items two.0 two.1 in
           let rest : end.0 ≡ [] = found_none end.0 two.2.0 z (empty_back p z none) (subst (λ (t : ObjState). next p t z ≡ Some two.2.0) end.1 two.2.1) in
           let leaves : LeavesBelow p [] items mid [] = above_nothing mid items [] (subst (λ (t : ObjState). Legal p (Stack items) mid t) (end.1 ∙ ap Stack rest) two.1) in
-          ([], subst (λ (l : List ℤ). LeavesBelow p [] l mid []) (sym same) leaves)
+          ([], sym same ∙ sym (append-nil gone), subst (λ (l : List ℤ). LeavesBelow p [] l mid []) (sym same) leaves)
       all_gone gone (inr (w, (took, lifted), (below, whole, not_above, not_below))) =
-          above_gone gone w below mid (λ d there pushes. (let left = outside p set s c cs h mid z late m place returns d there in let not_left = lifted d (pushes_puts p d w pushes) in absurd (cc))) not_above not_below z (took_popped p z w took) two.2.0 two.0 (subst (λ (l : List ℤ). Legal p (Stack l) mid two.0) whole two.1) two.2.1
+          (w ∷ below, whole, above_gone gone w below mid (λ d there pushes. (let left = outside p set s c cs h mid z late m place returns d there in let not_left = lifted d (pushes_puts p d w pushes) in absurd (cc))) not_above not_below z (took_popped p z w took) two.2.0 two.0 (subst (λ (l : List ℤ). Legal p (Stack l) mid two.0) whole two.1) two.2.1)
 
-      too_few : (gone : List ℤ) → FindsGoneAbove (on_queue p) set c items z gone → AreTooFew (on_queue p) set c gone z m → ⊥
-      too_few gone finds (vs, lost, fewer) =
+      -- a call that returned with one of them, which lay there once and is pushed no more, does not stand behind
+      not_behind : (gone : List ℤ) → AllGone gone → (y : ℕ) (u : ℤ) → TookLifted (on_queue p) set c y u → Item u gone → (above : List ℤ) → LieAbove items u above → In y late → ⊥
+      not_behind gone all y u (took, lifted) there above (rest, whole, not_above, not_rest) behind =
+          let at = in_place y late behind in
+          let shape : cs ≡ mid ++ ((z ∷ at.0) ++ y ∷ at.1) = place ∙ ap (λ (l : List ℕ). mid ++ z ∷ l) at.2 in
+          let so_far : Legal p (Stack items) mid (Stack all.0) = subst (λ (l : List ℤ). Legal p (Stack l) mid (Stack all.0)) (sym all.1) (leaves_legal p exact all.0 mid gone [] all.2) in
+          let goes : Legal p (Stack all.0) ((z ∷ at.0) ++ y ∷ at.1) h.continuation.legal.0 = legal_rest p exact mid ((z ∷ at.0) ++ y ∷ at.1) (Stack items) (Stack all.0) h.continuation.legal.0 (subst (λ (l : List ℕ). Legal p (Stack items) l h.continuation.legal.0) shape legal) so_far in
+          let split = legal_split p exact (z ∷ at.0) (y ∷ at.1) (Stack all.0) h.continuation.legal.0 goes in
+          let never = never_there p exact u (z ∷ at.0) all.0 split.0 split.1 (not_twice items above rest gone all.0 u whole not_above not_rest all.1 there) (λ d in_front pushes. none_pushes d (subst (λ (l : List ℕ). In d l) (sym shape) (in_late d mid ((z ∷ at.0) ++ y ∷ at.1) (in_early d (z ∷ at.0) (y ∷ at.1) in_front))) (lifted d (pushes_puts p d u pushes))) in
+          let top = pops_top p exact never.0 split.2.0 y u (took_popped p y u took) (subst (λ (s : ObjState). next p s y ≡ Some split.2.0) never.1 split.2.1) in
+          never.2 (subst (λ (l : List ℤ). Item u l) (sym top.1) (inl refl))
+        where
+          none_pushes : (d : ℕ) → In d cs → is_left set c d ≡ false → ⊥
+          none_pushes d there not_left = let left = left_is set c d (h.continuation.outside d (inr there)) (λ e. h.continuation.distinct.0 (subst (λ (n : ℕ). In n cs) e there)) in cc
+
+      -- a call that stands no later is the call, or stands in front of it
+      stands_in : (gone : List ℤ) → AllGone gone → (y : ℕ) → StandsBy (on_queue p) set c items gone z y → (y ≡ z) ⊎ In y mid
+      stands_in gone all y (inl same) = inl same
+      stands_in gone all y (inr (left, (u, took, there, (above, lies)))) =
+          let popped = took_popped p y u took.0 in
+          let out = left_tells set c y left in
+          elim (h.complete y (completed p exact y popped.0 popped.3.0 (Int u) popped.1 popped.3.1)) [
+            | inl q ↦ absurd (let e = out.0 in cc)
+            | inr (inl e) ↦ absurd (out.1 e)
+            | inr (inr q) ↦ elim (in_either y mid (z ∷ late) (subst (λ (l : List ℕ). In y l) place q)) [
+              | inl front ↦ inr front
+              | inr (inl same) ↦ inl same
+              | inr (inr behind) ↦ absurd (not_behind gone all y u took there above lies behind)
+            ]
+          ]
+
+      -- what returned before such a call was called stands in front of the call that finds them gone
+      in_front_of : (y : ℕ) → (y ≡ z) ⊎ In y mid → (b : ℕ) → is_left set c b ≡ true → Before p b y → In b mid
+      in_front_of y (inl same) b left before = in_front p set s c cs h mid z late place b left (subst (λ (n : ℕ). Before p b n) same before)
+      in_front_of y (inr there) b left before =
+          let at = in_place y mid there in
+          let shape : cs ≡ at.0 ++ y ∷ (at.1 ++ z ∷ late) = place ∙ ap (λ (l : List ℕ). l ++ z ∷ late) at.2 ∙ append_assoc at.0 (y ∷ at.1) (z ∷ late) in
+          subst (λ (l : List ℕ). In b l) (sym at.2) (in_early b at.0 (y ∷ at.1) (in_front p set s c cs h at.0 y (at.1 ++ z ∷ late) shape b left before))
+
+      too_few : (gone : List ℤ) (y : ℕ) → FindsGoneAbove (on_queue p) set c items z gone → StandsBy (on_queue p) set c items gone z y → AreTooFew (on_queue p) set c gone y m → ⊥
+      too_few gone y finds stands (vs, lost, fewer) =
           let all = all_gone gone finds in
-          let k = popping all.0 mid gone [] all.1 in
+          let k = popping all.0 mid gone [] all.2 in
           let many = k.enough vs lost.0 (λ v i. (let l = lost.1 v i in (l.0, (λ no. no), comes v l.1))) in
           let few = fewer k.takers (k.distinct (distinct_early mid (z ∷ late) (distinct p set s c cs h mid z late m place returns))) (λ d i. (let l = k.pending d i in called_taker d l.0 l.1)) in
           omega (arith, many, few)
         where
-          comes : (v : ℤ) → GoesBefore (on_queue p) set c gone z v → Comes v gone mid
+          comes : (v : ℤ) → GoesBefore (on_queue p) set c gone y v → Comes v gone mid
           comes v (inl there) = inl there
-          comes v (inr (b, puts, left, before)) = inr (b, in_front p set s c cs h mid z late place b left (before_back p b z before), puts_pushes p b v puts)
+          comes v (inr (b, puts, left, before)) = inr (b, in_front_of y (stands_in gone (all_gone gone finds) y stands) b left (before_back p b y before), puts_pushes p b v puts)
 
   -- no completion begins with the call
   pub pops_begin_none : (set : List Bool) (s : ObjState) (c : ℕ) (items : List ℤ) → IsNext p set s c (Stack items) → LacksPops p set c items → BeginsNone p set s c
-  pops_begin_none set s c items is_next (gone, z, m, returns, other, finds, few) cs h =
+  pops_begin_none set s c items is_next (gone, y, z, m, returns, other, finds, stands, few) cs h =
       elim (h.complete z (completed p exact z returns.1.0 m returns.1.2.0 returns.1.1 returns.1.2.1)) [
         | inl q ↦ (let e = returns.0 in cc)
         | inr (inl e) ↦ other e
-        | inr (inr there) ↦ (let at = in_place z cs there in too_few set s c items is_next cs h at.0 z at.1 m at.2 returns gone finds few)
+        | inr (inr there) ↦ (let at = in_place z cs there in too_few set s c items is_next cs h at.0 z at.1 m at.2 returns gone y finds stands few)
       ]
 
   -- so it is, where it is known
@@ -251,15 +307,20 @@ module _ (p : Problem ObjState Op Reply) (exact : IsExact p) where
 -- ---- what the tests say
 
 -- a call that is left finds gone what the deadline says
-pub lacks_pops_is : {E : Type 0} (calls : List (ProblemCall Op Reply)) (p : Problem ObjState Op Reply) (set : List Bool) (c : ℕ) (items gone : List ℤ) (z m : ℕ) → calls ≡ exchanged_calls p.calls → ReturnsOutside p set z m → (z ≢ c) → FindsGoneAbove (queue_of calls) set c items z gone → (result : Result Bool E) → IfOk result (λ few. IsTrue few → AreTooFew (queue_of calls) set c gone z m) → IfOk result (λ lacks. IsTrue lacks → LacksPops p set c items)
-lacks_pops_is calls p set c items gone z m same returns other finds (Ok few) h =
-    λ yes. (let both = subst (λ (l : List (ProblemCall Op Reply)). FindsGoneAbove (queue_of l) set c items z gone × AreTooFew (queue_of l) set c gone z m) same (finds, h yes) in (gone, z, m, returns, other, both.0, both.1))
-lacks_pops_is calls p set c items gone z m same returns other finds (Err e) h = tt
+pub lacks_pops_is : {E : Type 0} (calls : List (ProblemCall Op Reply)) (p : Problem ObjState Op Reply) (set : List Bool) (c : ℕ) (items gone : List ℤ) (y z m : ℕ) → calls ≡ exchanged_calls p.calls → ReturnsOutside p set z m → (z ≢ c) → FindsGoneAbove (queue_of calls) set c items z gone → StandsBy (queue_of calls) set c items gone z y → (result : Result Bool E) → IfOk result (λ few. IsTrue few → AreTooFew (queue_of calls) set c gone y m) → IfOk result (λ lacks. IsTrue lacks → LacksPops p set c items)
+lacks_pops_is calls p set c items gone y z m same returns other finds stands (Ok few) h =
+    λ yes. (let all = subst (λ (l : List (ProblemCall Op Reply)). FindsGoneAbove (queue_of l) set c items z gone × StandsBy (queue_of l) set c items gone z y × AreTooFew (queue_of l) set c gone y m) same (finds, stands, h yes) in (gone, y, z, m, returns, other, all.0, all.1, all.2))
+lacks_pops_is calls p set c items gone y z m same returns other finds stands (Err e) h = tt
 
 -- a call that returned with what another alone puts in, which is not left; the last two are the numbers that were handed on
 pub took_lifted_is : (p : Problem ObjState Op Reply) (set : List Bool) (c a z : ℕ) (v w u t : ℤ) → Puts p a v → Took p z w → v ≡ w → u ≡ v → t ≡ w → is_left set c a ≡ false → goes_in_once (told p.calls u).putters ≡ true → TookLifted p set c z t
 took_lifted_is p set c a z v w u t put took same one is free once =
     subst (λ (x : ℤ). TookLifted p set c z x) (sym is) (took, λ d other. subst (λ (n : ℕ). is_left set c n ≡ false) (sym (once_is p w (subst (λ (x : ℤ). goes_in_once (told p.calls x).putters ≡ true) (one ∙ same) once) a (subst (λ (x : ℤ). Puts p a x) same put) d other)) free)
+
+-- a call that is left and returned with one of the items that are gone, which lies there once; the last two are numbers that were handed on
+pub stands_by_is : (p : Problem ObjState Op Reply) (set : List Bool) (c : ℕ) (items gone above : List ℤ) (z y : ℕ) (v w x : ℤ) (left there : Bool) → left ≡ is_left set c y → left ≡ true → TookLifted p set c y v → there ≡ is_in w gone → there ≡ true → w ≡ v → x ≡ v → LieAbove items x above → StandsBy p set c items gone z y
+stands_by_is p set c items gone above z y v w x left there is so took among found same also lies =
+    inr (sym is ∙ so, (v, took, among_value v w gone there among found same, (above, subst (λ (u : ℤ). LieAbove items u above) also lies)))
 
 -- the items above one that is not among them, with one more that is not it, which was handed on
 pub above_more : (items above rest above' rest' : List ℤ) (w first passed : ℤ) → items ≡ above ++ rest → (Item w above → ⊥) → slice_get rest 0 ≡ Some first → rest' ≡ drop 1 rest → above' ≡ above ++ passed ∷ [] → passed ≡ first → (first ≡ w → ⊥) → (items ≡ above' ++ rest') × (Item w above' → ⊥)

@@ -37,7 +37,7 @@ Item_either v [] ys h = inr h
 Item_either v (x ∷ xs) ys h = elim h [ inl e ↦ inl (inl e) | inr more ↦ elim (Item_either v xs ys more) [ inl k ↦ inl (inr k) | inr k ↦ inr k ] ]
 
 -- an item of a list stands somewhere in it
-Item_place : (v : ℤ) (xs : List ℤ) → Item v xs → (front : List ℤ) × (rest : List ℤ) × (xs ≡ front ++ v ∷ rest)
+pub Item_place : (v : ℤ) (xs : List ℤ) → Item v xs → (front : List ℤ) × (rest : List ℤ) × (xs ≡ front ++ v ∷ rest)
 Item_place v [] h = absurd h
 Item_place v (x ∷ xs) h = elim h [
   | inl e ↦ ([], xs, ap (λ (y : ℤ). y ∷ xs) (sym e))

@@ -126,13 +126,13 @@ in_at (x ∷ xs) zero c e = inl (let h : x ≡ c = cc in sym h)
 in_at (x ∷ xs) (suc i) c e = inr (in_at xs i c e)
 
 -- a call that is neither in the set nor call c is left
-left_is : (set : List Bool) (c d : ℕ) → has set d ≡ false → (d ≢ c) → is_left set c d ≡ true
+pub left_is : (set : List Bool) (c d : ℕ) → has set d ≡ false → (d ≢ c) → is_left set c d ≡ true
 left_is set c d out other = elim (eqb_tells d c) [
   | inl k ↦ absurd (other k.1)
   | inr k ↦ rw (k.0, out) refl
 ]
 
-left_tells : (set : List Bool) (c d : ℕ) → is_left set c d ≡ true → (has set d ≡ false) × (d ≢ c)
+pub left_tells : (set : List Bool) (c d : ℕ) → is_left set c d ≡ true → (has set d ≡ false) × (d ≢ c)
 left_tells set c d left = elim (eqb_tells d c) [
   | inl k ↦ absurd (let x = rw k.0 at left in cc)
   | inr k ↦ (go (has set d) refl (rw k.0 at left), k.1)

@@ -171,7 +171,10 @@ impl<'p> FirstSearch<'p> {
         lawful::<AnyObject>();
         let problem = self.path.problem();
         match pending_answer(self.alloc, problem, self.path.config(), call)? {
-            Some(reply) => Ok(is_owed(problem, ahead.owed.as_slice(), &self.owed, &reply)),
+            Some(reply) => {
+                let popper = self.stack.popper_of_top(&ahead.late);
+                Ok(is_owed(problem, ahead.owed.as_slice(), &self.owed, popper, &reply))
+            }
             None => Ok(false),
         }
     }

@@ -81,17 +81,23 @@ fn is_owed_to<O: SeqObject>(
     }
 }
 
-// Whether one of the next calls in turn is owed a reply that equals this one.
+// Whether the hint, or one of the next calls in turn, is owed a reply that equals this one.
 pub(crate) fn is_owed<O: SeqObject>(
     problem: &Problem<O>,
     owed: &[bool],
     takers: &CallsInTurn,
+    hint: Option<usize>,
     reply: &O::Reply,
 ) -> bool
     requires { AreOwed (problem_of O.after O.State.eq O.Reply.eq problem.now) owed.now }
     ensures { IsTrue result → IsOwed (problem_of O.after O.State.eq O.Reply.eq problem.now)
         reply.now }
 {
+    if let Some(call) = hint {
+        if is_owed_to(problem, owed, call, reply) {
+            return true;
+        }
+    }
     for count in 0..CALLS_IN_SIGHT {
         match takers.ahead(count) {
             Some(call) if is_owed_to(problem, owed, call, reply) => return true,

@@ -140,6 +140,11 @@ impl StackHints {
         self.top = Some(push);
     }
 
+    // A call that popped the item of the push on top.
+    pub(crate) fn popper_of_top(&self, late: &LateRows) -> Option<usize> {
+        *late.poppers.get(self.top?)?
+    }
+
     // The push whose item lies under that of the top.
     fn under_top(&self) -> Option<usize> {
         self.lying.get(self.top?)?.under
@@ -162,6 +167,11 @@ impl StackHints {
     // Whether the call is a push.
     pub(crate) fn is_push(&self, call: usize) -> bool {
         matches!(self.is_push.get(call), Some(true))
+    }
+
+    // The call itself, where it is a push.
+    pub(crate) fn pushed_by(&self, call: usize) -> Option<usize> {
+        if self.is_push(call) { Some(call) } else { None }
     }
 
     // Goes on after the call, which is lifted now.

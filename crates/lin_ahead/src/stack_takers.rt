@@ -4,13 +4,13 @@ ghost use Rattle.std.specs.Prelude.{IfOk, IfSome, IsTrue};
 ghost use Rattle.lin_ahead.specs.AnyProblem.{any_problem};
 ghost use Rattle.lin_ahead.specs.Behind.{AreQueueCalls, AreStackCalls};
 ghost use Rattle.lin_ahead.specs.Takers.{queue_of};
-ghost use Rattle.lin_ahead.specs.StackTakers.{LieAbove, TookLifted, FindsGoneAbove, LacksPops};
+ghost use Rattle.lin_ahead.specs.StackTakers.{LieAbove, TookLifted, FindsGoneAbove, StandsBy, LacksPops};
 
 use crate::each_item::told_of;
 use crate::late_pushes::returned_outside;
 use crate::look_ahead::KnownAhead;
 use crate::stack_hints::StackHints;
-use crate::taker_hints::{TakerHints, TakerWalk};
+use crate::taker_hints::{TakerHints, TakerWalk, called_last};
 use crate::takers::{
     After, Deadline, Wanting, are_too_few, found_empty, is_left, item_put, item_taken,
 };
@@ -84,58 +84,102 @@ fn items_gone(
     }
 }
 
-// Whether more of the items that these calls put in must be taken before the wanting call than there are takers.
+// A call that finds items gone, and one that stands no later.
+#[derive(Clone, Copy, Debug)]
+struct Finding {
+    // The call that finds items gone.
+    finder: Wanting,
+    // It, or one that returned with one of these items. What was pushed before that one was called is gone, too.
+    until: Wanting,
+}
+
+// Whether the one call is the other, or returned with one of the items that are gone.
+fn stands_by(
+    alloc: Global,
+    calls: &[ProblemCall<Op, Reply>],
+    ahead: &KnownAhead,
+    after: &After,
+    gone: &Items,
+    finding: Finding,
+) -> Result<bool, AllocError>
+    requires { AreQueueCalls (queue_of calls.now) ahead.now }
+    ensures { IfOk result (λ stands. IsTrue stands → StandsBy (queue_of calls.now)
+        after.now.config.now.lifted after.now.call after.now.items.now gone.now
+        finding.finder.taker finding.until.taker) }
+{
+    if finding.until.taker == finding.finder.taker {
+        return Ok(true);
+    }
+    if !is_left(after, finding.until.taker) {
+        return Ok(false);
+    }
+    let Some(item) = item_lifted(calls, ahead, after, finding.until) else {
+        return Ok(false);
+    };
+    if !gone.has(item) {
+        return Ok(false);
+    }
+    match items_above(alloc, after.items, item)? {
+        Some(_above) => Ok(true),
+        None => Ok(false),
+    }
+}
+
+// Whether more of the items that these calls put in must be taken before the finder than there are takers.
 fn lacks_pops_for(
     alloc: Global,
     problem: &Problem<AnyObject>,
     ahead: &KnownAhead,
     after: &After,
     putters: &[usize],
-    wanting: Wanting,
+    finding: Finding,
 ) -> Result<bool, AllocError>
     requires { AreStackCalls (any_problem problem.now) ahead.now }
     ensures { IfOk result (λ lacks. IsTrue lacks → LacksPops (any_problem problem.now)
         after.now.config.now.lifted after.now.call after.now.items.now) }
 {
-    if wanting.taker == after.call {
+    if finding.finder.taker == after.call {
         return Ok(false);
     }
-    let Some(event) = returned_outside(problem, after.config, wanting.taker) else {
+    let Some(event) = returned_outside(problem, after.config, finding.finder.taker) else {
         return Ok(false);
     };
     let calls = ahead.on_queue.as_slice();
-    let Some(items) = items_gone(alloc, calls, ahead, after, wanting)? else {
+    let Some(items) = items_gone(alloc, calls, ahead, after, finding.finder)? else {
         return Ok(false);
     };
+    if !stands_by(alloc, calls, ahead, after, &items, finding)? {
+        return Ok(false);
+    }
     let gone = After {
         config: after.config,
         call: after.call,
         items: &items,
     };
     let deadline = Deadline {
-        before: wanting.taker,
+        before: finding.until.taker,
         event,
     };
     are_too_few(alloc, calls, ahead, &gone, putters, deadline)
 }
 
-// Whether the hints say so, and it is known then. `lying` are the calls whose items lie above what the taker returned with.
+// Whether the hints say so, and it is known then. `lying` are the calls whose items lie above what the finder returned with.
 fn lacks_pops_by(
     problem: &Problem<AnyObject>,
     ahead: &KnownAhead,
     hints: &TakerHints,
     after: &After,
     lying: &[usize],
-    wanting: Wanting,
+    finding: Finding,
 ) -> Result<bool, AllocError>
     requires { AreStackCalls (any_problem problem.now) ahead.now }
     ensures { IfOk result (λ lacks. IsTrue lacks → LacksPops (any_problem problem.now)
         after.now.config.now.lifted after.now.call after.now.items.now) }
 {
     let calls = ahead.on_queue.as_slice();
-    let putters = hints.with_those_before(calls, after, lying, wanting.taker)?;
+    let putters = hints.with_those_before(calls, after, lying, finding.until.taker)?;
     let mut walk = TakerWalk::new();
-    walk.go_to(calls, ahead.takers.as_slice(), after, wanting);
+    walk.go_to(calls, ahead.takers.as_slice(), after, finding.finder);
     if putters.len() <= walk.left() {
         return Ok(false);
     }
@@ -145,26 +189,103 @@ fn lacks_pops_by(
         ahead,
         after,
         putters.as_slice(),
-        wanting,
+        finding,
     )
 }
 
-// The same for the call that popped the item of this push.
-fn lacks_pops_over(
+// The same for empty answers behind calls that put lost items in.
+fn lacks_pops_behind(
     problem: &Problem<AnyObject>,
     ahead: &KnownAhead,
     hints: &TakerHints,
     after: &After,
     lying: &[usize],
-    push: Option<usize>,
 ) -> Result<bool, AllocError>
     requires { AreStackCalls (any_problem problem.now) ahead.now }
     ensures { IfOk result (λ lacks. IsTrue lacks → LacksPops (any_problem problem.now)
         after.now.config.now.lifted after.now.call after.now.items.now) }
 {
-    match hints.wanting(push) {
-        Some(wanting) => lacks_pops_by(problem, ahead, hints, after, lying, wanting),
-        None => Ok(false),
+    let calls = ahead.on_queue.as_slice();
+    let mut putters = Vec::from_slice(hints.alloc(), lying)?;
+    let mut walk = TakerWalk::new();
+    for count in 0..hints.in_sight() {
+        let Some(call) = hints.lost_ahead(count) else {
+            return Ok(false);
+        };
+        if !is_left(after, call) {
+            continue;
+        }
+        putters.push(call)?;
+        let Some(wanting) = hints.wanting_behind(call) else {
+            return Ok(false);
+        };
+        walk.go_to(calls, ahead.takers.as_slice(), after, wanting);
+        let finding = Finding {
+            finder: wanting,
+            until: wanting,
+        };
+        if walk.left() < putters.len() {
+            if lacks_pops_for(
+                hints.alloc(),
+                problem,
+                ahead,
+                after,
+                putters.as_slice(),
+                finding,
+            )? {
+                return Ok(true);
+            }
+        }
+    }
+    Ok(false)
+}
+
+// A walk down the stack, from the top.
+#[derive(Drop)]
+struct StackWalk {
+    // The next push that is passed.
+    push: Option<usize>,
+    // Of the calls that pop what was passed, the one that was called last.
+    last: Option<Wanting>,
+}
+
+impl StackWalk {
+    // The walk at its beginning: past what the call puts on, where it is a push.
+    fn new(hints: &TakerHints, stack: &StackHints, call: usize) -> Self {
+        StackWalk {
+            push: stack.under_call(call),
+            last: hints.wanting(stack.pushed_by(call)),
+        }
+    }
+
+    // Goes on to above the item of this push; to below all, where there is none.
+    fn go_to(
+        &mut self,
+        calls: &[ProblemCall<Op, Reply>],
+        hints: &TakerHints,
+        stack: &StackHints,
+        end: Option<usize>,
+    ) {
+        for _ in 0..MOST_ABOVE {
+            if self.push == end {
+                return;
+            }
+            let Some(push) = self.push else {
+                return;
+            };
+            if let Some(wanting) = hints.wanting(Some(push)) {
+                self.last = Some(called_last(calls, wanting, self.last));
+            }
+            self.push = stack.under(push);
+        }
+    }
+
+    // A call that finds items gone, with the call that was called last of it and those that pop what was passed.
+    fn finding(&self, calls: &[ProblemCall<Op, Reply>], finder: Wanting) -> Finding {
+        Finding {
+            finder,
+            until: called_last(calls, finder, self.last),
+        }
     }
 }
 
@@ -180,15 +301,21 @@ pub(crate) fn lacks_pops(
     ensures { IfOk result (λ lacks. IsTrue lacks → LacksPops (any_problem problem.now)
         after.now.config.now.lifted after.now.call after.now.items.now) }
 {
+    let calls = ahead.on_queue.as_slice();
     let mut lying = Vec::new(hints.alloc());
     if hints.puts_lost(after.call) {
         lying.push(after.call)?;
     }
     let mut push = stack.under_call(after.call);
+    let mut walk = StackWalk::new(hints, stack, after.call);
     for _ in 0..hints.in_sight() {
         let first = stack.first_popped_from(push);
-        if lacks_pops_over(problem, ahead, hints, after, lying.as_slice(), first)? {
-            return Ok(true);
+        if let Some(finder) = hints.wanting(first) {
+            walk.go_to(calls, hints, stack, first);
+            let finding = walk.finding(calls, finder);
+            if lacks_pops_by(problem, ahead, hints, after, lying.as_slice(), finding)? {
+                return Ok(true);
+            }
         }
         let Some(lost) = stack.first_lost_from(push) else {
             break;
@@ -196,12 +323,12 @@ pub(crate) fn lacks_pops(
         lying.push(lost)?;
         push = stack.under(lost);
     }
-    lacks_pops_over(
-        problem,
-        ahead,
-        hints,
-        after,
-        lying.as_slice(),
-        stack.first_empty(),
-    )
+    if let Some(finder) = hints.wanting(stack.first_empty()) {
+        walk.go_to(calls, hints, stack, None);
+        let finding = walk.finding(calls, finder);
+        if lacks_pops_by(problem, ahead, hints, after, lying.as_slice(), finding)? {
+            return Ok(true);
+        }
+    }
+    lacks_pops_behind(problem, ahead, hints, after, lying.as_slice())
 }

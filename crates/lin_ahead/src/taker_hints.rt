@@ -5,7 +5,7 @@ use crate::calls_in_turn::CallsInTurn;
 use crate::each_item::told_of;
 use crate::item_calls::BEYOND;
 use crate::look_ahead::KnownAhead;
-use crate::takers::{After, Wanting, is_left, item_put};
+use crate::takers::{After, Wanting, found_empty, is_left, item_put};
 use indexmap::IndexMap;
 use lin_history::ProblemCall;
 use lin_object::{AnyObject, Op, Reply};
@@ -45,6 +45,26 @@ pub(crate) struct TakerHints {
 pub(crate) struct TakerWalk {
     place: usize,
     left: usize,
+}
+
+// When the call was called; 0 where there is no such call.
+fn called_at(calls: &[ProblemCall<Op, Reply>], call: usize) -> u64 {
+    match calls.get(call) {
+        Some(made) => u64::from(made.called),
+        None => 0,
+    }
+}
+
+// The one of the two whose taker was called later.
+pub(crate) fn called_last(
+    calls: &[ProblemCall<Op, Reply>],
+    one: Wanting,
+    other: Option<Wanting>,
+) -> Wanting {
+    match other {
+        Some(wanting) if called_at(calls, one.taker) < called_at(calls, wanting.taker) => wanting,
+        _ => one,
+    }
 }
 
 // Whether the call was called by this event.
@@ -232,6 +252,40 @@ fn taker_flags(alloc: Global, calls: usize, takers: &[usize]) -> Result<Vec<bool
     Ok(flags)
 }
 
+// When the call returned, where it found none; beyond all events for another call.
+fn found_empty_at(calls: &[ProblemCall<Op, Reply>], call: usize) -> u64 {
+    if found_empty(calls, call) {
+        or_beyond(returned_at(calls, call))
+    } else {
+        BEYOND
+    }
+}
+
+// That of each call.
+fn found_empty_row(
+    alloc: Global,
+    calls: &[ProblemCall<Op, Reply>],
+) -> Result<Vec<u64>, AllocError> {
+    let mut row = Vec::with_capacity(alloc, calls.len())?;
+    for call in 0..calls.len() {
+        row.push(found_empty_at(calls, call))?;
+    }
+    Ok(row)
+}
+
+// For each call the first that is needed of it and those called after it; of a stack the first that found it empty.
+fn needed_row(
+    alloc: Global,
+    calls: &[ProblemCall<Op, Reply>],
+    ahead: &KnownAhead,
+) -> Result<Vec<Option<usize>>, AllocError> {
+    if ahead.on_queue.is_empty() {
+        return needed_from(alloc, ahead.needs.by());
+    }
+    let empties = found_empty_row(alloc, calls)?;
+    needed_from(alloc, empties.as_slice())
+}
+
 // Of each call that puts a lost item in, the first that is needed of those that were called after it returned.
 fn behind_row(
     alloc: Global,
@@ -239,7 +293,7 @@ fn behind_row(
     ahead: &KnownAhead,
     lost: &[bool],
 ) -> Result<Vec<Option<usize>>, AllocError> {
-    let needed = needed_from(alloc, ahead.needs.by())?;
+    let needed = needed_row(alloc, calls, ahead)?;
     let mut row = Vec::with_capacity(alloc, lost.len())?;
     for call in 0..lost.len() {
         let first = match returned_at(calls, call) {
@@ -256,16 +310,25 @@ fn or_beyond(event: Option<u64>) -> u64 {
     event.unwrap_or(BEYOND)
 }
 
-// The calls that have one that is needed behind them, in the order of their returns.
+// Whether the call puts a lost item in, and calls are known that find it gone. Of a queue each of them is the first that is needed
+// behind it; of a stack it may be any that is called later.
+fn is_wanted(ahead: &KnownAhead, is_lost: bool, behind: Option<usize>) -> bool {
+    behind.is_some() || (is_lost && !ahead.on_queue.is_empty())
+}
+
+// These completed calls, in the order of their returns.
 fn by_returns(
     alloc: Global,
     calls: &[ProblemCall<Op, Reply>],
+    ahead: &KnownAhead,
+    lost: &[bool],
     behind: &[Option<usize>],
 ) -> Result<CallsInTurn, AllocError> {
     let mut returned = Vec::new(alloc);
     for call in 0..behind.len() {
-        if behind[call].is_some() {
-            let event = or_beyond(returned_at(calls, call));
+        let event = or_beyond(returned_at(calls, call));
+        let is_lost = matches!(lost.get(call), Some(true));
+        if event < BEYOND && is_wanted(ahead, is_lost, behind[call]) {
             returned.push(Returned { event, call })?;
         }
     }
@@ -309,7 +372,7 @@ impl TakerHints {
             alloc,
             in_sight: takers.saturating_add(MORE_CALLS_IN_SIGHT),
             takers: taker_row(alloc, calls)?,
-            lost: by_returns(alloc, calls, behind.as_slice())?,
+            lost: by_returns(alloc, calls, ahead, is_lost.as_slice(), behind.as_slice())?,
             behind,
             is_lost,
             is_taker: taker_flags(alloc, calls.len(), ahead.takers.as_slice())?,
