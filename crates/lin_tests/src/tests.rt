@@ -17,6 +17,7 @@ mod refusals;
 mod reports;
 mod searches;
 mod stalls;
+mod steps_back;
 mod tables;
 mod unseen;
 mod watched;

@@ -6,11 +6,16 @@ use std::alloc::Global;
 
 // Numbers that look random.
 #[derive(Drop)]
-struct Numbers {
+pub(super) struct Numbers {
     state: u64,
 }
 
 impl Numbers {
+    // Those of the seed.
+    pub(super) fn new(seed: u64) -> Self {
+        Numbers { state: seed }
+    }
+
     // The next number below 4.
     fn next(&mut self) -> u8 {
         self.state = self
@@ -78,7 +83,7 @@ fn next_call(kind: Kind, numbers: &mut Numbers) -> (u32, Op, Reply) {
 
 // Twelve random events on one object of the kind; an event that can't be is left out.
 pub(super) fn random_history(alloc: Global, kind: Kind, seed: u64) -> History {
-    let mut numbers = Numbers { state: seed };
+    let mut numbers = Numbers::new(seed);
     let mut builder = Builder::new(alloc);
     let _ = builder.declare(alloc, "x", kind, 0);
     for _ in 0..12 {
@@ -90,4 +95,47 @@ pub(super) fn random_history(alloc: Global, kind: Kind, seed: u64) -> History {
         };
     }
     builder.finish()
+}
+
+// An operation on an object that holds a number, a lock or items.
+fn operation_on(kind: Kind, which: u8, value: i64, other: i64) -> Op {
+    match (kind, which) {
+        (Kind::Register, 0) => Op::Cas(other, value),
+        (Kind::Register, 1) => Op::Read,
+        (Kind::Counter, 0) => Op::Get,
+        (Kind::Counter, _) => Op::Add(value),
+        (Kind::Queue, 0 | 1) => Op::Dequeue,
+        (Kind::Queue, _) => Op::Enqueue(value),
+        (Kind::Stack, 0 | 1) => Op::Pop,
+        (Kind::Stack, _) => Op::Push(value),
+        (Kind::Mutex, 0) => Op::Lock,
+        (Kind::Mutex, 1) => Op::TryLock,
+        (Kind::Mutex, _) => Op::Unlock,
+        _ => Op::Write(value),
+    }
+}
+
+// An operation on a set or a map.
+fn operation_by_key(kind: Kind, which: u8, key: i64, value: i64) -> Op {
+    match (kind, which) {
+        (Kind::Set, 0) => Op::Contains(key),
+        (Kind::Set, 1) => Op::Remove(key),
+        (Kind::Set, _) => Op::Insert(key),
+        (_, 0) => Op::Lookup(key),
+        (_, 1) => Op::Delete(key),
+        _ => Op::Put(key, value),
+    }
+}
+
+// A random operation on an object of the kind, and its process.
+pub(super) fn random_step(kind: Kind, numbers: &mut Numbers) -> (u32, Op) {
+    let process = u32::from(numbers.next());
+    let which = numbers.next();
+    let value = i64::from(numbers.next());
+    let other = i64::from(numbers.next()) * 4 + i64::from(numbers.next());
+    let op = match kind {
+        Kind::Set | Kind::Map => operation_by_key(kind, which, other, value),
+        _ => operation_on(kind, which, value, other),
+    };
+    (process, op)
 }
