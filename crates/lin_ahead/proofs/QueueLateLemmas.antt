@@ -1,6 +1,6 @@
 -- No enqueue of a linearization on a queue is too late by the rows of the calls: what goes in before a call that finds the queue
 -- empty comes out before it.
-use Rattle.std.proofs.Common.{◌≡◌, ℕ, ◌<◌, Bool, true, false, Option, Some, None, List, [], ◌∷◌, ◌++◌, length, ◌⊎◌, inl, inr, refl, sym, ◌∙◌, ap, subst, append_assoc, append-nil, arith}
+use Rattle.std.proofs.Common.{◌≡◌, ℕ, ◌<◌, Bool, true, Option, Some, None, List, [], ◌∷◌, ◌++◌, length, ◌⊎◌, inl, inr, refl, sym, ◌∙◌, ap, subst, append_assoc, append-nil, arith}
 use Rattle.std.specs.Prelude.{ℤ, slice_get}
 use Rattle.lin_object.specs.declared.op.Op.{Op}
 use Rattle.lin_object.specs.declared.op.Op.TheVariants.{Write, Read, Cas, Add, Get, Enqueue, Dequeue, Push, Pop, Insert, Remove, Contains, Lock, Unlock, TryLock, Put, Lookup, Delete}
@@ -13,13 +13,12 @@ use Rattle.lin_history.specs.Problems.ProblemParts.{AreTimed}
 use Rattle.lin_history.specs.Problems.Lists.{In}
 use Rattle.lin_history.specs.Problems.ListLemmas.{has_none, in_early, in_late, in_either, in_place}
 use Rattle.lin_history.specs.Problems.Precedence.{Before}
-use Rattle.lin_history.specs.Problems.Continuations.{has}
 use Rattle.lin_history.specs.Problems.Linearizations.{IsRun, IsLinearization}
 use Rattle.lin_ahead.specs.declared.late_pushes.LateRows.{LateRows}
-use Rattle.lin_ahead.specs.Late.{LeadsBeyond, IsLate, NoneIsLate}
+use Rattle.lin_ahead.specs.Late.{LeadsBeyond, NoneIsLate}
 use Rattle.lin_ahead.specs.Numbers.{ReturnsAt, CalledFrom, IsFrom}
 use Rattle.lin_ahead.specs.Queue.{Item, IsOfQueue, Puts, Took, FoundEmpty}
-use Rattle.lin_ahead.specs.ToldAhead.{queue_empty, queue_empty_row, AreLateEnqueues}
+use Rattle.lin_ahead.specs.ToldAhead.{queue_empty, AreLateEnqueues}
 use Rattle.lin_ahead.proofs.ChainLemmas.{before_by}
 use Rattle.lin_ahead.proofs.NeedsLemmas.{not_before, place_split, stands}
 use Rattle.lin_ahead.proofs.QueueLemmas.{Moment, moment, queue_empty as found_none, not_both, replied, puts, put_there, took_completed, not_taken_behind}
