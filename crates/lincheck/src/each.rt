@@ -4,7 +4,7 @@ ghost use Rattle.std.specs.Prelude.{◌≡◌, ◌++◌, ◌<◌, ℕ, codes, le
 ghost use Rattle.std.specs.List.{list_any};
 ghost use Rattle.lin_history.specs.Locality.RecordedWhole.{part_of};
 ghost use Rattle.lin_history.specs.Recorder.RecordedHistory.{RecordedHistory};
-ghost use Rattle.lin_workers.specs.Bounds.{Bounds};
+ghost use Rattle.lin_workers.specs.Bounds.{Bounds as BoundsOf};
 ghost use Rattle.lin_workers.specs.Options.{bounds_of};
 ghost use Rattle.lin_workers.specs.Verdict.{IsObjectVerdict};
 ghost use Rattle.lincheck.specs.Each.{is_no, is_undecided, status_lines, status_of_all, status_text, AreStatusesOf, IsStatusOf};
@@ -23,7 +23,7 @@ use std::time::Clock;
 
 // The status that a verdict on an object gives.
 fn status_by(verdict: &ObjectVerdict) -> Status
-    ensures { (h : RecordedHistory) (bounds : Bounds) (object : ℕ)
+    ensures { (h : RecordedHistory) (bounds : BoundsOf) (object : ℕ)
         → IsObjectVerdict (part_of h object) bounds verdict.now
         → IsStatusOf h bounds object result }
 {

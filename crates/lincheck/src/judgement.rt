@@ -7,7 +7,7 @@ ghost use Rattle.lin_history.specs.Problems.Linearizations.{IsLinearization};
 ghost use Rattle.lin_history.specs.Problems.Lists.{IsLeast};
 ghost use Rattle.lin_history.specs.Recorder.Parts.{start_of, part_calls};
 ghost use Rattle.lin_ahead.specs.AnyProblem.{any_problem};
-ghost use Rattle.lin_workers.specs.Bounds.{Bounds};
+ghost use Rattle.lin_workers.specs.Bounds.{Bounds as BoundsOf};
 ghost use Rattle.lin_workers.specs.Options.{bounds_of};
 ghost use Rattle.lin_workers.specs.Verdict.{IsNumberStored, IsObjectVerdict};
 ghost use Rattle.lincheck.specs.Stored.{IsStoredTold, judged_of};
@@ -60,11 +60,11 @@ fn order_or_end(
     verdict: ObjectVerdict,
 ) -> Result<ControlFlow<Verdict, Order>, AllocError>
     requires declared { object < length history.now.objects }
-    requires right { (bounds : Bounds)
+    requires right { (bounds : BoundsOf)
         × IsObjectVerdict (part_of history.now object) bounds verdict }
     ensures order { IfOk result (λ next. ForContinue next (λ order.
         IsLeast (IsLinearization (part_of history.now object)) order)) }
-    ensures end { IfOk result (λ next. (orders : List (List ℕ)) (bounds : Bounds)
+    ensures end { IfOk result (λ next. (orders : List (List ℕ)) (bounds : BoundsOf)
         → AreLeastOf history.now object orders
         → IsObjectVerdict (part_of history.now object) bounds verdict
         → ForBreak next (IsVerdict history.now bounds)) }
