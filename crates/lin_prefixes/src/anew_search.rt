@@ -20,7 +20,7 @@ use lin_ahead::{
 use lin_history::{Problem, ProblemEvent};
 use lin_object::{AnyObject, lawful};
 use lin_parts::{KeyAnswer, search_by_key};
-use lin_search::{Config, NoStop, Outcome, OwnMemo, search};
+use lin_search::{Config, Outcome, OwnMemo, Stop, search};
 use std::alloc::{AllocError, Global};
 
 // How many lifts for each call a search may make at first, and how many times as many each time that it says nothing.
@@ -64,48 +64,51 @@ fn told_by(outcome: Outcome) -> PartAnswer
 }
 
 // What a search says that keeps what it refuted.
-fn full_answer(
+fn full_answer<S: Stop>(
     alloc: Global,
     part: &Problem<AnyObject>,
     lifts: u64,
+    stop: &mut S,
 ) -> Result<PartAnswer, AllocError>
     ensures { IfOk result (IsAnswerTo (any_problem part.now)) }
 {
     lawful::<AnyObject>();
     let root = Config::root(alloc, part)?;
     let mut memo = OwnMemo::new(alloc, part);
-    let outcome = search(alloc, part, &root, &mut memo, Some(lifts), &mut NoStop)?;
+    let outcome = search(alloc, part, &root, &mut memo, Some(lifts), stop)?;
     Ok(told_by(outcome))
 }
 
 // What a search by key shows, of a map or a set; of another object what a search says that keeps what it refuted.
-fn answer_by_key(
+fn answer_by_key<S: Stop>(
     alloc: Global,
     part: &Problem<AnyObject>,
     lifts: u64,
+    stop: &mut S,
 ) -> Result<PartAnswer, AllocError>
     ensures { IfOk result (IsAnswerTo (any_problem part.now)) }
 {
     match search_by_key(alloc, part, Some(lifts))? {
         Some(KeyAnswer::Found(order)) => Ok(PartAnswer::Found(order)),
         Some(KeyAnswer::Refuted) => Ok(PartAnswer::Refuted),
-        None => full_answer(alloc, part, lifts),
+        None => full_answer(alloc, part, lifts, stop),
     }
 }
 
 // What a search of so many lifts shows: a first search where something is known ahead.
-fn answer_within(
+fn answer_within<S: Stop>(
     alloc: Global,
     part: &Problem<AnyObject>,
     known: &Option<KnownAhead>,
     lifts: u64,
+    stop: &mut S,
 ) -> Result<PartAnswer, AllocError>
     requires { IfSome known.now (IsRightAhead (any_problem part.now)) }
     ensures { IfOk result (IsAnswerTo (any_problem part.now)) }
 {
     match known {
         Some(ahead) => first_answer(alloc, part, ahead, lifts),
-        None => answer_by_key(alloc, part, lifts),
+        None => answer_by_key(alloc, part, lifts, stop),
     }
 }
 
@@ -149,23 +152,27 @@ fn shows_none(
 
 /// Searches of parts of a problem of the seven kinds, each made anew: first searches where something is known ahead, searches by
 /// key of maps and sets, and searches that keep what they refuted for other parts. Each makes no more lifts than are left of
-/// those that were given at the start, where a search by key counts the lifts for each key alone.
+/// those that were given at the start, where a search by key counts the lifts for each key alone. Where the stop answers, they
+/// say nothing.
 #[derive(Drop)]
-pub(crate) struct AnewSearch {
+pub(crate) struct AnewSearch<'a, S> {
     events: Vec<ProblemEvent>,
     lifts: u64,
+    stop: &'a mut S,
 }
 
-impl AnewSearch {
-    // Searches of parts of this problem, with so many lifts for all of them. Of another problem they say nothing.
+impl<'a, S: Stop> AnewSearch<'a, S> {
+    // Searches of parts of this problem, with so many lifts for all of them and this stop. Of another problem they say nothing.
     pub(crate) fn new(
         alloc: Global,
         problem: &Problem<AnyObject>,
         lifts: u64,
+        stop: &'a mut S,
     ) -> Result<Self, AllocError> {
         Ok(AnewSearch {
             events: problem.timeline(alloc)?,
             lifts,
+            stop,
         })
     }
 
@@ -189,8 +196,11 @@ impl AnewSearch {
     {
         let mut wanted = FIRST_LIFTS.saturating_mul(part.len() as u64);
         for _ in 0..rounds {
+            if self.stop.ask().is_some() {
+                return Ok(PartAnswer::Unknown);
+            }
             let lifts = self.take(wanted);
-            match answer_within(alloc, part, known, lifts)? {
+            match answer_within(alloc, part, known, lifts, self.stop)? {
                 PartAnswer::Unknown if self.lifts > 0 => wanted = wanted.saturating_mul(GROWTH),
                 answer => return Ok(answer),
             }
@@ -207,6 +217,9 @@ impl AnewSearch {
     ) -> Result<PartAnswer, AllocError>
         ensures { IfOk result (IsAnswerTo (any_problem part.now)) }
     {
+        if self.stop.ask().is_some() {
+            return Ok(PartAnswer::Unknown);
+        }
         let known = known_ahead(alloc, part)?;
         if shows_none(alloc, part, &known)? {
             return Ok(PartAnswer::Refuted);
@@ -273,7 +286,7 @@ impl AnewSearch {
     }
 }
 
-impl PartSearch<AnyObject> for AnewSearch {
+impl<'a, S: Stop> PartSearch<AnyObject> for AnewSearch<'a, S> {
     fn least_of_part(
         &mut self,
         alloc: Global,

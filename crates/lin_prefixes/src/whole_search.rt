@@ -10,23 +10,26 @@ use crate::part_answer::PartAnswer;
 use crate::whole_answer::WholeAnswer;
 use lin_history::Problem;
 use lin_object::AnyObject;
+use lin_search::Stop;
 use std::alloc::{AllocError, Global};
 
 /// The least linearization of the problem; or, where it has none, the first of its longest runs, from searches of smaller
 /// problems for their least linearizations. `None` where all these searches together would have made more lifts than so
-/// many, or where that is not known: where a pending call of the longest run has no step. No configuration is kept from one
+/// many, where the stop answered, or where that is not known: where a pending call of the longest run has no step. The stop is
+/// asked before each search, and before each lift of one that keeps what it refuted. No configuration is kept from one
 /// search to the next. `AllocError` where memory was refused.
 ///
 /// It is quick where something is known ahead of the problem (`known_ahead`) and its searches so come to an end soon: a
 /// search is made for each halving of the number of calls, and then some for each few calls that the longest run lacks.
-pub fn search_by_prefixes(
+pub fn search_by_prefixes<S: Stop>(
     alloc: Global,
     problem: &Problem<AnyObject>,
     lifts: u64,
+    stop: &mut S,
 ) -> Result<Option<WholeAnswer>, AllocError>
     ensures { IfOk result (λ answer. IfSome answer (IsWholeAnswer (any_problem problem.now))) }
 {
-    let mut search = AnewSearch::new(alloc, problem, lifts)?;
+    let mut search = AnewSearch::new(alloc, problem, lifts, stop)?;
     match search.answer_to(alloc, problem)? {
         PartAnswer::Found(order) => Ok(Some(WholeAnswer::Found(order))),
         PartAnswer::Unknown => Ok(None),

@@ -1,5 +1,5 @@
 -- What a right verdict names is of its history.
-use Rattle.std.proofs.Common.{ℕ, ◌<◌, List, [], ◌∷◌, length, Option, inl, inr, subst}
+use Rattle.std.proofs.Common.{ℕ, ◌<◌, List, [], ◌∷◌, length, inl, inr, subst}
 use Rattle.std.proofs.lemmas.Option.{slice_get_within}
 use Rattle.lin_object.specs.declared.reply.Reply.{Reply}
 use Rattle.lin_object.specs.declared.state.ObjState.{ObjState}
@@ -9,6 +9,7 @@ use Rattle.lin_history.specs.Locality.Whole.{Replays, with_state}
 use Rattle.lin_history.specs.Locality.JoinedOrder.{Places}
 use Rattle.lin_history.specs.Locality.RecordedWhole.{whole_of, start_at}
 use Rattle.lin_history.specs.Verifier.Flags.{AreKnown}
+use Rattle.lin_workers.specs.Bounds.{Bounds}
 use Rattle.lincheck.specs.declared.verdict.Verdict.{Verdict}
 use Rattle.lincheck.specs.declared.verdict.Verdict.TheVariants.{Yes, No, Undecided}
 use Rattle.lincheck.specs.Verdict.{IsVerdict, IsOf}
@@ -31,7 +32,7 @@ placed_known h object s [] (x ∷ xs) p = absurd p
 placed_known h object s (c ∷ cs) [] p = absurd p
 
 -- a right verdict names calls and objects of the history
-pub verdict_of : (h : RecordedHistory) (limit : Option ℕ) (v : Verdict) → IsVerdict h limit v → IsOf h v
-verdict_of h limit (Yes l) v = replayed_known h (start_at h) l v.1.legal
-verdict_of h limit (No object run) v = (v.0.0.declared, placed_known h object (start_at h object) v.0.1.order run.items v.0.1.placed)
-verdict_of h limit (Undecided object) v = v.declared
+pub verdict_of : (h : RecordedHistory) (bounds : Bounds) (v : Verdict) → IsVerdict h bounds v → IsOf h v
+verdict_of h bounds (Yes l) v = replayed_known h (start_at h) l v.1.legal
+verdict_of h bounds (No object run) v = (v.0.0.declared, placed_known h object (start_at h object) v.0.1.order run.items v.0.1.placed)
+verdict_of h bounds (Undecided object) v = v.declared

@@ -4,6 +4,7 @@ use crate::choice::{Form, form_of, options_of};
 use crate::repeat::repeated;
 use lincheck::{Options, StdSink, StdSource, run, run_each, run_explained, status_code};
 use std::thread::Threads;
+use std::time::Clock;
 use std::{fs, io};
 
 // A file of the case, whole: `NAME.ENDING`, or what `NAME.ENDING.repeat` stands for.
@@ -31,7 +32,7 @@ fn words_of(rt: &HostRuntime, name: &str) -> io::Result<String> {
 }
 
 // The status with which the text is answered in this form, where just this answer is printed. Workers are started with `threads`.
-fn gives<R: AllocGlobal + Threads + Sync>(
+fn gives<R: AllocGlobal + Threads + Clock + Sync>(
     threads: &R,
     text: &[u8],
     options: &Options,
@@ -54,7 +55,7 @@ fn gives<R: AllocGlobal + Threads + Sync>(
 }
 
 // Whether a case is answered so, with these options in this form.
-fn is_answered_with<R: AllocGlobal + Threads + Sync>(
+fn is_answered_with<R: AllocGlobal + Threads + Clock + Sync>(
     rt: &HostRuntime,
     threads: &R,
     name: &str,
@@ -69,7 +70,7 @@ fn is_answered_with<R: AllocGlobal + Threads + Sync>(
 }
 
 /// Whether the text of a case is answered with its status, and its answer printed byte for byte.
-pub fn is_answered<R: AllocGlobal + Threads + Sync>(
+pub fn is_answered<R: AllocGlobal + Threads + Clock + Sync>(
     rt: &HostRuntime,
     threads: &R,
     name: &str,

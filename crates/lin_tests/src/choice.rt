@@ -8,6 +8,7 @@ struct Choice {
     workers: u64,
     shards: u64,
     limit: Option<u64>,
+    seconds: Option<u64>,
     stats: bool,
 }
 
@@ -16,6 +17,7 @@ const USUAL: Choice = Choice {
     workers: 4,
     shards: 16,
     limit: None,
+    seconds: None,
     stats: false,
 };
 
@@ -58,6 +60,10 @@ fn with_line(choice: Choice, line: &str) -> Option<Choice> {
             limit: Some(value),
             ..choice
         }),
+        "--seconds" => Some(Choice {
+            seconds: Some(value),
+            ..choice
+        }),
         _ => None,
     }
 }
@@ -68,7 +74,8 @@ pub fn options_of(lines: &str) -> Option<Options> {
     for line in lines.lines() {
         choice = with_line(choice, line)?;
     }
-    Options::new(choice.workers, choice.shards, choice.limit, choice.stats).ok()
+    let options = Options::new(choice.workers, choice.shards, choice.limit, choice.stats).ok()?;
+    options.with_seconds(choice.seconds).ok()
 }
 
 // The form, with what a line says of it.

@@ -10,6 +10,7 @@ mod tests;
 
 use case::is_answered;
 use std::thread::Threads;
+use std::time::Clock;
 use std::{fs, io};
 
 // The names of the cases of this folder, in order: each has a file `NAME.status`.
@@ -25,7 +26,7 @@ fn case_names(rt: &HostRuntime) -> io::Result<Vec<String>> {
 }
 
 // Whether a case is answered so; if not, its name is told. A case that can't be read is not answered.
-fn holds<R: AllocGlobal + Threads + Sync>(
+fn holds<R: AllocGlobal + Threads + Clock + Sync>(
     rt: &HostRuntime,
     threads: &R,
     name: &str,

@@ -4,6 +4,7 @@ pub mod Levels
 pub mod Heard
 pub mod Values
 pub mod Options
+pub mod Bounds
 pub mod Outcomes
 pub mod Verdict
 pub mod Scouting

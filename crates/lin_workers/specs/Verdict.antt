@@ -1,5 +1,5 @@
 -- What a check of one object finds (this project's own; the definition is that of Herlihy and Wing 1990).
-use Rattle.std.specs.Prelude.{◌≡◌, ℕ, ◌<◌, Option, Some, IsSomeAnd, List, slice_get}
+use Rattle.std.specs.Prelude.{◌≡◌, ℕ, ◌<◌, ◌⊎◌, Some, IsSome, IsSomeAnd, List, slice_get}
 use Rattle.lin_history.specs.Problems.Problem.{Problem}
 use Rattle.lin_history.specs.Problems.Lists.{IsLeast}
 use Rattle.lin_history.specs.Problems.Linearizations.{IsRun, IsLinearization}
@@ -9,14 +9,19 @@ use Rattle.lin_search.specs.Size.{HasMoreThan}
 use Rattle.lin_table.specs.declared.table.TheConstants.{STORED_BOUND}
 use Rattle.lin_workers.specs.declared.verdict.ObjectVerdict.{ObjectVerdict}
 use Rattle.lin_workers.specs.declared.verdict.ObjectVerdict.TheVariants.{Yes, No, Undecided}
+use Rattle.lin_workers.specs.Bounds.{Bounds}
 use Rattle.lin_workers.specs.Cut.{Task, IsCut, DecideBy, HasNoneBefore}
 
--- What each verdict says: the least linearization; that there is none, with the longest run; that there are more runs that
--- are not empty than the limit, which was given.
-abbrev pub IsObjectVerdict : {State Op Reply : Type 0} → Problem State Op Reply → Option ℕ → ObjectVerdict → Type 0
-IsObjectVerdict p limit (Yes order) = IsLeast (IsLinearization p) order
-IsObjectVerdict p limit (No run) = ((l : List ℕ) → IsLinearization p l → ⊥) × IsFirstLongest (IsRun p) run
-IsObjectVerdict p limit Undecided = IsSomeAnd limit (λ most. HasMoreThan (IsRun p) most)
+-- An object may be undecided: the time is bounded; or there are more runs that are not empty than the limit, which was given.
+abbrev pub MayBeUndecided : {State Op Reply : Type 0} → Problem State Op Reply → Bounds → Type 0
+MayBeUndecided p bounds = IsSome bounds.seconds ⊎ IsSomeAnd bounds.limit (λ most. HasMoreThan (IsRun p) most)
+
+-- What each verdict says: the least linearization; that there is none, with the longest run; that the bounds may have ended the
+-- search.
+abbrev pub IsObjectVerdict : {State Op Reply : Type 0} → Problem State Op Reply → Bounds → ObjectVerdict → Type 0
+IsObjectVerdict p bounds (Yes order) = IsLeast (IsLinearization p) order
+IsObjectVerdict p bounds (No run) = ((l : List ℕ) → IsLinearization p l → ⊥) × IsFirstLongest (IsRun p) run
+IsObjectVerdict p bounds Undecided = MayBeUndecided p bounds
 
 -- So many configurations were stored in the check: fewer than the bound, and the problem has as many reachable ones or more,
 -- where equal ones count once (Lowe 2017).

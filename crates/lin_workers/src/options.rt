@@ -1,6 +1,6 @@
 //! How a check is run.
-ghost use Rattle.std.specs.Prelude.{◌≡◌, IfSome};
-ghost use Rattle.lin_workers.specs.Options.{IsUpTo, is_outside, is_limit_outside, options_made, with_at_most};
+ghost use Rattle.std.specs.Prelude.{◌≡◌, IfSome, None};
+ghost use Rattle.lin_workers.specs.Options.{IsUpTo, is_outside, is_limit_outside, is_time_outside, options_made, with_at_most, with_seconds};
 
 use std::marker::Model;
 
@@ -13,14 +13,19 @@ pub const MAX_SHARDS: u64 = 256;
 /// The greatest limit on lifts.
 pub const MAX_LIMIT: u64 = 1_000_000_000_000;
 
-/// How a check is run: by how many workers, with how many shards, with which limit on the lifts of each search, and
-/// whether it shows how many configurations were stored. The type keeps each within its range.
+/// The most seconds.
+pub const MAX_SECONDS: u64 = 86_400;
+
+/// How a check is run: by how many workers, with how many shards, with which limit on the lifts of each search,
+/// whether it shows how many configurations were stored, and after how many seconds it ends. The type keeps each within its
+/// range.
 #[derive(Clone, Copy, PartialEq, Eq, Debug)]
 pub struct Options {
     workers: u64,
     shards: u64,
     limit: Option<u64>,
     stats: bool,
+    seconds: Option<u64>,
 }
 
 impl Model for Options {
@@ -33,6 +38,7 @@ impl Model for Options {
       shards = o.shards;
       limit = o.limit;
       stats = o.stats;
+      seconds = o.seconds;
     } };
 
     ghost invariant = { λ o. AreWithin (record {
@@ -40,6 +46,7 @@ impl Model for Options {
       shards = o.shards;
       limit = o.limit;
       stats = o.stats;
+      seconds = o.seconds;
     }) };
 
     ghost inverse = { λ o. record {
@@ -47,6 +54,7 @@ impl Model for Options {
       shards = o.shards;
       limit = o.limit;
       stats = o.stats;
+      seconds = o.seconds;
     } };
 }
 
@@ -59,6 +67,8 @@ pub enum OptionFault {
     Shards,
     /// A limit that is not 1 to `MAX_LIMIT`.
     Limit,
+    /// Seconds that are not 1 to `MAX_SECONDS`.
+    Seconds,
 }
 
 // Whether there is a limit that is not 1 to `MAX_LIMIT`.
@@ -71,9 +81,20 @@ fn is_limit_outside(limit: Option<u64>) -> bool
     }
 }
 
+// Whether there are seconds that are not 1 to `MAX_SECONDS`.
+fn is_time_outside(seconds: Option<u64>) -> bool
+    ensures { result ≡ is_time_outside seconds }
+{
+    match seconds {
+        Some(number) => !(1..=MAX_SECONDS).contains(&number),
+        None => false,
+    }
+}
+
 impl Options {
-    /// The options. Refusals, in order: `Workers` where they are not 1 to `MAX_WORKERS`, `Shards` where they are not 1 to
-    /// `MAX_SHARDS`, `Limit` where one is given that is not 1 to `MAX_LIMIT`. It takes no memory.
+    /// The options, for a check that may take any time. Refusals, in order: `Workers` where they are not 1 to
+    /// `MAX_WORKERS`, `Shards` where they are not 1 to `MAX_SHARDS`, `Limit` where one is given that is not 1 to `MAX_LIMIT`. It
+    /// takes no memory.
     pub fn new(
         workers: u64,
         shards: u64,
@@ -85,6 +106,7 @@ impl Options {
           shards = shards;
           limit = limit;
           stats = stats;
+          seconds = None;
         }) }
     {
         if !(1..=MAX_WORKERS).contains(&workers) {
@@ -101,7 +123,19 @@ impl Options {
             shards,
             limit,
             stats,
+            seconds: None,
         })
+    }
+
+    /// The same options for a check that ends after so many seconds, where a number is given. `Seconds` where it is not 1 to
+    /// `MAX_SECONDS`. It takes no memory.
+    pub fn with_seconds(self, seconds: Option<u64>) -> Result<Options, OptionFault>
+        ensures { result ≡ with_seconds seconds self }
+    {
+        if is_time_outside(seconds) {
+            return Err(OptionFault::Seconds);
+        }
+        Ok(Options { seconds, ..self })
     }
 
     /// The same options with at most so many workers, but one at least. It takes no memory.
@@ -137,6 +171,14 @@ impl Options {
         ensures range { IfSome result (IsUpTo MAX_LIMIT) }
     {
         self.limit
+    }
+
+    /// After how many seconds the check ends, where that is bounded: 1 to `MAX_SECONDS`.
+    pub fn seconds(&self) -> Option<u64>
+        ensures seconds { result ≡ self.now.seconds }
+        ensures range { IfSome result (IsUpTo MAX_SECONDS) }
+    {
+        self.seconds
     }
 
     /// Whether the number of configurations stored is told.

@@ -24,8 +24,8 @@ use Rattle.clap.specs.declared.error.kind.ErrorKind.TheVariants as kinds
 use Rattle.clap.proofs.WalkLemmas.{one_text-rows}
 use Rattle.clap.proofs.OnLiterals.{clap_on_literals}
 use Rattle.clap.proofs.CallerLemmas.{added_plain, entry_by_id}
-use Rattle.lin_workers.specs.Options.{Options, IsUpTo, is_outside, is_limit_outside, options_made}
-use Rattle.lin_workers.specs.declared.options.TheConstants.{MAX_WORKERS, MAX_SHARDS, MAX_LIMIT}
+use Rattle.lin_workers.specs.Options.{Options, IsUpTo, is_outside, is_limit_outside, is_time_outside, options_made, with_seconds}
+use Rattle.lin_workers.specs.declared.options.TheConstants.{MAX_WORKERS, MAX_SHARDS, MAX_LIMIT, MAX_SECONDS}
 use Rattle.lincheck.specs.CommandLine.{TakesUpTo, flag_rule, no_options, number_rule, program, IsBareLine, IsCommandLine, IsFlagAsked, IsFlagOption, IsNumberOption, GivesUpTo, AreAsked, AreInRange, number_in}
 use Rattle.lincheck.specs.Request.{AnswersKind, AreTaken, IsAnswerTo, IsRequestOf}
 use Rattle.lincheck.specs.declared.request.Request.{Request}
@@ -129,6 +129,9 @@ in_range old m p line =
       limit = gives p.built (found_of m) (codes "limit") MAX_LIMIT parsed.values no_groups (λ e. cc)
           (takes_built old p.built (codes "limit") MAX_LIMIT p.from line.limit
           (not_auto (codes "limit") 108 refl (λ e. absurd (omega arith)) (λ e. absurd (omega arith))));
+      seconds = gives p.built (found_of m) (codes "seconds") MAX_SECONDS parsed.values no_groups (λ e. cc)
+          (takes_built old p.built (codes "seconds") MAX_SECONDS p.from line.seconds
+          (not_auto (codes "seconds") 115 refl (λ e. absurd (omega arith)) (λ e. absurd (omega arith))));
     }
 
 -- What is read of a text that gives such a number is that number.
@@ -158,29 +161,43 @@ made_of o made workers shards limit is =
     let same : Ok o ≡ Ok made = rw (is_inside MAX_WORKERS o.workers workers, is_inside MAX_SHARDS o.shards shards, limit_is_inside o.limit limit) at is in
     cc
 
+time_is_inside : (seconds : Option ℕ) → IfSome seconds (IsUpTo MAX_SECONDS) → is_time_outside seconds ≡ false
+time_is_inside None h = refl
+time_is_inside (Some n) h = is_inside MAX_SECONDS n h
+
+timed_of : (seconds : Option ℕ) (o timed : Options) → IfSome seconds (IsUpTo MAX_SECONDS) → with_seconds seconds o ≡ Ok timed
+    → timed ≡ record { workers = o.workers; shards = o.shards; limit = o.limit; stats = o.stats; seconds = seconds }
+timed_of seconds o timed within is =
+    let same : Ok (record { workers = o.workers; shards = o.shards; limit = o.limit; stats = o.stats; seconds = seconds }) ≡ Ok timed = rw (time_is_inside seconds within) at is in
+    cc
+
 -- A number, or the usual one.
 or_usual : (greatest usual : ℕ) (r : Option ℕ) → IfSome r (IsUpTo greatest) → IsUpTo greatest usual → IsUpTo greatest (unwrap_or r usual)
 or_usual greatest usual None given is = is
 or_usual greatest usual (Some n) given is = given
 
 -- The options that are made of what was read.
-pub asked : (found : Found) (w s l : Option ℕ) (workers shards : ℕ) (stats : Bool) (made : Options)
+pub asked : (found : Found) (w s l d : Option ℕ) (workers shards : ℕ) (stats : Bool) (made timed : Options)
     → (w ≡ number_in (one_text found (codes "workers"))) × IfSome w (IsUpTo MAX_WORKERS)
     → (s ≡ number_in (one_text found (codes "shards"))) × IfSome s (IsUpTo MAX_SHARDS)
     → (l ≡ number_in (one_text found (codes "limit"))) × IfSome l (IsUpTo MAX_LIMIT)
+    → (d ≡ number_in (one_text found (codes "seconds"))) × IfSome d (IsUpTo MAX_SECONDS)
     → workers ≡ unwrap_or w DEFAULT_WORKERS → shards ≡ unwrap_or s DEFAULT_SHARDS
     → (one_text found (codes "stats") ≡ Some (codes "true") → stats ≡ true) → (one_text found (codes "stats") ≡ Some (codes "false") → stats ≡ false)
-    → options_made (record { workers = workers; shards = shards; limit = l; stats = stats }) ≡ Ok made → AreAsked (rows_of found) made
-asked found w s l workers shards stats made w_is s_is l_is workers_is shards_is on off is =
+    → options_made (record { workers = workers; shards = shards; limit = l; stats = stats; seconds = None }) ≡ Ok made
+    → with_seconds d made ≡ Ok timed → AreAsked (rows_of found) timed
+asked found w s l d workers shards stats made timed w_is s_is l_is d_is workers_is shards_is on off is then =
     let workers_in : IsUpTo MAX_WORKERS workers = subst (IsUpTo MAX_WORKERS) (sym workers_is) (or_usual MAX_WORKERS DEFAULT_WORKERS w w_is.1 (omega arith, omega arith)) in
     let shards_in : IsUpTo MAX_SHARDS shards = subst (IsUpTo MAX_SHARDS) (sym shards_is) (or_usual MAX_SHARDS DEFAULT_SHARDS s s_is.1 (omega arith, omega arith)) in
-    let same = made_of (record { workers = workers; shards = shards; limit = l; stats = stats }) made workers_in shards_in l_is.1 is in
+    let same = made_of (record { workers = workers; shards = shards; limit = l; stats = stats; seconds = None }) made workers_in shards_in l_is.1 is in
+    let after = timed_of d made timed d_is.1 then in
     record {
-      workers = ap (λ o. o.workers) same ∙ (workers_is ∙ ap (λ r. unwrap_or r DEFAULT_WORKERS) (w_is.0 ∙ ap number_in (one_text-rows found (codes "workers"))));
-      shards = ap (λ o. o.shards) same ∙ (shards_is ∙ ap (λ r. unwrap_or r DEFAULT_SHARDS) (s_is.0 ∙ ap number_in (one_text-rows found (codes "shards"))));
-      limit = ap (λ o. o.limit) same ∙ (l_is.0 ∙ ap number_in (one_text-rows found (codes "limit")));
-      stats = λ given. ap (λ o. o.stats) same ∙ on (one_text-rows found (codes "stats") ∙ given);
-      silent = λ given. ap (λ o. o.stats) same ∙ off (one_text-rows found (codes "stats") ∙ given);
+      workers = ap (λ o. o.workers) after ∙ (ap (λ o. o.workers) same ∙ (workers_is ∙ ap (λ r. unwrap_or r DEFAULT_WORKERS) (w_is.0 ∙ ap number_in (one_text-rows found (codes "workers")))));
+      shards = ap (λ o. o.shards) after ∙ (ap (λ o. o.shards) same ∙ (shards_is ∙ ap (λ r. unwrap_or r DEFAULT_SHARDS) (s_is.0 ∙ ap number_in (one_text-rows found (codes "shards")))));
+      limit = ap (λ o. o.limit) after ∙ (ap (λ o. o.limit) same ∙ (l_is.0 ∙ ap number_in (one_text-rows found (codes "limit"))));
+      seconds = ap (λ o. o.seconds) after ∙ (d_is.0 ∙ ap number_in (one_text-rows found (codes "seconds")));
+      stats = λ given. ap (λ o. o.stats) after ∙ (ap (λ o. o.stats) same ∙ on (one_text-rows found (codes "stats") ∙ given));
+      silent = λ given. ap (λ o. o.stats) after ∙ (ap (λ o. o.stats) same ∙ off (one_text-rows found (codes "stats") ∙ given));
     }
 
 -- Texts that differ at a place are not the same.
@@ -190,6 +207,12 @@ differ_at n m k xs ys left right differ same = differ (sym left ∙ (ap (λ t. s
 stats_is_not_shards : codes "stats" ≡ codes "shards" → ⊥
 stats_is_not_shards = differ_at 1 116 104 (codes "stats") (codes "shards") refl refl (λ e. absurd (omega arith))
 
+seconds_is_not_shards : codes "seconds" ≡ codes "shards" → ⊥
+seconds_is_not_shards = differ_at 1 101 104 (codes "seconds") (codes "shards") refl refl (λ e. absurd (omega arith))
+
+stats_is_not_seconds : codes "stats" ≡ codes "seconds" → ⊥
+stats_is_not_seconds = differ_at 1 116 101 (codes "stats") (codes "seconds") refl refl (λ e. absurd (omega arith))
+
 -- What a rule says of a number is what the argument takes.
 takes_it : (a : Arg) (name : List ℕ) (greatest : ℕ) → IsNumberOption name greatest a → a.value_parser ≡ Some (parsers.Unsigned 1 greatest)
 takes_it a name greatest is = ap (λ (r : Rule). r.parser) is.rule
@@ -198,8 +221,8 @@ named : (a : Arg) (name : List ℕ) (greatest : ℕ) → IsNumberOption name gre
 named a name greatest is = ap (λ (r : Rule). r.id) is.rule
 
 -- What the program's command line is made of.
-program_of : (c : Command) → app_of c ≡ with_rule (with_rule (with_rule (with_rule (with_rule (with_rule no_options (number_rule (codes "workers") MAX_WORKERS))
-    (number_rule (codes "shards") MAX_SHARDS)) (number_rule (codes "limit") MAX_LIMIT)) (flag_rule (codes "stats"))) (flag_rule (codes "explain"))) (flag_rule (codes "each")) → app_of c ≡ program
+program_of : (c : Command) → app_of c ≡ with_rule (with_rule (with_rule (with_rule (with_rule (with_rule (with_rule no_options (number_rule (codes "workers") MAX_WORKERS))
+    (number_rule (codes "shards") MAX_SHARDS)) (number_rule (codes "limit") MAX_LIMIT)) (flag_rule (codes "stats"))) (flag_rule (codes "explain"))) (flag_rule (codes "each"))) (number_rule (codes "seconds") MAX_SECONDS) → app_of c ≡ program
 unfolding program
 program_of c is = is
 
@@ -256,12 +279,12 @@ other_answers {E} words c e r line fails answers =
     go (Ok (Refused text)) answers (inr among) = inl (kind_of e, answers.0, answers.1, among)
     go (Err fault) answers kind = tt
 
--- A command to which the program's six options were added, one after another.
-pub line_of : (start first second third fourth fifth last : Command) (w s l t e o : Arg) → IsBareLine start
-    → AddsArg start w first → AddsArg first s second → AddsArg second l third → AddsArg third t fourth → AddsArg fourth e fifth → AddsArg fifth o last
+-- A command to which the program's seven options were added, one after another.
+pub line_of : (start first second third fourth fifth sixth last : Command) (w s l t e o d : Arg) → IsBareLine start
+    → AddsArg start w first → AddsArg first s second → AddsArg second l third → AddsArg third t fourth → AddsArg fourth e fifth → AddsArg fifth o sixth → AddsArg sixth d last
     → IsNumberOption (codes "workers") MAX_WORKERS w → IsNumberOption (codes "shards") MAX_SHARDS s
-    → IsNumberOption (codes "limit") MAX_LIMIT l → IsFlagOption (codes "stats") t → IsFlagOption (codes "explain") e → IsFlagOption (codes "each") o → IsCommandLine last
-line_of start first second third fourth fifth last w s l t e o bare to_w to_s to_l to_t to_e to_o is_w is_s is_l is_t is_e is_o =
+    → IsNumberOption (codes "limit") MAX_LIMIT l → IsFlagOption (codes "stats") t → IsFlagOption (codes "explain") e → IsFlagOption (codes "each") o → IsNumberOption (codes "seconds") MAX_SECONDS d → IsCommandLine last
+line_of start first second third fourth fifth sixth last w s l t e o d bare to_w to_s to_l to_t to_e to_o to_d is_w is_s is_l is_t is_e is_o is_d =
     let plain0 : IsPlain start = (subst (All IsPlainArg) (sym bare.args) (All-nil IsPlainArg), bare.groups) in
     let plain1 = added_plain start first w to_w plain0 is_w.plain in
     let plain2 = added_plain first second s to_s plain1 is_s.plain in
@@ -276,12 +299,16 @@ line_of start first second third fourth fifth last w s l t e o bare to_w to_s to
     let own5 = own_after fourth fifth e to_e own4 is_e.own in
     let id_e = ap (λ (r : Rule). r.id) is_e.rule in
     let id_o = ap (λ (r : Rule). r.id) is_o.rule in
+    let plain6 = added_plain fifth sixth o to_o plain5 is_o.plain in
+    let own6 = own_after fifth sixth o to_o own5 is_o.own in
+    let id_d = named d (codes "seconds") MAX_SECONDS is_d in
     record {
-      app = program_of last (to_o.shape is_o.own ∙ ap₂ with_rule (to_e.shape is_e.own ∙ ap₂ with_rule (to_t.shape is_t.own ∙ ap₂ with_rule (to_l.shape is_l.own ∙ ap₂ with_rule (to_s.shape is_s.own ∙ ap₂ with_rule
-          (to_w.shape is_w.own ∙ ap₂ with_rule bare.app is_w.rule) is_s.rule) is_l.rule) is_t.rule) is_e.rule) is_o.rule);
-      plain = added_plain fifth last o to_o plain5 is_o.plain;
-      own = own_after fifth last o to_o own5 is_o.own;
-      workers = takes_push fifth last o (codes "workers") MAX_WORKERS to_o
+      app = program_of last (to_d.shape is_d.own ∙ ap₂ with_rule (to_o.shape is_o.own ∙ ap₂ with_rule (to_e.shape is_e.own ∙ ap₂ with_rule (to_t.shape is_t.own ∙ ap₂ with_rule (to_l.shape is_l.own ∙ ap₂ with_rule (to_s.shape is_s.own ∙ ap₂ with_rule
+          (to_w.shape is_w.own ∙ ap₂ with_rule bare.app is_w.rule) is_s.rule) is_l.rule) is_t.rule) is_e.rule) is_o.rule) is_d.rule);
+      plain = added_plain sixth last d to_d plain6 is_d.plain;
+      own = own_after sixth last d to_d own6 is_d.own;
+      workers = takes_push sixth last d (codes "workers") MAX_WORKERS to_d
+          (takes_push fifth sixth o (codes "workers") MAX_WORKERS to_o
           (takes_push fourth fifth e (codes "workers") MAX_WORKERS to_e
           (takes_push third fourth t (codes "workers") MAX_WORKERS to_t
           (takes_push second third l (codes "workers") MAX_WORKERS to_l
@@ -292,8 +319,10 @@ line_of start first second third fourth fifth last w s l t e o bare to_w to_s to
           (other_name l (codes "workers") MAX_WORKERS 108 119 (ap (λ n. slice_index n 0) (named l (codes "limit") MAX_LIMIT is_l)) refl (λ e. absurd (omega arith))))
           (other_name t (codes "workers") MAX_WORKERS 115 119 (ap (λ n. slice_index n 0) id) refl (λ e. absurd (omega arith))))
           (other_name e (codes "workers") MAX_WORKERS 101 119 (ap (λ n. slice_index n 0) id_e) refl (λ q. absurd (omega arith))))
-          (other_name o (codes "workers") MAX_WORKERS 101 119 (ap (λ n. slice_index n 0) id_o) refl (λ q. absurd (omega arith)));
-      shards = takes_push fifth last o (codes "shards") MAX_SHARDS to_o
+          (other_name o (codes "workers") MAX_WORKERS 101 119 (ap (λ n. slice_index n 0) id_o) refl (λ q. absurd (omega arith))))
+          (other_name d (codes "workers") MAX_WORKERS 115 119 (ap (λ n. slice_index n 0) id_d) refl (λ q. absurd (omega arith)));
+      shards = takes_push sixth last d (codes "shards") MAX_SHARDS to_d
+          (takes_push fifth sixth o (codes "shards") MAX_SHARDS to_o
           (takes_push fourth fifth e (codes "shards") MAX_SHARDS to_e
           (takes_push third fourth t (codes "shards") MAX_SHARDS to_t
           (takes_push second third l (codes "shards") MAX_SHARDS to_l
@@ -304,8 +333,10 @@ line_of start first second third fourth fifth last w s l t e o bare to_w to_s to
           (other_name l (codes "shards") MAX_SHARDS 108 115 (ap (λ n. slice_index n 0) (named l (codes "limit") MAX_LIMIT is_l)) refl (λ e. absurd (omega arith))))
           (λ is. absurd (stats_is_not_shards (sym id ∙ is))))
           (other_name e (codes "shards") MAX_SHARDS 101 115 (ap (λ n. slice_index n 0) id_e) refl (λ q. absurd (omega arith))))
-          (other_name o (codes "shards") MAX_SHARDS 101 115 (ap (λ n. slice_index n 0) id_o) refl (λ q. absurd (omega arith)));
-      limit = takes_push fifth last o (codes "limit") MAX_LIMIT to_o
+          (other_name o (codes "shards") MAX_SHARDS 101 115 (ap (λ n. slice_index n 0) id_o) refl (λ q. absurd (omega arith))))
+          (λ is. absurd (seconds_is_not_shards (sym id_d ∙ is)));
+      limit = takes_push sixth last d (codes "limit") MAX_LIMIT to_d
+          (takes_push fifth sixth o (codes "limit") MAX_LIMIT to_o
           (takes_push fourth fifth e (codes "limit") MAX_LIMIT to_e
           (takes_push third fourth t (codes "limit") MAX_LIMIT to_t
           (takes_push second third l (codes "limit") MAX_LIMIT to_l
@@ -316,7 +347,22 @@ line_of start first second third fourth fifth last w s l t e o bare to_w to_s to
           (λ is. takes_it l (codes "limit") MAX_LIMIT is_l))
           (other_name t (codes "limit") MAX_LIMIT 115 108 (ap (λ n. slice_index n 0) id) refl (λ e. absurd (omega arith))))
           (other_name e (codes "limit") MAX_LIMIT 101 108 (ap (λ n. slice_index n 0) id_e) refl (λ q. absurd (omega arith))))
-          (other_name o (codes "limit") MAX_LIMIT 101 108 (ap (λ n. slice_index n 0) id_o) refl (λ q. absurd (omega arith)));
+          (other_name o (codes "limit") MAX_LIMIT 101 108 (ap (λ n. slice_index n 0) id_o) refl (λ q. absurd (omega arith))))
+          (other_name d (codes "limit") MAX_LIMIT 115 108 (ap (λ n. slice_index n 0) id_d) refl (λ q. absurd (omega arith)));
+      seconds = takes_push sixth last d (codes "seconds") MAX_SECONDS to_d
+          (takes_push fifth sixth o (codes "seconds") MAX_SECONDS to_o
+          (takes_push fourth fifth e (codes "seconds") MAX_SECONDS to_e
+          (takes_push third fourth t (codes "seconds") MAX_SECONDS to_t
+          (takes_push second third l (codes "seconds") MAX_SECONDS to_l
+          (takes_push first second s (codes "seconds") MAX_SECONDS to_s
+          (takes_push start first w (codes "seconds") MAX_SECONDS to_w (takes_none start (codes "seconds") MAX_SECONDS bare.args)
+          (other_name w (codes "seconds") MAX_SECONDS 119 115 (ap (λ n. slice_index n 0) (named w (codes "workers") MAX_WORKERS is_w)) refl (λ e. absurd (omega arith))))
+          (λ is. absurd (seconds_is_not_shards (sym is ∙ named s (codes "shards") MAX_SHARDS is_s))))
+          (other_name l (codes "seconds") MAX_SECONDS 108 115 (ap (λ n. slice_index n 0) (named l (codes "limit") MAX_LIMIT is_l)) refl (λ e. absurd (omega arith))))
+          (λ is. absurd (stats_is_not_seconds (sym id ∙ is))))
+          (other_name e (codes "seconds") MAX_SECONDS 101 115 (ap (λ n. slice_index n 0) id_e) refl (λ q. absurd (omega arith))))
+          (other_name o (codes "seconds") MAX_SECONDS 101 115 (ap (λ n. slice_index n 0) id_o) refl (λ q. absurd (omega arith))))
+          (λ is. takes_it d (codes "seconds") MAX_SECONDS is_d);
     }
   where
     own_after : (old new : Command) (a : Arg) → AddsArg old a new → (out-Command old).has_globals ≡ false → a.global ≡ false

@@ -1,15 +1,16 @@
 -- The statuses of a history's objects, one after another, and their lines.
-use Rattle.std.proofs.Common.{◌≡◌, ℕ, zero, suc, ◌+◌, ◌≤◌, List, [], ◌∷◌, ◌++◌, drop, length, length-append, append_assoc, append-nil, Option, Some, refl, sym, ap, ◌∙◌, subst, ◌⊎◌, inl, inr, arith, codes}
+use Rattle.std.proofs.Common.{◌≡◌, ℕ, zero, suc, ◌+◌, ◌≤◌, List, [], ◌∷◌, ◌++◌, drop, length, length-append, append_assoc, append-nil, Some, refl, sym, ap, ◌∙◌, subst, ◌⊎◌, inl, inr, arith, codes}
 use Rattle.std.specs.Prelude.{slice_get}
 use Rattle.lin_history.specs.Recorder.RecordedHistory.{RecordedHistory}
+use Rattle.lin_workers.specs.Bounds.{Bounds}
 use Rattle.lincheck.specs.declared.status.Status.{Status}
 use Rattle.lincheck.specs.Report.{name_of}
 use Rattle.lincheck.specs.Each.{IsStatusOf, AreStatusesOf, status_text, status_lines}
 use Rattle.lincheck.proofs.ReportLemmas.{dropped_at, over}
 
 -- before the first object
-pub statuses_none : (h : RecordedHistory) (limit : Option ℕ) → AreStatusesOf h limit 0 []
-statuses_none h limit = record { count = refl; each = λ object status e. absurd (cc) }
+pub statuses_none : (h : RecordedHistory) (bounds : Bounds) → AreStatusesOf h bounds 0 []
+statuses_none h bounds = record { count = refl; each = λ object status e. absurd (cc) }
 
 last_is : (statuses : List Status) (status : Status) (object : ℕ) (s : Status) → slice_get (statuses ++ status ∷ []) object ≡ Some s → (slice_get statuses object ≡ Some s) ⊎ ((object ≡ length statuses) × (status ≡ s))
 last_is [] status zero s e = inr (refl, cc)
@@ -18,17 +19,17 @@ last_is (x ∷ xs) status zero s e = inl e
 last_is (x ∷ xs) status (suc object) s e = elim (last_is xs status object s e) [ inl f ↦ inl f | inr f ↦ inr (omega (arith, f.0), f.1) ]
 
 -- one object more
-pub statuses_more : (h : RecordedHistory) (limit : Option ℕ) (n : ℕ) (statuses : List Status) (status : Status) → AreStatusesOf h limit n statuses → IsStatusOf h limit n status → AreStatusesOf h limit (n + 1) (statuses ++ status ∷ [])
-statuses_more h limit n statuses status so_far is = record {
+pub statuses_more : (h : RecordedHistory) (bounds : Bounds) (n : ℕ) (statuses : List Status) (status : Status) → AreStatusesOf h bounds n statuses → IsStatusOf h bounds n status → AreStatusesOf h bounds (n + 1) (statuses ++ status ∷ [])
+statuses_more h bounds n statuses status so_far is = record {
   count = length-append statuses (status ∷ []) ∙ ap (λ (k : ℕ). k + 1) so_far.count;
   each = λ object s e. at_place object s (last_is statuses status object s e);
 }
   where
-    at_place : (object : ℕ) (s : Status) → (slice_get statuses object ≡ Some s) ⊎ ((object ≡ length statuses) × (status ≡ s)) → IsStatusOf h limit object s
+    at_place : (object : ℕ) (s : Status) → (slice_get statuses object ≡ Some s) ⊎ ((object ≡ length statuses) × (status ≡ s)) → IsStatusOf h bounds object s
     at_place object s (inl e) = so_far.each object s e
     at_place object s (inr e) =
         let same : object ≡ n = e.0 ∙ so_far.count in
-        subst (λ (k : ℕ). IsStatusOf h limit k s) (sym same) (subst (IsStatusOf h limit n) e.1 is)
+        subst (λ (k : ℕ). IsStatusOf h bounds k s) (sym same) (subst (IsStatusOf h bounds n) e.1 is)
 
 -- the lines so far and the lines of what is left are the lines of all
 pub record StatusesWritten (h : RecordedHistory) (statuses : List Status) (old out : List ℕ) (i : ℕ) : Type 0 where

@@ -23,7 +23,8 @@ use Rattle.lin_history.specs.Locality.JoinedOrder.{IsJoined, Places}
 use Rattle.lin_history.specs.Locality.RecordedWhole.{start_at, whole_of, part_of}
 use Rattle.lin_history.specs.Locality.LocalityLemmas.{none_of_whole}
 use Rattle.lin_search.specs.LongestRun.{IsFirstLongest}
-use Rattle.lin_search.specs.Size.{HasMoreThan}
+use Rattle.lin_workers.specs.Bounds.{Bounds}
+use Rattle.lin_workers.specs.Verdict.{MayBeUndecided}
 use Rattle.lincheck.specs.declared.verdict.Verdict.TheVariants.{Yes, No, Undecided}
 use Rattle.lincheck.specs.Verdict.{AreLeastOf, IsVerdict}
 
@@ -75,8 +76,8 @@ least_more h orders order n so_far least = record {
 pub linearizations : (h : RecordedHistory) (orders : List (List ℕ)) (n : ℕ) → AreLeastOf h n orders → (object : ℕ) (order : List ℕ) → slice_get orders object ≡ Some order → IsLinearization (part_of h object) order
 linearizations h orders n so_far object order e = (so_far.each object order e).0
 
-pub verdict_yes : (h : RecordedHistory) (orders : List (List ℕ)) (n : ℕ) (l : List (Placed Reply)) → n ≡ length h.objects → AreLeastOf h n orders → IsJoined (whole_of h) orders l → IsLinearizationOfWhole (whole_of h) l → (limit : Option ℕ) → IsVerdict h limit (Yes l)
-verdict_yes h orders n l all so_far joined whole limit = ((orders, subst (λ (k : ℕ). AreLeastOf h k orders) all so_far, joined), whole)
+pub verdict_yes : (h : RecordedHistory) (orders : List (List ℕ)) (n : ℕ) (l : List (Placed Reply)) → n ≡ length h.objects → AreLeastOf h n orders → IsJoined (whole_of h) orders l → IsLinearizationOfWhole (whole_of h) l → (bounds : Bounds) → IsVerdict h bounds (Yes l)
+verdict_yes h orders n l all so_far joined whole bounds = ((orders, subst (λ (k : ℕ). AreLeastOf h k orders) all so_far, joined), whole)
 
 order_there : (orders : List (List ℕ)) (i : ℕ) → i < length orders → (order : List ℕ) × (slice_get orders i ≡ Some order)
 order_there [] i within = absurd (omega (arith, within))
@@ -89,14 +90,14 @@ earlier_have h orders object so_far i below =
     let there = order_there orders i (let count = so_far.count in omega (arith, below, count)) in
     (there.0, (so_far.each i there.0 there.1).0)
 
-pub verdict_no : (h : RecordedHistory) (orders : List (List ℕ)) (object : ℕ) (order : List ℕ) (run : Vec (Placed Reply) Global) → object < length h.objects → AreLeastOf h object orders → ((l : List ℕ) → IsLinearization (part_of h object) l → ⊥) × IsFirstLongest (IsRun (part_of h object)) order → Places (whole_of h) object (start_at h object) order run.items → (limit : Option ℕ) → IsVerdict h limit (No object run)
-verdict_no h orders object order run declared so_far none placed limit = (
+pub verdict_no : (h : RecordedHistory) (orders : List (List ℕ)) (object : ℕ) (order : List ℕ) (run : Vec (Placed Reply) Global) → object < length h.objects → AreLeastOf h object orders → ((l : List ℕ) → IsLinearization (part_of h object) l → ⊥) × IsFirstLongest (IsRun (part_of h object)) order → Places (whole_of h) object (start_at h object) order run.items → (bounds : Bounds) → IsVerdict h bounds (No object run)
+verdict_no h orders object order run declared so_far none placed bounds = (
   (record { declared = declared; none = none.0; earlier = earlier_have h orders object so_far }, record { order = order; longest = none.1; placed = placed }),
   none_of_whole state_eq.it (whole_of h) object none.0,
 )
 
-pub verdict_undecided : (h : RecordedHistory) (orders : List (List ℕ)) (object : ℕ) → object < length h.objects → AreLeastOf h object orders → (limit : Option ℕ) → IsSomeAnd limit (λ most. HasMoreThan (IsRun (part_of h object)) most) → IsVerdict h limit (Undecided object)
-verdict_undecided h orders object declared so_far limit over = record { declared = declared; earlier = earlier_have h orders object so_far; over = over }
+pub verdict_undecided : (h : RecordedHistory) (orders : List (List ℕ)) (object : ℕ) → object < length h.objects → AreLeastOf h object orders → (bounds : Bounds) → MayBeUndecided (part_of h object) bounds → IsVerdict h bounds (Undecided object)
+verdict_undecided h orders object declared so_far bounds over = record { declared = declared; earlier = earlier_have h orders object so_far; over = over }
 
 -- two breaks are equal only where their values are
 pub breaks : {B C : Type 0} → {x y : B} → ◌≡◌ {A = ControlFlow B C} (Break x) (Break y) → x ≡ y

@@ -11,7 +11,8 @@ use Rattle.lin_history.specs.Locality.RecordedWhole.{whole_of, start_at}
 use Rattle.lin_text.specs.declared.cause.Cause.{Cause}
 use Rattle.lin_text.specs.EventLines.{AreEventLines}
 use Rattle.lin_text.specs.Text.{MeansHistory, MeansFault}
-use Rattle.lin_workers.specs.Options.{Options}
+use Rattle.lin_workers.specs.Bounds.{Bounds}
+use Rattle.lin_workers.specs.Options.{Options, bounds_of}
 use Rattle.lincheck.specs.declared.answer_form.AnswerForm.{AnswerForm}
 use Rattle.lincheck.specs.declared.answer_form.AnswerForm.TheVariants.{Report, Explained, Each}
 use Rattle.lincheck.specs.declared.status.Status.{Status}
@@ -77,16 +78,16 @@ placed_known h object s [] (x ∷ xs) p = absurd p
 placed_known h object s (c ∷ cs) [] p = absurd p
 
 -- a right verdict names calls and objects of the history
-pub verdict_of : (h : RecordedHistory) (limit : Option ℕ) (v : Verdict) → IsVerdict h limit v → IsOf h v
-verdict_of h limit (verdicts.Yes l) v = replayed_known h (start_at h) l v.1.legal
-verdict_of h limit (verdicts.No object run) v = (v.0.0.declared, placed_known h object (start_at h object) v.0.1.order run.items v.0.1.placed)
-verdict_of h limit (verdicts.Undecided object) v = v.declared
+pub verdict_of : (h : RecordedHistory) (bounds : Bounds) (v : Verdict) → IsVerdict h bounds v → IsOf h v
+verdict_of h bounds (verdicts.Yes l) v = replayed_known h (start_at h) l v.1.legal
+verdict_of h bounds (verdicts.No object run) v = (v.0.0.declared, placed_known h object (start_at h object) v.0.1.order run.items v.0.1.placed)
+verdict_of h bounds (verdicts.Undecided object) v = v.declared
 
 -- the report of a right verdict, with what is told after it, is the report of the history
-report_of_verdict : (lines : Option (List ℕ)) (h : RecordedHistory) (limit : Option ℕ) (v : Verdict) (report printed : List ℕ) → IsVerdict h limit v → report ≡ report_of h v → IsExplained lines h v report printed → IsReport lines limit h (status_of v) (judged_of h v) printed
-report_of_verdict lines h limit (verdicts.Yes l) report printed v p e = ((v.0.0, l, v.0.1, v.0.2, v.1, e ∙ p), refl)
-report_of_verdict lines h limit (verdicts.No object run) report printed v p e = (object, (run.items, v.0.0, v.0.1, subst (λ (r : List ℕ). WithExplanation lines h object v.0.1.order r printed) p (e v.0.1)), v.1, refl)
-report_of_verdict lines h limit (verdicts.Undecided object) report printed v p e = (object, (v, e ∙ p), refl)
+report_of_verdict : (lines : Option (List ℕ)) (h : RecordedHistory) (bounds : Bounds) (v : Verdict) (report printed : List ℕ) → IsVerdict h bounds v → report ≡ report_of h v → IsExplained lines h v report printed → IsReport lines bounds h (status_of v) (judged_of h v) printed
+report_of_verdict lines h bounds (verdicts.Yes l) report printed v p e = ((v.0.0, l, v.0.1, v.0.2, v.1, e ∙ p), refl)
+report_of_verdict lines h bounds (verdicts.No object run) report printed v p e = (object, (run.items, v.0.0, v.0.1, subst (λ (r : List ℕ). WithExplanation lines h object v.0.1.order r printed) p (e v.0.1)), v.1, refl)
+report_of_verdict lines h bounds (verdicts.Undecided object) report printed v p e = (object, (v, e ∙ p), refl)
 
 -- where no lines are given, the report stays as it is
 pub explained_not : (h : RecordedHistory) (v : Verdict) (report : List ℕ) → IsExplained None h v report report
@@ -95,10 +96,10 @@ explained_not h (verdicts.No object run) report = λ longest. refl
 explained_not h (verdicts.Undecided object) report = refl
 
 -- no more objects are judged than there are
-pub judged_few : (h : RecordedHistory) (limit : Option ℕ) (v : Verdict) (most : ℕ) → IsVerdict h limit v → length h.objects ≤ most → judged_of h v ≤ most
-judged_few h limit (verdicts.Yes l) most v few = few
-judged_few h limit (verdicts.No object run) most v few = let d = v.0.0.declared in omega (arith, d, few)
-judged_few h limit (verdicts.Undecided object) most v few = let d = v.declared in omega (arith, d, few)
+pub judged_few : (h : RecordedHistory) (bounds : Bounds) (v : Verdict) (most : ℕ) → IsVerdict h bounds v → length h.objects ≤ most → judged_of h v ≤ most
+judged_few h bounds (verdicts.Yes l) most v few = few
+judged_few h bounds (verdicts.No object run) most v few = let d = v.0.0.declared in omega (arith, d, few)
+judged_few h bounds (verdicts.Undecided object) most v few = let d = v.declared in omega (arith, d, few)
 
 -- the statistics, where the number is told
 pub stats_told : (stats : Bool) (h : RecordedHistory) (n : ℕ) (stored : Option ℕ) (report printed : List ℕ) → printed ≡ with_stats stats stored report → IsStoredTold h n stored → n ≤ MAX_OBJECTS → WithStats stats h n report printed
@@ -107,8 +108,8 @@ stats_told true h n (Some stored) report printed e told few = (stored, told.is_s
 stats_told true h n None report printed e told few = absurd (let q = told.is_told few in cc)
 
 -- and the history prints it, with the statistics after it
-pub prints_verdict : (h : RecordedHistory) (options : Options) (lines : Option (List ℕ)) (v : Verdict) (report told printed : List ℕ) → IsVerdict h options.limit v → report ≡ report_of h v → IsExplained lines h v report told → WithStats options.stats h (judged_of h v) told printed → PrintsWith options lines h (status_of v) printed
-prints_verdict h options lines v report told printed right is why stats = (judged_of h v, told, report_of_verdict lines h options.limit v report told right is why, stats)
+pub prints_verdict : (h : RecordedHistory) (options : Options) (lines : Option (List ℕ)) (v : Verdict) (report told printed : List ℕ) → IsVerdict h (bounds_of options) v → report ≡ report_of h v → IsExplained lines h v report told → WithStats options.stats h (judged_of h v) told printed → PrintsWith options lines h (status_of v) printed
+prints_verdict h options lines v report told printed right is why stats = (judged_of h v, told, report_of_verdict lines h (bounds_of options) v report told right is why, stats)
 
 -- what the history prints is what the text prints that means it
 pub prints_report : (text : List ℕ) (h : RecordedHistory) (options : Options) (status : Status) (printed : List ℕ) → MeansHistory text h → PrintsWith options None h status printed → Prints options Report text status printed

@@ -1,6 +1,6 @@
 -- Problems with the same runs have the same verdicts.
-use Rattle.std.proofs.Common.{◌≡◌, ℕ, Option, Some, None, List, [], ◌∷◌}
-use Rattle.std.specs.Prelude.{IsSomeAnd}
+use Rattle.std.proofs.Common.{◌≡◌, ℕ, Option, Some, None, List, [], ◌∷◌, ◌⊎◌, inl, inr}
+use Rattle.std.specs.Prelude.{IsSome, IsSomeAnd}
 use Rattle.lin_history.specs.Problems.Lists.{IsLeast}
 use Rattle.lin_history.specs.Problems.Problem.{Problem}
 use Rattle.lin_history.specs.Problems.Linearizations.{IsRun, IsLinearization}
@@ -9,6 +9,7 @@ use Rattle.lin_search.specs.Size.{EachOf, HasMoreThan}
 use Rattle.lin_unseen.specs.SameRuns.{HasRunsOf}
 use Rattle.lin_workers.specs.declared.verdict.ObjectVerdict.{ObjectVerdict}
 use Rattle.lin_workers.specs.declared.verdict.ObjectVerdict.TheVariants.{Yes, No, Undecided}
+use Rattle.lin_workers.specs.Bounds.{Bounds}
 use Rattle.lin_workers.specs.Verdict.{IsNumberStored, IsObjectVerdict}
 
 module _ (P Q : List ℕ → Type 0) (there : (l : List ℕ) → P l → Q l) (back : (l : List ℕ) → Q l → P l) where
@@ -30,18 +31,22 @@ module _ (P Q : List ℕ → Type 0) (there : (l : List ℕ) → P l → Q l) (b
   more_same None k = absurd k
   more_same (Some most) k = record { lists = k.lists; different = k.different; each = each_same k.lists k.each; count = k.count }
 
+  undecided_same : (bounds : Bounds) → IsSome bounds.seconds ⊎ IsSomeAnd bounds.limit (λ most. HasMoreThan P most) → IsSome bounds.seconds ⊎ IsSomeAnd bounds.limit (λ most. HasMoreThan Q most)
+  undecided_same bounds (inl timed) = inl timed
+  undecided_same bounds (inr over) = inr (more_same bounds.limit over)
+
 module _ {State Op Reply : Type 0} (p q : Problem State Op Reply) (same : HasRunsOf p q) where
   -- a verdict on the first problem is one on the second
-  pub verdict_there : (limit : Option ℕ) (v : ObjectVerdict) → IsObjectVerdict p limit v → IsObjectVerdict q limit v
-  verdict_there limit (Yes order) k = least_same (IsLinearization p) (IsLinearization q) (λ l. (same.linearizations l).0) (λ l. (same.linearizations l).1) order k
-  verdict_there limit (No run) k = (λ l h. k.0 l ((same.linearizations l).1 h), longest_same (IsRun p) (IsRun q) (λ l. (same.runs l).0) (λ l. (same.runs l).1) run k.1)
-  verdict_there limit Undecided k = more_same (IsRun p) (IsRun q) (λ l. (same.runs l).0) (λ l. (same.runs l).1) limit k
+  pub verdict_there : (bounds : Bounds) (v : ObjectVerdict) → IsObjectVerdict p bounds v → IsObjectVerdict q bounds v
+  verdict_there bounds (Yes order) k = least_same (IsLinearization p) (IsLinearization q) (λ l. (same.linearizations l).0) (λ l. (same.linearizations l).1) order k
+  verdict_there bounds (No run) k = (λ l h. k.0 l ((same.linearizations l).1 h), longest_same (IsRun p) (IsRun q) (λ l. (same.runs l).0) (λ l. (same.runs l).1) run k.1)
+  verdict_there bounds Undecided k = undecided_same (IsRun p) (IsRun q) (λ l. (same.runs l).0) (λ l. (same.runs l).1) bounds k
 
   -- and back
-  pub verdict_back : (limit : Option ℕ) (v : ObjectVerdict) → IsObjectVerdict q limit v → IsObjectVerdict p limit v
-  verdict_back limit (Yes order) k = least_same (IsLinearization q) (IsLinearization p) (λ l. (same.linearizations l).1) (λ l. (same.linearizations l).0) order k
-  verdict_back limit (No run) k = (λ l h. k.0 l ((same.linearizations l).0 h), longest_same (IsRun q) (IsRun p) (λ l. (same.runs l).1) (λ l. (same.runs l).0) run k.1)
-  verdict_back limit Undecided k = more_same (IsRun q) (IsRun p) (λ l. (same.runs l).1) (λ l. (same.runs l).0) limit k
+  pub verdict_back : (bounds : Bounds) (v : ObjectVerdict) → IsObjectVerdict q bounds v → IsObjectVerdict p bounds v
+  verdict_back bounds (Yes order) k = least_same (IsLinearization q) (IsLinearization p) (λ l. (same.linearizations l).1) (λ l. (same.linearizations l).0) order k
+  verdict_back bounds (No run) k = (λ l h. k.0 l ((same.linearizations l).0 h), longest_same (IsRun q) (IsRun p) (λ l. (same.runs l).1) (λ l. (same.runs l).0) run k.1)
+  verdict_back bounds Undecided k = undecided_same (IsRun q) (IsRun p) (λ l. (same.runs l).1) (λ l. (same.runs l).0) bounds k
 
   -- the first problem has at least as many configurations
   pub number_back : (n : ℕ) → IsNumberStored q n → IsNumberStored p n

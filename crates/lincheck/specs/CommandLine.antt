@@ -12,7 +12,7 @@ use Rattle.clap.specs.declared.builder.command.Command.TheViews.{out-Command}
 use Rattle.clap.specs.declared.builder.value_parser.ValueParser.TheVariants as parsers
 use Rattle.clap.specs.declared.parser.matches.Found.{Found}
 use Rattle.lin_workers.specs.Options.{Options}
-use Rattle.lin_workers.specs.declared.options.TheConstants.{MAX_WORKERS, MAX_SHARDS, MAX_LIMIT}
+use Rattle.lin_workers.specs.declared.options.TheConstants.{MAX_WORKERS, MAX_SHARDS, MAX_LIMIT, MAX_SECONDS}
 use Rattle.lincheck.specs.declared.request.TheConstants.{DEFAULT_WORKERS, DEFAULT_SHARDS}
 
 -- The option of this name, which takes one number from 1 to the greatest.
@@ -33,10 +33,10 @@ no_options = on_top (λ s. record s { no_binary_name = true; has_version = true 
 
 -- The program's command line.
 unfoldable pub program : App
-program = with_rule (with_rule (with_rule (with_rule (with_rule (with_rule no_options
+program = with_rule (with_rule (with_rule (with_rule (with_rule (with_rule (with_rule no_options
     (number_rule (codes "workers") MAX_WORKERS)) (number_rule (codes "shards") MAX_SHARDS))
     (number_rule (codes "limit") MAX_LIMIT)) (flag_rule (codes "stats"))) (flag_rule (codes "explain")))
-    (flag_rule (codes "each"))
+    (flag_rule (codes "each"))) (number_rule (codes "seconds") MAX_SECONDS)
 
 -- The argument is the option of this name, and excludes no other.
 pub record IsNumberOption (name : List ℕ) (greatest : ℕ) (a : Arg) : Type 0 where
@@ -69,6 +69,7 @@ pub record IsCommandLine (c : Command) : Type 0 where
   pub workers : TakesUpTo c (codes "workers") MAX_WORKERS
   pub shards : TakesUpTo c (codes "shards") MAX_SHARDS
   pub limit : TakesUpTo c (codes "limit") MAX_LIMIT
+  pub seconds : TakesUpTo c (codes "seconds") MAX_SECONDS
 
 -- What the words gave for this name, where they gave something, is a number from 1 to the greatest.
 abbrev pub GivesUpTo : Found → List ℕ → ℕ → Type 0
@@ -79,6 +80,7 @@ pub record AreInRange (found : Found) : Type 0 where
   pub workers : GivesUpTo found (codes "workers") MAX_WORKERS
   pub shards : GivesUpTo found (codes "shards") MAX_SHARDS
   pub limit : GivesUpTo found (codes "limit") MAX_LIMIT
+  pub seconds : GivesUpTo found (codes "seconds") MAX_SECONDS
 
 -- The number that a text gives, where there is one.
 abbrev pub number_in : Option (List ℕ) → Option ℕ
@@ -93,6 +95,7 @@ pub record AreAsked (rows : List Row) (o : Options) : Type 0 where
   pub workers : o.workers ≡ unwrap_or (number_given rows (codes "workers")) DEFAULT_WORKERS
   pub shards : o.shards ≡ unwrap_or (number_given rows (codes "shards")) DEFAULT_SHARDS
   pub limit : o.limit ≡ number_given rows (codes "limit")
+  pub seconds : o.seconds ≡ number_given rows (codes "seconds")
   pub stats : one_of (codes "stats") rows ≡ Some (codes "true") → o.stats ≡ true
   pub silent : one_of (codes "stats") rows ≡ Some (codes "false") → o.stats ≡ false
 

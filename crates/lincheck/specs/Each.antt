@@ -1,26 +1,26 @@
 -- What each object of a history is by itself, and how that is printed (this project's own).
-use Rattle.std.specs.Prelude.{◌≡◌, ℕ, ◌+◌, ◌++◌, Bool, true, false, Option, Some, IsSomeAnd, List, [], ◌∷◌, codes, length, slice_get, if◌then◌else◌}
+use Rattle.std.specs.Prelude.{◌≡◌, ℕ, ◌+◌, ◌++◌, Bool, true, false, Some, List, [], ◌∷◌, codes, length, slice_get, if◌then◌else◌}
 use Rattle.std.specs.List.{list_any}
-use Rattle.lin_history.specs.Problems.Linearizations.{IsRun, IsLinearization}
+use Rattle.lin_history.specs.Problems.Linearizations.{IsLinearization}
 use Rattle.lin_history.specs.Recorder.RecordedHistory.{RecordedHistory}
 use Rattle.lin_history.specs.Locality.RecordedWhole.{part_of}
-use Rattle.lin_search.specs.Size.{HasMoreThan}
+use Rattle.lin_workers.specs.Bounds.{Bounds}
+use Rattle.lin_workers.specs.Verdict.{MayBeUndecided}
 use Rattle.lincheck.specs.declared.status.Status.{Status}
 use Rattle.lincheck.specs.declared.status.Status.TheVariants.{Yes, No, Undecided, Refused}
 use Rattle.lincheck.specs.Report.{name_of}
 
--- The status of an object by itself: it has a linearization; it has none; or, within a limit, it has more runs that are not empty
--- than that.
-abbrev pub IsStatusOf : RecordedHistory → Option ℕ → ℕ → Status → Type 0
-IsStatusOf h limit object Yes = (l : List ℕ) × IsLinearization (part_of h object) l
-IsStatusOf h limit object No = (l : List ℕ) → IsLinearization (part_of h object) l → ⊥
-IsStatusOf h limit object Undecided = IsSomeAnd limit (λ most. HasMoreThan (IsRun (part_of h object)) most)
-IsStatusOf h limit object Refused = ⊥
+-- The status of an object by itself: it has a linearization; it has none; or the bounds may have ended its search.
+abbrev pub IsStatusOf : RecordedHistory → Bounds → ℕ → Status → Type 0
+IsStatusOf h bounds object Yes = (l : List ℕ) × IsLinearization (part_of h object) l
+IsStatusOf h bounds object No = (l : List ℕ) → IsLinearization (part_of h object) l → ⊥
+IsStatusOf h bounds object Undecided = MayBeUndecided (part_of h object) bounds
+IsStatusOf h bounds object Refused = ⊥
 
 -- One status for each of the first n objects, in the order of declaration.
-pub record AreStatusesOf (h : RecordedHistory) (limit : Option ℕ) (n : ℕ) (statuses : List Status) : Type 0 where
+pub record AreStatusesOf (h : RecordedHistory) (bounds : Bounds) (n : ℕ) (statuses : List Status) : Type 0 where
   pub count : length statuses ≡ n
-  pub each : (object : ℕ) (status : Status) → slice_get statuses object ≡ Some status → IsStatusOf h limit object status
+  pub each : (object : ℕ) (status : Status) → slice_get statuses object ≡ Some status → IsStatusOf h bounds object status
 
 -- What is printed of an object by itself.
 abbrev pub status_text : Status → List ℕ

@@ -10,7 +10,8 @@ use Rattle.lin_text.specs.declared.cause.TextFault.{TextFault}
 use Rattle.lin_text.specs.Text.{MeansHistory, MeansFault}
 use Rattle.lin_text.specs.EventLines.{AreEventLines}
 use Rattle.lin_text.specs.Words.{fault_line}
-use Rattle.lin_workers.specs.Options.{Options}
+use Rattle.lin_workers.specs.Bounds.{Bounds}
+use Rattle.lin_workers.specs.Options.{Options, bounds_of}
 use Rattle.lincheck.specs.declared.answer_form.AnswerForm.{AnswerForm}
 use Rattle.lincheck.specs.declared.answer_form.AnswerForm.TheVariants.{Report, Explained, Each}
 use Rattle.lincheck.specs.declared.status.Status.{Status}
@@ -37,16 +38,16 @@ PrintsYes h printed = (orders : List (List ℕ)) × (l : List (Placed Reply)) ×
 abbrev pub PrintsNo : Option (List ℕ) → RecordedHistory → ℕ → List ℕ → Type 0
 PrintsNo lines h object printed = (run : List (Placed Reply)) × IsFirstWithout h object × (longest : IsLongestRunOf h object run) × WithExplanation lines h object longest.order (no_report h object run) printed
 
--- Within a limit it may print an object that is not decided.
-abbrev pub PrintsUndecided : RecordedHistory → Option ℕ → ℕ → List ℕ → Type 0
-PrintsUndecided h limit object printed = IsUndecidedAt h limit object × (printed ≡ undecided_report h object)
+-- Within bounds it may print an object that is not decided.
+abbrev pub PrintsUndecided : RecordedHistory → Bounds → ℕ → List ℕ → Type 0
+PrintsUndecided h bounds object printed = IsUndecidedAt h bounds object × (printed ≡ undecided_report h object)
 
--- The report of a history within the limit, with each status, where so many objects were judged: all, or those up to the one that is told.
-abbrev pub IsReport : Option (List ℕ) → Option ℕ → RecordedHistory → Status → ℕ → List ℕ → Type 0
-IsReport lines limit h Yes judged printed = PrintsYes h printed × (judged ≡ length h.objects)
-IsReport lines limit h No judged printed = (object : ℕ) × PrintsNo lines h object printed × ((l : List (Placed Reply)) → IsLinearizationOfWhole (whole_of h) l → ⊥) × (judged ≡ object + 1)
-IsReport lines limit h Undecided judged printed = (object : ℕ) × PrintsUndecided h limit object printed × (judged ≡ object + 1)
-IsReport lines limit h Refused judged printed = ⊥
+-- The report of a history within the bounds, with each status, where so many objects were judged: all, or those up to the one that is told.
+abbrev pub IsReport : Option (List ℕ) → Bounds → RecordedHistory → Status → ℕ → List ℕ → Type 0
+IsReport lines bounds h Yes judged printed = PrintsYes h printed × (judged ≡ length h.objects)
+IsReport lines bounds h No judged printed = (object : ℕ) × PrintsNo lines h object printed × ((l : List (Placed Reply)) → IsLinearizationOfWhole (whole_of h) l → ⊥) × (judged ≡ object + 1)
+IsReport lines bounds h Undecided judged printed = (object : ℕ) × PrintsUndecided h bounds object printed × (judged ≡ object + 1)
+IsReport lines bounds h Refused judged printed = ⊥
 
 -- The report alone, or with the line of statistics after it: how many configurations were stored for the objects that were judged.
 abbrev pub WithStats : Bool → RecordedHistory → ℕ → List ℕ → List ℕ → Type 0
@@ -56,12 +57,12 @@ WithStats true h judged report printed = (stored : ℕ) × IsStoredSum h judged 
 -- What a history prints with these options, with each status: its report, of one that is not linearizable why the longest run
 -- ends where the lines of the events are given, and then statistics where they are asked for.
 abbrev pub PrintsWith : Options → Option (List ℕ) → RecordedHistory → Status → List ℕ → Type 0
-PrintsWith options lines h status printed = (judged : ℕ) × (report : List ℕ) × IsReport lines options.limit h status judged report × WithStats options.stats h judged report printed
+PrintsWith options lines h status printed = (judged : ℕ) × (report : List ℕ) × IsReport lines (bounds_of options) h status judged report × WithStats options.stats h judged report printed
 
 -- With a line for each object, a history prints the status of each object by itself, and has the status of all together.
 pub record PrintsEach (options : Options) (h : RecordedHistory) (status : Status) (printed : List ℕ) : Type 0 where
   pub statuses : List Status
-  pub are : AreStatusesOf h options.limit (length h.objects) statuses
+  pub are : AreStatusesOf h (bounds_of options) (length h.objects) statuses
   pub together : status ≡ status_of_all statuses
   pub print : WithStats options.stats h (length h.objects) (status_lines h 0 statuses) printed
 

@@ -1,5 +1,5 @@
 -- What a verdict says of a history, and what is reported of it.
-use Rattle.std.specs.Prelude.{◌≡◌, ℕ, ◌<◌, Option, Some, IsSomeAnd, List, length, slice_get}
+use Rattle.std.specs.Prelude.{◌≡◌, ℕ, ◌<◌, Some, List, length, slice_get}
 use Rattle.lin_object.specs.declared.reply.Reply.{Reply}
 use Rattle.lin_history.specs.declared.locality.placed.Placed.{Placed}
 use Rattle.lin_history.specs.Problems.Lists.{IsLeast}
@@ -10,7 +10,8 @@ use Rattle.lin_history.specs.Locality.JoinedOrder.{Places, IsJoined}
 use Rattle.lin_history.specs.Locality.RecordedWhole.{start_at, whole_of, part_of}
 use Rattle.lin_history.specs.Verifier.Flags.{AreKnown}
 use Rattle.lin_search.specs.LongestRun.{IsFirstLongest}
-use Rattle.lin_search.specs.Size.{HasMoreThan}
+use Rattle.lin_workers.specs.Bounds.{Bounds}
+use Rattle.lin_workers.specs.Verdict.{MayBeUndecided}
 use Rattle.lincheck.specs.declared.verdict.Verdict.{Verdict}
 use Rattle.lincheck.specs.declared.verdict.Verdict.TheVariants.{Yes, No, Undecided}
 use Rattle.lincheck.specs.Report.{yes_report, no_report, undecided_report}
@@ -37,20 +38,19 @@ pub record IsLongestRunOf (h : RecordedHistory) (object : ℕ) (run : List (Plac
   pub longest : IsFirstLongest (IsRun (part_of h object)) order
   pub placed : Places (whole_of h) object (start_at h object) order run
 
--- The object is not decided: each before it has a linearization, a limit was given, and the object has more runs that are
--- not empty than that.
-pub record IsUndecidedAt (h : RecordedHistory) (limit : Option ℕ) (object : ℕ) : Type 0 where
+-- The object is not decided: each before it has a linearization, and the bounds may have ended its search.
+pub record IsUndecidedAt (h : RecordedHistory) (bounds : Bounds) (object : ℕ) : Type 0 where
   pub declared : object < length h.objects
   pub earlier : (i : ℕ) → i < object → (l : List ℕ) × IsLinearization (part_of h i) l
-  pub over : IsSomeAnd limit (λ most. HasMoreThan (IsRun (part_of h object)) most)
+  pub over : MayBeUndecided (part_of h object) bounds
 
 -- The verdict is right: yes, with the least linearizations of the objects joined, which is a linearization of the whole;
--- or no, with the first object that has none and its longest run, and then the whole has none; or, within a limit,
+-- or no, with the first object that has none and its longest run, and then the whole has none; or, within bounds,
 -- undecided at an object before which each has a linearization.
-abbrev pub IsVerdict : RecordedHistory → Option ℕ → Verdict → Type 0
-IsVerdict h limit (Yes l) = ((orders : List (List ℕ)) × AreLeast h orders × IsJoined (whole_of h) orders l) × IsLinearizationOfWhole (whole_of h) l
-IsVerdict h limit (No object run) = (IsFirstWithout h object × IsLongestRunOf h object run.items) × ((l : List (Placed Reply)) → IsLinearizationOfWhole (whole_of h) l → ⊥)
-IsVerdict h limit (Undecided object) = IsUndecidedAt h limit object
+abbrev pub IsVerdict : RecordedHistory → Bounds → Verdict → Type 0
+IsVerdict h bounds (Yes l) = ((orders : List (List ℕ)) × AreLeast h orders × IsJoined (whole_of h) orders l) × IsLinearizationOfWhole (whole_of h) l
+IsVerdict h bounds (No object run) = (IsFirstWithout h object × IsLongestRunOf h object run.items) × ((l : List (Placed Reply)) → IsLinearizationOfWhole (whole_of h) l → ⊥)
+IsVerdict h bounds (Undecided object) = IsUndecidedAt h bounds object
 
 -- What the verdict names are calls and objects of the history.
 abbrev pub IsOf : RecordedHistory → Verdict → Type 0

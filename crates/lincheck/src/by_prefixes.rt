@@ -7,7 +7,7 @@ ghost use Rattle.lin_workers.specs.Verdict.{IsObjectVerdict};
 use lin_history::Problem;
 use lin_object::AnyObject;
 use lin_prefixes::{WholeAnswer, search_by_prefixes};
-use lin_workers::ObjectVerdict;
+use lin_workers::{Bounds, ObjectVerdict, UntilUp, Watcher};
 use std::alloc::{AllocError, Global};
 
 // The most lifts of all searches of prefixes together, for each call of the object.
@@ -28,19 +28,21 @@ fn lifts_by_prefixes(calls: usize, limit: Option<u64>) -> Option<u64> {
     }
 }
 
-/// The verdict by searches of prefixes, where they tell it within their lifts. `None` also where the limit is less than 500,000.
+/// The verdict by searches of prefixes, where they tell it within their lifts and before the time is up. `None` also where the
+/// limit is less than 500,000.
 /// `AllocError` where memory was refused.
-pub(crate) fn verdict_by_prefixes(
+pub(crate) fn verdict_by_prefixes<W: Watcher>(
     alloc: Global,
     problem: &Problem<AnyObject>,
-    limit: Option<u64>,
+    bounds: &Bounds<'_, W>,
 ) -> Result<Option<ObjectVerdict>, AllocError>
-    ensures { IfOk result (λ told. IfSome told (IsObjectVerdict (any_problem problem.now) limit)) }
+    ensures { IfOk result (λ told. IfSome told
+        (IsObjectVerdict (any_problem problem.now) bounds.now)) }
 {
-    let Some(lifts) = lifts_by_prefixes(problem.len(), limit) else {
+    let Some(lifts) = lifts_by_prefixes(problem.len(), bounds.limit()) else {
         return Ok(None);
     };
-    match search_by_prefixes(alloc, problem, lifts)? {
+    match search_by_prefixes(alloc, problem, lifts, &mut UntilUp::new(bounds))? {
         Some(WholeAnswer::Found(order)) => Ok(Some(ObjectVerdict::Yes(order))),
         Some(WholeAnswer::Refuted(run)) => Ok(Some(ObjectVerdict::No(run))),
         None => Ok(None),

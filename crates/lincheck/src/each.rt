@@ -1,27 +1,31 @@
 //! What each object of a history is by itself, and a line for each.
 
-ghost use Rattle.std.specs.Prelude.{◌≡◌, ◌++◌, ◌<◌, ℕ, Option, codes, length, string_bytes, IfOk, OnOk};
+ghost use Rattle.std.specs.Prelude.{◌≡◌, ◌++◌, ◌<◌, ℕ, codes, length, string_bytes, IfOk, OnOk};
 ghost use Rattle.std.specs.List.{list_any};
 ghost use Rattle.lin_history.specs.Locality.RecordedWhole.{part_of};
 ghost use Rattle.lin_history.specs.Recorder.RecordedHistory.{RecordedHistory};
+ghost use Rattle.lin_workers.specs.Bounds.{Bounds as BoundsOf};
+ghost use Rattle.lin_workers.specs.Options.{bounds_of};
 ghost use Rattle.lin_workers.specs.Verdict.{IsObjectVerdict};
 ghost use Rattle.lincheck.specs.Each.{is_no, is_undecided, status_lines, status_of_all, status_text, AreStatusesOf, IsStatusOf};
 ghost use Rattle.lincheck.specs.Report.{name_of};
 ghost use Rattle.lincheck.specs.Stored.{IsStoredTold};
 
 use crate::judgement::{judge_object, options_here, with_more};
+use crate::setting::Setting;
 use crate::status::Status;
 use crate::verdict::CheckedEach;
 use lin_history::History;
-use lin_workers::{CheckFault, Gate, ObjectVerdict, Options};
+use lin_workers::{Bounds, CheckFault, Deadline, Gate, ObjectVerdict, Options, Watcher};
 use std::alloc::{AllocError, AllocGlobal, Global};
 use std::thread::Threads;
+use std::time::Clock;
 
 // The status that a verdict on an object gives.
 fn status_by(verdict: &ObjectVerdict) -> Status
-    ensures { (h : RecordedHistory) (limit : Option ℕ) (object : ℕ)
-        → IsObjectVerdict (part_of h object) limit verdict.now
-        → IsStatusOf h limit object result }
+    ensures { (h : RecordedHistory) (bounds : BoundsOf) (object : ℕ)
+        → IsObjectVerdict (part_of h object) bounds verdict.now
+        → IsStatusOf h bounds object result }
 {
     match verdict {
         ObjectVerdict::Yes(_) => Status::Yes,
@@ -31,46 +35,51 @@ fn status_by(verdict: &ObjectVerdict) -> Status
 }
 
 // The status of each object, and how many configurations were stored.
-fn judge_each<R: AllocGlobal + Threads + Sync, G: Gate>(
-    rt: &R,
+fn judge_each<R: AllocGlobal + Threads + Sync, G: Gate, W: Watcher>(
+    setting: &Setting<'_, '_, R, G, W>,
     history: &History,
-    options: &Options,
-    gate: &G,
 ) -> Result<CheckedEach, AllocError>
-    ensures statuses { IfOk result (λ checked. AreStatusesOf history.now options.now.limit
+    ensures statuses { IfOk result (λ checked. AreStatusesOf history.now setting.now.bounds
         (length history.now.objects) checked.statuses.items) }
     ensures stored { IfOk result (λ checked. IsStoredTold history.now
         (length history.now.objects) checked.stored) }
 {
-    let problems = history.problems(rt.alloc())?;
-    let mut statuses = Vec::new(rt.alloc());
+    let problems = history.problems(setting.rt.alloc())?;
+    let mut statuses = Vec::new(setting.rt.alloc());
     let mut stored = Some(0);
     for object in 0..problems.len() {
-        let (verdict, more) = judge_object(rt, history, object, &problems[object], options, gate)?;
+        let (verdict, more) = judge_object(setting, history, object, &problems[object])?;
         stored = with_more(stored, more);
         statuses.push(status_by(&verdict))?;
     }
     Ok(CheckedEach { statuses, stored })
 }
 
-/// Checks each object of a history by itself, also those after one that has no linearization or is not decided within the limit.
+/// Checks each object of a history by itself, also those after one that has no linearization or is not decided. The seconds of the
+/// options are counted from the start of the check: when they are over, the objects that are left have what is told before a search.
 /// How an object is searched, and what is said of the number stored, is as of `check`.
 ///
-/// The statuses are the same for every number of workers and shards and on every schedule, but that within a limit they may be
-/// `Undecided`. `CheckFault::Memory` where the calling thread was refused memory. It may wait, for its workers.
-pub fn check_each<R: AllocGlobal + Threads + Sync, G: Gate>(
+/// The statuses are the same for every number of workers and shards and on every schedule, but that within a limit or a time they
+/// may be `Undecided`. `CheckFault::Memory` where the calling thread was refused memory. It may wait, for its workers.
+pub fn check_each<R: AllocGlobal + Threads + Clock + Sync, G: Gate>(
     rt: &R,
     history: &History,
     options: &Options,
     gate: &G,
 ) -> Result<CheckedEach, CheckFault>
-    ensures statuses { IfOk result (λ checked. AreStatusesOf history.now options.now.limit
+    ensures statuses { IfOk result (λ checked. AreStatusesOf history.now (bounds_of options.now)
         (length history.now.objects) checked.statuses.items) }
     ensures stored { IfOk result (λ checked. IsStoredTold history.now
         (length history.now.objects) checked.stored) }
 {
-    let options = options_here(rt, options, gate);
-    Ok(judge_each(rt, history, &options, gate)?)
+    let deadline = Deadline::new(rt, options.seconds());
+    let setting = Setting {
+        rt,
+        options: options_here(rt, options, gate),
+        bounds: Bounds::new(options.limit(), &deadline),
+        gate,
+    };
+    Ok(judge_each(&setting, history)?)
 }
 
 // What is printed of an object by itself.

@@ -1,10 +1,11 @@
 //! The lines behind the report of a history that is not linearizable.
-ghost use Rattle.std.specs.Prelude.{◌≡◌, ◌++◌, ◌<◌, ℕ, List, Option, Some, option_map, length, IfOk};
+ghost use Rattle.std.specs.Prelude.{◌≡◌, ◌++◌, ◌<◌, ℕ, List, Some, option_map, length, IfOk};
 ghost use Rattle.lin_object.specs.declared.state.ObjState.{ObjState as State};
 ghost use Rattle.lin_history.specs.Problems.LegalLists.{Legal};
 ghost use Rattle.lin_history.specs.Locality.JoinedOrder.{Places};
 ghost use Rattle.lin_history.specs.Locality.RecordedWhole.{whole_of, start_at, part_of};
 ghost use Rattle.lin_explain.specs.RunExplained.{IsExplainedBy};
+ghost use Rattle.lin_workers.specs.Bounds.{Bounds};
 ghost use Rattle.lincheck.specs.Explained.{IsExplained};
 ghost use Rattle.lincheck.specs.Verdict.{IsVerdict};
 
@@ -45,7 +46,7 @@ fn with_lines_of(
     lines: &[u64],
     report: Vec<u8>,
 ) -> Result<Vec<u8>, AllocError>
-    requires { (limit : Option ℕ) × IsVerdict history.now limit verdict.now }
+    requires { (bounds : Bounds) × IsVerdict history.now bounds verdict.now }
     ensures { IfOk result (λ printed. IsExplained (Some lines.now) history.now verdict.now
         report.items printed.items) }
 {
@@ -67,7 +68,7 @@ pub(crate) fn with_explanation(
     lines: Option<&[u64]>,
     report: Vec<u8>,
 ) -> Result<Vec<u8>, AllocError>
-    requires { (limit : Option ℕ) × IsVerdict history.now limit verdict.now }
+    requires { (bounds : Bounds) × IsVerdict history.now bounds verdict.now }
     ensures { IfOk result (λ printed. IsExplained (option_map (λ l. l.now) lines.entry)
         history.now verdict.now report.items printed.items) }
 {

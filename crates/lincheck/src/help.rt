@@ -26,6 +26,11 @@ pub(crate) const LIMIT: &str =
     "Try at most N calls in each part of a search, 1 to 1000000000000 [default: no limit].
 A history whose search would take for ever then ends with the answer `undecided`";
 
+/// What `--seconds` is good for.
+pub(crate) const SECONDS: &str =
+    "End the check after N seconds, 1 to 86400 [default: no end]. An object whose search has
+not ended by then is `undecided`; every other answer is what it is without";
+
 /// What `--stats` is good for.
 pub(crate) const STATS: &str =
     "Print a last line `stored N` after the answer: how many refuted configurations (calls
@@ -84,7 +89,7 @@ Output:
                          ends with `completed`, or is below the order as `dropped`.
   not linearizable: x    No order explains the calls on x. Below it is the longest run of them
                          that can be explained.
-  undecided: x           The limit ended the search of x before there was an answer.
+  undecided: x           --limit or --seconds ended the search of x before there was an answer.
   x: linearizable        With --each, a line for each object.
   line 3: bad event      The input is no history: the first faulty line, and what is wrong there.
 

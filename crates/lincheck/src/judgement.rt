@@ -1,51 +1,53 @@
 //! The check of a history: its objects are searched one after another.
 
-ghost use Rattle.std.specs.Prelude.{◌≡◌, ◌+◌, ◌^◌, ◌<◌, ◌≤◌, ℕ, List, Option, Some, length, option_map, slice_get, IfOk, IfSome, IsSome, IsSomeAnd};
+ghost use Rattle.std.specs.Prelude.{◌≡◌, ◌+◌, ◌^◌, ◌<◌, ◌≤◌, ℕ, List, Some, length, option_map, slice_get, IfOk, IfSome, IsSome, IsSomeAnd};
 ghost use Rattle.std.specs.ControlFlow.{ForBreak, ForContinue};
 ghost use Rattle.lin_history.specs.Locality.RecordedWhole.{part_of};
 ghost use Rattle.lin_history.specs.Problems.Linearizations.{IsLinearization};
 ghost use Rattle.lin_history.specs.Problems.Lists.{IsLeast};
 ghost use Rattle.lin_history.specs.Recorder.Parts.{start_of, part_calls};
 ghost use Rattle.lin_ahead.specs.AnyProblem.{any_problem};
+ghost use Rattle.lin_workers.specs.Bounds.{Bounds as BoundsOf};
+ghost use Rattle.lin_workers.specs.Options.{bounds_of};
 ghost use Rattle.lin_workers.specs.Verdict.{IsNumberStored, IsObjectVerdict};
 ghost use Rattle.lincheck.specs.Stored.{IsStoredTold, judged_of};
 ghost use Rattle.lincheck.specs.Verdict.{AreLeastOf, IsVerdict};
 
 use crate::object_search::verdict_by_searches;
+use crate::setting::Setting;
 use crate::verdict::{Checked, Verdict};
 use crate::verdict_ahead::verdict_ahead;
 use lin_history::{History, Order, Problem, join, place};
 use lin_object::AnyObject;
-use lin_workers::{CheckFault, Gate, ObjectVerdict, Options};
+use lin_workers::{Bounds, CheckFault, Deadline, Gate, ObjectVerdict, Options, Watcher};
 use std::alloc::{AllocError, Global};
 use std::ops::ControlFlow;
 use std::thread;
 use std::thread::Threads;
+use std::time::Clock;
 
 // The verdict on the object of this index, where the part of the history on it is known; and how many configurations were
 // stored: none where the verdict is told ahead, which is tried unless workers are wanted at once.
-pub(crate) fn judge_object<R: AllocGlobal + Threads + Sync, G: Gate>(
-    rt: &R,
+pub(crate) fn judge_object<R: AllocGlobal + Threads + Sync, G: Gate, W: Watcher>(
+    setting: &Setting<'_, '_, R, G, W>,
     history: &History,
     object: usize,
     problem: &Problem<AnyObject>,
-    options: &Options,
-    gate: &G,
 ) -> Result<(ObjectVerdict, Option<u64>), AllocError>
     requires start { option_map start_of (slice_get history.now.objects object)
         ≡ Some problem.now.start }
     requires calls { problem.now.calls ≡ part_calls history.now object }
     ensures verdict { IfOk result (λ judged. IsObjectVerdict (part_of history.now object)
-        options.now.limit judged.0) }
+        setting.now.bounds judged.0) }
     ensures stored { IfOk result (λ judged. IsSomeAnd judged.1
         (IsNumberStored (part_of history.now object))) }
 {
-    if !gate.wants_workers() {
-        if let Some(told) = verdict_ahead(rt.alloc(), problem, options.limit())? {
+    if !setting.gate.wants_workers() {
+        if let Some(told) = verdict_ahead(setting.rt.alloc(), problem, &setting.bounds)? {
             return Ok((told, Some(0)));
         }
     }
-    let (verdict, stored) = verdict_by_searches(rt, problem, options, gate)?;
+    let (verdict, stored) = verdict_by_searches(setting, problem)?;
     Ok((verdict, Some(stored)))
 }
 
@@ -58,14 +60,14 @@ fn order_or_end(
     verdict: ObjectVerdict,
 ) -> Result<ControlFlow<Verdict, Order>, AllocError>
     requires declared { object < length history.now.objects }
-    requires right { (limit : Option ℕ)
-        × IsObjectVerdict (part_of history.now object) limit verdict }
+    requires right { (bounds : BoundsOf)
+        × IsObjectVerdict (part_of history.now object) bounds verdict }
     ensures order { IfOk result (λ next. ForContinue next (λ order.
         IsLeast (IsLinearization (part_of history.now object)) order)) }
-    ensures end { IfOk result (λ next. (orders : List (List ℕ)) (limit : Option ℕ)
+    ensures end { IfOk result (λ next. (orders : List (List ℕ)) (bounds : BoundsOf)
         → AreLeastOf history.now object orders
-        → IsObjectVerdict (part_of history.now object) limit verdict
-        → ForBreak next (IsVerdict history.now limit)) }
+        → IsObjectVerdict (part_of history.now object) bounds verdict
+        → ForBreak next (IsVerdict history.now bounds)) }
     ensures judged { IfOk result (λ next. ForBreak next (λ verdict.
         judged_of history.now verdict ≡ object + 1)) }
 {
@@ -90,29 +92,28 @@ pub(crate) fn with_more(stored: Option<u64>, more: Option<u64>) -> Option<u64>
 }
 
 // The verdict on a history, and how many configurations were stored up to there.
-fn judge<R: AllocGlobal + Threads + Sync, G: Gate>(
-    rt: &R,
+fn judge<R: AllocGlobal + Threads + Sync, G: Gate, W: Watcher>(
+    setting: &Setting<'_, '_, R, G, W>,
     history: &History,
-    options: &Options,
-    gate: &G,
 ) -> Result<Checked, AllocError>
-    ensures verdict { IfOk result (λ checked. IsVerdict history.now options.now.limit
+    ensures verdict { IfOk result (λ checked. IsVerdict history.now setting.now.bounds
         checked.verdict) }
     ensures stored { IfOk result (λ checked. IsStoredTold history.now
         (judged_of history.now checked.verdict) checked.stored) }
 {
-    let problems = history.problems(rt.alloc())?;
-    let mut orders = Vec::new(rt.alloc());
+    let alloc = setting.rt.alloc();
+    let problems = history.problems(alloc)?;
+    let mut orders = Vec::new(alloc);
     let mut stored = Some(0);
     for object in 0..problems.len() {
-        let (verdict, more) = judge_object(rt, history, object, &problems[object], options, gate)?;
+        let (verdict, more) = judge_object(setting, history, object, &problems[object])?;
         stored = with_more(stored, more);
-        match order_or_end(rt.alloc(), history, object, verdict)? {
+        match order_or_end(alloc, history, object, verdict)? {
             ControlFlow::Continue(order) => orders.push(order)?,
             ControlFlow::Break(verdict) => return Ok(Checked { verdict, stored }),
         }
     }
-    let verdict = Verdict::Yes(join(rt.alloc(), history, orders.as_slice())?);
+    let verdict = Verdict::Yes(join(alloc, history, orders.as_slice())?);
     Ok(Checked { verdict, stored })
 }
 
@@ -130,7 +131,8 @@ pub(crate) fn options_here<R: Threads, G: Gate>(rt: &R, options: &Options, gate:
 }
 
 /// Checks a history. Its objects are searched in the order of declaration; the first that has no linearization, or that is not
-/// decided within the limit, ends the check. Unless the gate wants workers, a map or a set is searched by key first
+/// decided within the limit or before the time is up, ends the check. The seconds of the options are counted by the runtime's clock
+/// from the start of the check; a clock that fails ends nothing. Unless the gate wants workers, a map or a set is searched by key first
 /// (`search_by_key`), and of an object of which something is known ahead a first search is made (`search_first`); where that
 /// finds the order, nothing is stored for the object. So it is where a key of a map or a set of a thousand calls or more has no
 /// linearization, and searches of prefixes find the longest run. Then the calling thread searches by itself. Where its search stalls, it
@@ -142,19 +144,26 @@ pub(crate) fn options_here<R: Threads, G: Gate>(rt: &R, options: &Options, gate:
 /// has as many reachable configurations or more. It is told of every history with no more objects than `MAX_OBJECTS`, and no
 /// history has more.
 ///
-/// The verdict is the same for every number of workers and shards and on every schedule. `CheckFault::Memory` where the
+/// The verdict is the same for every number of workers and shards and on every schedule, but that within a limit or a time it may
+/// be `Undecided`. `CheckFault::Memory` where the
 /// calling thread was refused memory. It may wait, for its workers.
-pub fn check<R: AllocGlobal + Threads + Sync, G: Gate>(
+pub fn check<R: AllocGlobal + Threads + Clock + Sync, G: Gate>(
     rt: &R,
     history: &History,
     options: &Options,
     gate: &G,
 ) -> Result<Checked, CheckFault>
-    ensures verdict { IfOk result (λ checked. IsVerdict history.now options.now.limit
+    ensures verdict { IfOk result (λ checked. IsVerdict history.now (bounds_of options.now)
         checked.verdict) }
     ensures stored { IfOk result (λ checked. IsStoredTold history.now
         (judged_of history.now checked.verdict) checked.stored) }
 {
-    let options = options_here(rt, options, gate);
-    Ok(judge(rt, history, &options, gate)?)
+    let deadline = Deadline::new(rt, options.seconds());
+    let setting = Setting {
+        rt,
+        options: options_here(rt, options, gate),
+        bounds: Bounds::new(options.limit(), &deadline),
+        gate,
+    };
+    Ok(judge(&setting, history)?)
 }

@@ -13,6 +13,7 @@ mod lines;
 mod object_search;
 mod pipeline;
 mod request;
+mod setting;
 mod status;
 mod verdict;
 mod verdict_ahead;
@@ -22,7 +23,8 @@ pub use each::{check_each, report_each};
 pub use fault::RunFault;
 pub use judgement::check;
 pub use lin_workers::{
-    CheckFault, FreeGate, Gate, MAX_LIMIT, MAX_SHARDS, MAX_WORKERS, OptionFault, Options,
+    CheckFault, FreeGate, Gate, MAX_LIMIT, MAX_SECONDS, MAX_SHARDS, MAX_WORKERS, OptionFault,
+    Options,
 };
 pub use lines::report;
 pub use pipeline::{run, run_each, run_explained};

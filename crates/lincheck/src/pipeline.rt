@@ -25,6 +25,7 @@ use lin_text::{
 use lin_workers::{FreeGate, Options};
 use std::alloc::{AllocError, Global};
 use std::thread::Threads;
+use std::time::Clock;
 
 // The most bytes of a text, and one more: where there are so many, the text is too long and is read no further.
 const ENOUGH: usize = MAX_INPUT_BYTES + 1;
@@ -85,7 +86,7 @@ fn status_of(verdict: &Verdict) -> Status
 
 // What a history is answered: the status, and what is printed, with why the longest run ends where the lines of the events are
 // given.
-fn verdict_printed<R: AllocGlobal + Threads + Sync>(
+fn verdict_printed<R: AllocGlobal + Threads + Clock + Sync>(
     rt: &R,
     history: &History,
     options: &Options,
@@ -105,7 +106,7 @@ fn verdict_printed<R: AllocGlobal + Threads + Sync>(
 }
 
 // What a text is answered by a report: the status, and what is printed.
-fn answer_by_report<R: AllocGlobal + Threads + Sync>(
+fn answer_by_report<R: AllocGlobal + Threads + Clock + Sync>(
     rt: &R,
     text: &[u8],
     options: &Options,
@@ -120,7 +121,7 @@ fn answer_by_report<R: AllocGlobal + Threads + Sync>(
 }
 
 // The same with why the longest run ends.
-fn answer_explained<R: AllocGlobal + Threads + Sync>(
+fn answer_explained<R: AllocGlobal + Threads + Clock + Sync>(
     rt: &R,
     text: &[u8],
     options: &Options,
@@ -135,7 +136,7 @@ fn answer_explained<R: AllocGlobal + Threads + Sync>(
 }
 
 // What a history is answered with a line for each object: the status, and what is printed.
-fn each_printed<R: AllocGlobal + Threads + Sync>(
+fn each_printed<R: AllocGlobal + Threads + Clock + Sync>(
     rt: &R,
     history: &History,
     options: &Options,
@@ -153,7 +154,7 @@ fn each_printed<R: AllocGlobal + Threads + Sync>(
 }
 
 // What a text is answered with a line for each object.
-fn answer_each<R: AllocGlobal + Threads + Sync>(
+fn answer_each<R: AllocGlobal + Threads + Clock + Sync>(
     rt: &R,
     text: &[u8],
     options: &Options,
@@ -168,7 +169,7 @@ fn answer_each<R: AllocGlobal + Threads + Sync>(
 }
 
 // What a text is answered in this form: the status, and what is printed.
-fn answer<R: AllocGlobal + Threads + Sync>(
+fn answer<R: AllocGlobal + Threads + Clock + Sync>(
     rt: &R,
     text: &[u8],
     options: &Options,
@@ -209,7 +210,7 @@ fn ended(status: Status, written: Result<(), DeviceFault>) -> Result<Status, Run
 }
 
 // Reads a text from the source, checks it and writes the answer to the sink, in this form.
-fn run_in_form<R: AllocGlobal + Threads + Sync, S: Source, W: Sink>(
+fn run_in_form<R: AllocGlobal + Threads + Clock + Sync, S: Source, W: Sink>(
     rt: &R,
     source: &mut S,
     sink: &mut W,
@@ -240,11 +241,11 @@ fn run_in_form<R: AllocGlobal + Threads + Sync, S: Source, W: Sink>(
 /// once. Faults: `Read` where the source failed, `Memory` where memory was refused; nothing was written then. `Write`
 /// where the sink failed; a prefix of the answer was written.
 ///
-/// Within a limit the answer may be `Undecided`. It may wait, for its workers.
+/// Within a limit or a time the answer may be `Undecided`. It may wait, for its workers.
 ///
 /// Condition: neither device has failed. Afterwards the source has failed exactly at `Read`, and the sink exactly at
 /// `Write`.
-pub fn run<R: AllocGlobal + Threads + Sync, S: Source, W: Sink>(
+pub fn run<R: AllocGlobal + Threads + Clock + Sync, S: Source, W: Sink>(
     rt: &R,
     source: &mut S,
     sink: &mut W,
@@ -264,7 +265,7 @@ pub fn run<R: AllocGlobal + Threads + Sync, S: Source, W: Sink>(
 /// Does what `run` does, and shows behind the report of a history that is not linearizable why the longest run ends: the state
 /// after it, each call that could come next with what it would answer there, and on which lines of the text the calls are.
 /// Conditions, faults and what is left after them are those of `run`.
-pub fn run_explained<R: AllocGlobal + Threads + Sync, S: Source, W: Sink>(
+pub fn run_explained<R: AllocGlobal + Threads + Clock + Sync, S: Source, W: Sink>(
     rt: &R,
     source: &mut S,
     sink: &mut W,
@@ -285,7 +286,7 @@ pub fn run_explained<R: AllocGlobal + Threads + Sync, S: Source, W: Sink>(
 /// `x: not linearizable` or `x: undecided`. Each object is searched, also after one that is not linearizable or not decided. The
 /// status is `No` where an object is not linearizable, else `Undecided` where one is not decided, else `Yes`. Conditions, faults
 /// and what is left after them are those of `run`.
-pub fn run_each<R: AllocGlobal + Threads + Sync, S: Source, W: Sink>(
+pub fn run_each<R: AllocGlobal + Threads + Clock + Sync, S: Source, W: Sink>(
     rt: &R,
     source: &mut S,
     sink: &mut W,

@@ -8,7 +8,7 @@ use crate::help;
 use clap::builder::ValueParser;
 use clap::error::ErrorKind;
 use clap::{Arg, ArgAction, ArgMatches, Command, Error, value_parser};
-use lin_workers::{MAX_LIMIT, MAX_SHARDS, MAX_WORKERS, Options};
+use lin_workers::{MAX_LIMIT, MAX_SECONDS, MAX_SHARDS, MAX_WORKERS, Options};
 use std::alloc::{AllocError, Global};
 
 /// How many workers search where no number is asked for.
@@ -86,7 +86,8 @@ fn command_line<'a>(alloc: Global) -> Result<Command<'a>, AllocError>
         .arg(number_option(alloc, "limit", MAX_LIMIT, help::LIMIT))?
         .arg(flag_option(alloc, "stats", help::STATS))?
         .arg(flag_option(alloc, "explain", help::EXPLAIN))?
-        .arg(flag_option(alloc, "each", help::EACH))
+        .arg(flag_option(alloc, "each", help::EACH))?
+        .arg(number_option(alloc, "seconds", MAX_SECONDS, help::SECONDS))
 }
 
 // The options that were asked for.
@@ -97,10 +98,14 @@ fn options_asked(matches: &ArgMatches<'_>) -> Options
     let workers = matches.get_one("workers").unwrap_or(DEFAULT_WORKERS);
     let shards = matches.get_one("shards").unwrap_or(DEFAULT_SHARDS);
     let limit = matches.get_one("limit");
+    let seconds = matches.get_one("seconds");
     let Ok(options) = Options::new(workers, shards, limit, matches.get_flag("stats")) else {
         unreachable!()
     };
-    options
+    let Ok(timed) = options.with_seconds(seconds) else {
+        unreachable!()
+    };
+    timed
 }
 
 // Whether an explanation was asked for.
@@ -149,7 +154,7 @@ fn answer_to(alloc: Global, error: &Error) -> Result<Request, AllocError>
 }
 
 /// What the words after the program's name ask for: `--workers N` (1 to `MAX_WORKERS`, 4 where absent), `--shards N` (1
-/// to `MAX_SHARDS`, 16), `--limit N` (1 to `MAX_LIMIT`, none), `--stats`, `--explain`, `--each`, each at most once and in any order; or
+/// to `MAX_SHARDS`, 16), `--limit N` (1 to `MAX_LIMIT`, none), `--seconds N` (1 to `MAX_SECONDS`, none), `--stats`, `--explain`, `--each`, each at most once and in any order; or
 /// `--help`, or `--version`. Each number is read as a `u64`. `--explain` and `--each` together are refused, and so are any other words.
 /// The texts are `clap`'s, but for those two. `AllocError` where memory was refused.
 pub fn options_of(alloc: Global, words: &[String]) -> Result<Request, AllocError>

@@ -11,6 +11,7 @@ use lincheck::{
 };
 use std::process::ExitCode;
 use std::thread::Threads;
+use std::time::Clock;
 use std::{env, io};
 
 // The words after the program's name.
@@ -35,6 +36,18 @@ enum Form {
     Each,
 }
 
+// Says on standard error which option ended a search.
+fn say_why_undecided(rt: &HostRuntime, options: &Options) {
+    let _ = match (options.limit(), options.seconds()) {
+        (Some(limit), None) => eprintln!(rt; "lincheck: the search ended at --limit {limit}"),
+        (None, Some(seconds)) => eprintln!(rt; "lincheck: the search ended at --seconds {seconds}"),
+        (Some(limit), Some(seconds)) => {
+            eprintln!(rt; "lincheck: the search ended at --limit {limit} or --seconds {seconds}")
+        }
+        (None, None) => Ok(()),
+    };
+}
+
 // Says on standard error what helps with an answer, if anything does.
 fn say_hint(
     rt: &HostRuntime,
@@ -46,13 +59,13 @@ fn say_hint(
         let words = hint.words();
         let _ = eprintln!(rt; "lincheck: {words}");
     }
-    if let (Ok(Status::Undecided), Some(limit)) = (answer, options.limit()) {
-        let _ = eprintln!(rt; "lincheck: the search ended at --limit {limit}");
+    if let Ok(Status::Undecided) = answer {
+        say_why_undecided(rt, options);
     }
 }
 
 // The check of standard input, answered on standard output in this form. Workers are started with `threads`.
-fn check<R: AllocGlobal + Threads + Sync>(
+fn check<R: AllocGlobal + Threads + Clock + Sync>(
     rt: &HostRuntime,
     threads: &R,
     options: &Options,
@@ -78,7 +91,7 @@ fn ended(rt: &HostRuntime, answer: Result<Status, RunFault>) -> ExitCode {
 }
 
 // Does what the user asks for.
-fn carry_out<R: AllocGlobal + Threads + Sync>(
+fn carry_out<R: AllocGlobal + Threads + Clock + Sync>(
     rt: &HostRuntime,
     threads: &R,
     request: &Request,

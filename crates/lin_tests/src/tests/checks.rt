@@ -9,6 +9,7 @@ use lin_search::Outcome;
 use lin_workers::{Gate, ObjectVerdict, Options, check_object};
 use std::alloc::AllocError;
 use std::thread::Threads;
+use std::time::Clock;
 
 // A gate at which nothing happens, and that wants workers at once.
 struct Eager;
@@ -38,7 +39,7 @@ const KINDS: [Kind; 7] = [
 ];
 
 // What a check with so many workers and shards finds.
-fn found<R: AllocGlobal + Threads + Sync>(
+fn found<R: AllocGlobal + Threads + Clock + Sync>(
     rt: &R,
     problem: &Part,
     workers: u64,
@@ -58,7 +59,11 @@ fn is_refuted_with(found: Option<ObjectVerdict>, run: &[usize]) -> bool {
 }
 
 // Whether every number of workers and shards finds the problem refuted, with this longest run.
-fn all_refute<R: AllocGlobal + Threads + Sync>(rt: &R, problem: &Part, run: &[usize]) -> bool {
+fn all_refute<R: AllocGlobal + Threads + Clock + Sync>(
+    rt: &R,
+    problem: &Part,
+    run: &[usize],
+) -> bool {
     for (workers, shards) in &WORKERS_AND_SHARDS {
         if !is_refuted_with(found(rt, problem, *workers, *shards), run) {
             return false;
@@ -82,7 +87,11 @@ fn is_found_with(found: Option<ObjectVerdict>, least: &[usize]) -> bool {
 }
 
 // Whether every number of workers and shards finds this least linearization.
-fn all_find<R: AllocGlobal + Threads + Sync>(rt: &R, problem: &Part, least: &[usize]) -> bool {
+fn all_find<R: AllocGlobal + Threads + Clock + Sync>(
+    rt: &R,
+    problem: &Part,
+    least: &[usize],
+) -> bool {
     for (workers, shards) in &WORKERS_AND_SHARDS {
         if !is_found_with(found(rt, problem, *workers, *shards), least) {
             return false;
@@ -110,7 +119,7 @@ fn is_as_answered(found: Option<ObjectVerdict>, answer: &Outcome) -> bool {
 }
 
 // Whether every number of workers and shards finds what a search answered.
-fn all_are_as_answered<R: AllocGlobal + Threads + Sync>(
+fn all_are_as_answered<R: AllocGlobal + Threads + Clock + Sync>(
     rt: &R,
     problem: &Part,
     answer: &Outcome,
@@ -124,7 +133,7 @@ fn all_are_as_answered<R: AllocGlobal + Threads + Sync>(
 }
 
 // Whether every number of workers and shards finds what the search without a memo answers of a random history.
-fn agree_on<R: AllocGlobal + Threads + Sync>(
+fn agree_on<R: AllocGlobal + Threads + Clock + Sync>(
     rt: &R,
     kind: Kind,
     seed: u64,
@@ -139,7 +148,7 @@ fn agree_on<R: AllocGlobal + Threads + Sync>(
 }
 
 // The same of fifty of them.
-fn agree_on_fifty<R: AllocGlobal + Threads + Sync>(rt: &R, kind: Kind) -> bool {
+fn agree_on_fifty<R: AllocGlobal + Threads + Clock + Sync>(rt: &R, kind: Kind) -> bool {
     for seed in 0..50 {
         if !matches!(agree_on(rt, kind, seed), Ok(true)) {
             return false;

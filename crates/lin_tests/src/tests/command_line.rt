@@ -72,6 +72,17 @@ fn no_words_run(alloc: Global) -> Result<bool, AllocError> {
     runs(alloc, &[], &usual)
 }
 
+// Whether the greatest number of seconds is taken.
+fn seconds_run(alloc: Global) -> Result<bool, AllocError> {
+    let Ok(usual) = Options::new(4, 16, None, false) else {
+        return Ok(false);
+    };
+    let Ok(timed) = usual.with_seconds(Some(86_400)) else {
+        return Ok(false);
+    };
+    runs(alloc, &["--seconds", "86400"], &timed)
+}
+
 // Whether the greatest numbers are taken.
 fn greatest_run(alloc: Global) -> Result<bool, AllocError> {
     let Ok(greatest) = Options::new(64, 256, Some(1_000_000_000_000), true) else {
@@ -98,6 +109,7 @@ fn words_ask_for_each_object(rt: HostRuntime) {
 fn words_ask_for_a_run(rt: HostRuntime) {
     assert!(rt; matches!(no_words_run(rt.alloc()), Ok(true)));
     assert!(rt; matches!(greatest_run(rt.alloc()), Ok(true)));
+    assert!(rt; matches!(seconds_run(rt.alloc()), Ok(true)));
 }
 
 #[test]
@@ -105,6 +117,8 @@ fn other_words_are_refused(rt: HostRuntime) {
     assert!(rt; matches!(is_refused(rt.alloc(), &["--workers", "65"]), Ok(true)));
     assert!(rt; matches!(is_refused(rt.alloc(), &["--shards", "257"]), Ok(true)));
     assert!(rt; matches!(is_refused(rt.alloc(), &["--limit", "0"]), Ok(true)));
+    assert!(rt; matches!(is_refused(rt.alloc(), &["--seconds", "0"]), Ok(true)));
+    assert!(rt; matches!(is_refused(rt.alloc(), &["--seconds", "86401"]), Ok(true)));
     assert!(rt; matches!(is_refused(rt.alloc(), &["extra"]), Ok(true)));
     assert!(rt; matches!(is_helped(rt.alloc(), &["--help"]), Ok(true)));
     assert!(rt; matches!(is_told_version(rt.alloc(), &["--version"]), Ok(true)));
@@ -122,4 +136,9 @@ fn options_are_refused_in_order(rt: HostRuntime) {
     for (workers, shards, limit, fault) in REFUSED {
         assert!(rt; Options::new(workers, shards, limit, false) == Err(fault));
     }
+    let Ok(usual) = Options::new(4, 16, None, false) else {
+        return;
+    };
+    assert!(rt; usual.with_seconds(Some(0)) == Err(OptionFault::Seconds));
+    assert!(rt; usual.with_seconds(Some(86_401)) == Err(OptionFault::Seconds));
 }

@@ -11,6 +11,7 @@ use std::sync::atomic::AtomicU64;
 use std::sync::atomic::Ordering::SeqCst;
 use std::thread;
 use std::thread::Threads;
+use std::time::Clock;
 
 // How often whoever waits looks whether another came.
 const TURNS: u64 = 100_000_000;
@@ -72,7 +73,7 @@ impl<'a> Gate for Telling<'a> {
 }
 
 // Whether two workers refute the problem, with the longest run, and meet in its object.
-fn meet_in_the_object<R: AllocGlobal + Threads + Sync>(
+fn meet_in_the_object<R: AllocGlobal + Threads + Clock + Sync>(
     rt: &R,
     problem: &Problem<Watched<Meeting>>,
 ) -> bool {
@@ -109,7 +110,7 @@ impl Gate for Waiting {
 }
 
 // Whether the check of this history finds that it is not linearizable, with this report.
-fn is_refuted<R: AllocGlobal + Threads + Sync>(
+fn is_refuted<R: AllocGlobal + Threads + Clock + Sync>(
     rt: &R,
     alloc: Global,
     history: &History,
@@ -122,7 +123,7 @@ fn is_refuted<R: AllocGlobal + Threads + Sync>(
 }
 
 // Whether two workers meet at the gate, and the report is as it should be.
-fn meet_at_the_gate<R: AllocGlobal + Threads + Sync>(rt: &R, alloc: Global) -> bool {
+fn meet_at_the_gate<R: AllocGlobal + Threads + Clock + Sync>(rt: &R, alloc: Global) -> bool {
     let Ok(history) = read_history(alloc, REFUTED.as_bytes()) else {
         return false;
     };

@@ -4,12 +4,12 @@ use super::random::random_history;
 use super::searches::Part;
 use lin_object::Kind;
 use lin_prefixes::{WholeAnswer, search_by_prefixes};
-use lin_search::{Outcome, OwnMemo, longest_run, search_alone};
+use lin_search::{NoStop, Outcome, OwnMemo, longest_run, search_alone};
 use std::alloc::{AllocError, Global};
 
 // Whether searches of prefixes answer as the full search does.
 fn prefixes_agree(alloc: Global, problem: &Part) -> Result<bool, AllocError> {
-    let answer = search_by_prefixes(alloc, problem, 1_000_000)?;
+    let answer = search_by_prefixes(alloc, problem, 1_000_000, &mut NoStop)?;
     let (outcome, _) = search_alone(alloc, problem)?;
     match outcome {
         Outcome::Found(order) => match answer {

@@ -7,6 +7,7 @@ use lin_history::History;
 use lincheck::{Gate, Options, Verdict, check, report};
 use std::alloc::Global;
 use std::thread::Threads;
+use std::time::Clock;
 
 /// Three writes at once, and after them a read of what nobody wrote.
 pub const REFUTED: &str = r#"{"event":"object","object":"x","kind":"register"}
@@ -29,7 +30,7 @@ longest run: 3 of 4 calls
 ";
 
 /// The verdict of a check with two workers, with this gate.
-pub fn judged<R: AllocGlobal + Threads + Sync, G: Gate>(
+pub fn judged<R: AllocGlobal + Threads + Clock + Sync, G: Gate>(
     rt: &R,
     history: &History,
     gate: &G,

@@ -8,6 +8,7 @@ use std::alloc::{AllocError, Global};
 use std::sync::atomic::AtomicU64;
 use std::sync::atomic::Ordering::SeqCst;
 use std::thread::Threads;
+use std::time::Clock;
 
 // A gate that wants no workers at once, and counts the tasks that workers claim.
 #[derive(Drop)]
@@ -40,7 +41,7 @@ fn overlapping_writes(alloc: Global, writes: u32) -> Result<Part, AllocError> {
 }
 
 // How many tasks two workers claim of such writes, which are refuted.
-fn claims_of<R: AllocGlobal + Threads + Sync>(rt: &R, writes: u32) -> Option<u64> {
+fn claims_of<R: AllocGlobal + Threads + Clock + Sync>(rt: &R, writes: u32) -> Option<u64> {
     let problem = overlapping_writes(rt.alloc(), writes).ok()?;
     let options = Options::new(2, 16, None, false).ok()?;
     let gate = Counting {

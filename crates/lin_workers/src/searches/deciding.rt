@@ -7,6 +7,7 @@ ghost use Rattle.lin_workers.specs.Cut.{DecideBy, IsCut};
 ghost use Rattle.lin_workers.specs.Outcomes.{AreOutcomes};
 ghost use Rattle.lin_workers.specs.Verdict.{IsNextTask, IsObjectVerdict};
 
+use crate::bounds::{Bounds, Unfinished, Watcher};
 use crate::searches::starving::search_unless_starved;
 use crate::tasks::task::Task;
 use crate::verdict::ObjectVerdict;
@@ -17,30 +18,30 @@ use std::alloc::{AllocError, Global};
 
 /// The verdict by the tasks of a cut, in their order: the first that has a completion, or whose search met the limit, decides;
 /// where none does, the longest run is read off the memo. A task is searched over the memo where no outcome of it was brought.
-/// `AllocError` where memory was refused.
-pub(crate) fn verdict_of_tasks<O: SeqObject, M: Memo<O>>(
+/// `Unfinished` where memory was refused or the time was up.
+pub(crate) fn verdict_of_tasks<O: SeqObject, M: Memo<O>, W: Watcher>(
     alloc: Global,
     problem: &Problem<O>,
     tasks: &[Task<O>],
     outcomes: &mut [Option<Outcome>],
     memo: &mut M,
-    limit: Option<u64>,
-) -> Result<ObjectVerdict, AllocError>
+    bounds: &Bounds<'_, W>,
+) -> Result<ObjectVerdict, Unfinished>
     requires cut { (k : ℕ) × IsCut (problem_of O.after O.State.eq O.Reply.eq problem.now) k
         tasks.now }
     requires decides { DecideBy (problem_of O.after O.State.eq O.Reply.eq problem.now) tasks.now }
     requires outcomes { AreOutcomes (problem_of O.after O.State.eq O.Reply.eq problem.now) tasks.now
-        limit outcomes.old }
+        bounds.now.limit outcomes.old }
     ensures verdict { IfOk result (IsObjectVerdict
-        (problem_of O.after O.State.eq O.Reply.eq problem.now) limit) }
+        (problem_of O.after O.State.eq O.Reply.eq problem.now) bounds.now) }
     ensures memo { M.changes memo.old memo.new }
 {
     lawful::<O>();
     for i in 0..tasks.len() {
         let task = &tasks[i];
         let brought = outcomes[i].take();
-        let outcome = outcome_of(alloc, problem, task, brought, memo, limit)?;
-        if let Some(verdict) = verdict_of_task(alloc, problem, task, outcome, limit)? {
+        let outcome = outcome_of(alloc, problem, task, brought, memo, bounds)?;
+        if let Some(verdict) = verdict_of_task(alloc, problem, task, outcome, bounds)? {
             return Ok(verdict);
         }
     }
@@ -48,43 +49,43 @@ pub(crate) fn verdict_of_tasks<O: SeqObject, M: Memo<O>>(
 }
 
 // The outcome of the task: the one that was brought, or else that of a search over the memo.
-fn outcome_of<O: SeqObject, M: Memo<O>>(
+fn outcome_of<O: SeqObject, M: Memo<O>, W: Watcher>(
     alloc: Global,
     problem: &Problem<O>,
     task: &Task<O>,
     brought: Option<Outcome>,
     memo: &mut M,
-    limit: Option<u64>,
-) -> Result<Outcome, AllocError>
+    bounds: &Bounds<'_, W>,
+) -> Result<Outcome, Unfinished>
     requires reachable { IsReachable (problem_of O.after O.State.eq O.Reply.eq problem.now)
         task.now.config.lifted task.now.config.state }
     requires brought { IfSome brought (IsAnswer
         (problem_of O.after O.State.eq O.Reply.eq problem.now) task.now.config.lifted
-        task.now.config.state limit (λ told. ⊥)) }
+        task.now.config.state bounds.now.limit (λ told. ⊥)) }
     ensures answer { IfOk result (IsAnswer
         (problem_of O.after O.State.eq O.Reply.eq problem.now) task.now.config.lifted
-        task.now.config.state limit (λ told. ⊥)) }
+        task.now.config.state bounds.now.limit (λ told. ⊥)) }
     ensures memo { M.changes memo.old memo.new }
 {
     match brought {
         Some(outcome) => Ok(outcome),
-        None => search_unless_starved(alloc, problem, &task.config, memo, limit, &mut NoStop),
+        None => search_unless_starved(alloc, problem, &task.config, memo, bounds, &mut NoStop),
     }
 }
 
 // The verdict on the problem, where the task decides it: it has a completion, or its search met the limit.
-fn verdict_of_task<O: SeqObject>(
+fn verdict_of_task<O: SeqObject, W: Watcher>(
     alloc: Global,
     problem: &Problem<O>,
     task: &Task<O>,
     outcome: Outcome,
-    limit: Option<u64>,
+    bounds: &Bounds<'_, W>,
 ) -> Result<Option<ObjectVerdict>, AllocError>
     requires next { IsNextTask (problem_of O.after O.State.eq O.Reply.eq problem.now) task.now }
     requires answer { IsAnswer (problem_of O.after O.State.eq O.Reply.eq problem.now)
-        task.now.config.lifted task.now.config.state limit (λ told. ⊥) outcome }
+        task.now.config.lifted task.now.config.state bounds.now.limit (λ told. ⊥) outcome }
     ensures verdict { IfOk result (λ decided. IfSome decided
-        (IsObjectVerdict (problem_of O.after O.State.eq O.Reply.eq problem.now) limit)) }
+        (IsObjectVerdict (problem_of O.after O.State.eq O.Reply.eq problem.now) bounds.now)) }
     ensures refuted { IfOk result (λ decided. IfNone decided (HasNoCompletion
         (problem_of O.after O.State.eq O.Reply.eq problem.now) task.now.config.lifted
         task.now.config.state)) }

@@ -6,6 +6,7 @@ ghost use Rattle.lin_search.specs.Answer.{IsAnswer};
 ghost use Rattle.lin_workers.specs.Cut.{IsCut};
 ghost use Rattle.lin_workers.specs.Outcomes.{AreOutcomes};
 
+use crate::bounds::{Bounds, Unfinished, Unwatched, Watcher};
 use crate::searches::starving::search_unless_starved;
 use crate::searches::watching::{UntilOver, Watch, WatchedMemo};
 use crate::tasks::task::Task;
@@ -13,7 +14,7 @@ use crate::workers::gathering::{no_outcomes, place_value, was_stopped};
 use lin_history::Problem;
 use lin_object::SeqObject;
 use lin_search::{CallSet, Memo, NoStop, Outcome};
-use std::alloc::{AllocError, Global};
+use std::alloc::Global;
 use std::sync::atomic::AtomicBool;
 
 // A search stalls at the earliest when so many lifts in a row have made no progress.
@@ -30,24 +31,24 @@ pub enum Patience {
 
 // The outcomes of the tasks of a cut before they are taken in their order: of a thread that goes on to the end none; else that
 // of the first, of its search over the memo, or `None` where that search stalls.
-pub(crate) fn outcomes_unless_stalled<O: SeqObject, M: Memo<O>>(
+pub(crate) fn outcomes_unless_stalled<O: SeqObject, M: Memo<O>, W: Watcher>(
     alloc: Global,
     problem: &Problem<O>,
     tasks: &[Task<O>],
     memo: &mut M,
     patience: Patience,
-    limit: Option<u64>,
-) -> Result<Option<Vec<Option<Outcome>>>, AllocError>
+    bounds: &Bounds<'_, W>,
+) -> Result<Option<Vec<Option<Outcome>>>, Unfinished>
     requires { (k : ℕ) × IsCut (problem_of O.after O.State.eq O.Reply.eq problem.now) k tasks.now }
     ensures outcomes { IfOk result (λ found. IfSome found (λ outcomes. AreOutcomes
-        (problem_of O.after O.State.eq O.Reply.eq problem.now) tasks.now limit outcomes.items)) }
+        (problem_of O.after O.State.eq O.Reply.eq problem.now) tasks.now bounds.now.limit outcomes.items)) }
     ensures memo { M.changes memo.old memo.new }
 {
     let mut outcomes = no_outcomes(alloc, tasks.len())?;
     if let Patience::ToTheEnd = patience {
         return Ok(Some(outcomes));
     }
-    let outcome = search_until_stalled(alloc, problem, &tasks[0], memo, limit)?;
+    let outcome = search_until_stalled(alloc, problem, &tasks[0], memo, bounds)?;
     if was_stopped(&outcome) {
         return Ok(None);
     }
@@ -56,24 +57,24 @@ pub(crate) fn outcomes_unless_stalled<O: SeqObject, M: Memo<O>>(
 }
 
 // Searches the configuration of the task over the memo, and is stopped where it stalls.
-fn search_until_stalled<O: SeqObject, M: Memo<O>>(
+fn search_until_stalled<O: SeqObject, M: Memo<O>, W: Watcher>(
     alloc: Global,
     problem: &Problem<O>,
     task: &Task<O>,
     memo: &mut M,
-    limit: Option<u64>,
-) -> Result<Outcome, AllocError>
-    requires { IsReachable (problem_of O.after O.State.eq O.Reply.eq problem.now)
+    bounds: &Bounds<'_, W>,
+) -> Result<Outcome, Unfinished>
+    requires reachable { IsReachable (problem_of O.after O.State.eq O.Reply.eq problem.now)
         task.now.config.lifted task.now.config.state }
     ensures answer { IfOk result (IsAnswer (problem_of O.after O.State.eq O.Reply.eq problem.now)
-        task.now.config.lifted task.now.config.state limit (λ told. Unit {0})) }
+        task.now.config.lifted task.now.config.state bounds.now.limit (λ told. Unit {0})) }
     ensures memo { M.changes memo.old memo.new }
 {
     let has_stalled = AtomicBool::new(false);
     let mut memo = WatchedMemo::new(memo, Progress::none(), &has_stalled);
     let mut none = NoStop;
-    let mut stop = UntilOver::new(&mut none, &has_stalled);
-    search_unless_starved(alloc, problem, &task.config, &mut memo, limit, &mut stop)
+    let mut stop = UntilOver::new(&mut none, &has_stalled, &Unwatched);
+    search_unless_starved(alloc, problem, &task.config, &mut memo, bounds, &mut stop)
 }
 
 // How far a search has come: the greatest sum of the numbers of lifted calls, how many lifts it has made, and how many of

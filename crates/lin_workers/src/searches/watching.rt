@@ -2,6 +2,7 @@
 //! what is watched, and nothing that is proved depends on it.
 ghost use Rattle.std.specs.Prelude.{◌≡◌};
 
+use crate::bounds::Watcher;
 use lin_history::Problem;
 use lin_object::SeqObject;
 use lin_search::{CallSet, Config, Longest, Memo, Noted, Stop};
@@ -10,6 +11,9 @@ use std::sync::atomic::Ordering::SeqCst;
 
 // How many lifts a search makes from one look at the flag to the next.
 const LIFTS_BETWEEN: u32 = 64;
+
+// How many lifts it makes from one look at the clock to the next.
+const LIFTS_TO_CLOCK: u32 = 4_096;
 
 /// What watches a search, by what it asks of its memo and what it is answered.
 pub(crate) trait Watch {
@@ -133,30 +137,32 @@ impl<'a, O: SeqObject, M: Memo<O>, W: Watch + Drop> Memo<O> for WatchedMemo<'a, 
     ghost keeps_problem = { λ a b k p h. M.keeps_problem a.memo.now b.memo.now k.1 p h };
 }
 
-/// The stop of a search over such a memo: it answers soon after the memo says that the search is to end, and where the stop
-/// below answers. Contracts see the stop below.
+/// The stop of a search over such a memo: it answers soon after the memo says that the search is to end, soon after the time is
+/// up, and where the stop below answers. Contracts see the stop below.
 #[derive(Drop)]
-pub(crate) struct UntilOver<'a, 'b, S> {
+pub(crate) struct UntilOver<'a, 'b, 'c, S, W> {
     stop: &'a mut S,
     is_over: &'b AtomicBool,
+    watcher: &'c W,
     lifts: u32,
 }
 
-impl<'a, 'b, S> UntilOver<'a, 'b, S> {
+impl<'a, 'b, 'c, S, W: Watcher> UntilOver<'a, 'b, 'c, S, W> {
     // Over this stop.
-    pub(crate) fn new(stop: &'a mut S, is_over: &'b AtomicBool) -> Self
+    pub(crate) fn new(stop: &'a mut S, is_over: &'b AtomicBool, watcher: &'c W) -> Self
         ensures stop { result.stop.now ≡ stop.old }
         ensures same_reference { result.stop.ghost_name ≡ stop.entry.ghost_name }
     {
         UntilOver {
             stop,
             is_over,
+            watcher,
             lifts: 0,
         }
     }
 }
 
-impl<'a, 'b, S: Stop> Stop for UntilOver<'a, 'b, S> {
+impl<'a, 'b, 'c, S: Stop, W: Watcher> Stop for UntilOver<'a, 'b, 'c, S, W> {
     ghost use Rattle.std.specs.Prelude.{refl};
     ghost use Rattle.std.proofs.Common.{◌∙◌};
 
@@ -167,10 +173,14 @@ impl<'a, 'b, S: Stop> Stop for UntilOver<'a, 'b, S> {
 
     // Once the search is to end, it answers so however often it is asked: the lifts are no longer counted.
     fn ask(&mut self) -> Option<u64> {
-        if self.lifts % LIFTS_BETWEEN == 0 && self.is_over.load(SeqCst) {
-            return Some(0);
+        let lifts = self.lifts;
+        if lifts % LIFTS_BETWEEN == 0 {
+            let is_up = lifts % LIFTS_TO_CLOCK == 0 && self.watcher.is_up();
+            if is_up || self.is_over.load(SeqCst) {
+                return Some(0);
+            }
         }
-        self.lifts = self.lifts.wrapping_add(1);
+        self.lifts = lifts.wrapping_add(1);
         self.stop.ask()
     }
 

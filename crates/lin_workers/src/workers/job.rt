@@ -1,6 +1,7 @@
 //! What workers share at an object, and what each of them brings.
 ghost use Rattle.std.specs.Prelude.{◌≡◌, length};
 
+use crate::bounds::{Bounds, Watcher};
 use crate::tasks::task::Task;
 use lin_board::{Board, Seat};
 use lin_history::Problem;
@@ -11,7 +12,7 @@ use std::alloc::Global;
 
 /// What all workers at an object share. The board has as many tasks as there are.
 #[derive(Drop)]
-pub(crate) struct Job<'a, 'p, O: SeqObject> {
+pub(crate) struct Job<'a, 'p, 'b, O: SeqObject, W: Watcher> {
     /// Where memory is asked for.
     pub(crate) alloc: Global,
     /// The problem.
@@ -22,8 +23,8 @@ pub(crate) struct Job<'a, 'p, O: SeqObject> {
     pub(crate) table: &'a Table<'p, O>,
     /// Which tasks are claimed, and the least for which something was found.
     pub(crate) board: &'a Board,
-    /// How many lifts the search of a task makes at most, where there is a limit.
-    pub(crate) limit: Option<u64>,
+    /// Within which bounds a task is searched.
+    pub(crate) bounds: &'a Bounds<'b, W>,
     ghost places: { board.now.tasks ≡ length tasks.now },
 }
 

@@ -10,48 +10,46 @@ ghost use Rattle.lin_table.specs.Shared.{HasGrown};
 ghost use Rattle.lin_workers.specs.Cut.{IsCut};
 ghost use Rattle.lin_workers.specs.Heard.{HasHeard};
 
+use crate::bounds::{Unfinished, Watcher};
 use crate::searches::starving::{scout_unless_starved, search_unless_starved};
 use crate::searches::stop::FoundBefore;
 use crate::tasks::task::Task;
 use crate::workers::job::{Done, Job};
 use crate::workers::scouts::Scouting;
 use crate::workers::signals::{Member, UntilLeading};
-use lin_history::Problem;
 use lin_object::SeqObject;
 use lin_search::{Config, Memo, Outcome, Stop};
 use lin_table::SharedMemo;
-use std::alloc::{AllocError, Global};
 
 // How many steps a worker scouts at most from a task.
 const SCOUTING_STEPS: u64 = 4_000_000;
 
-// Searches the configuration, unless the stop answers before. `AllocError` where memory was refused, to the search or to very
-// many notes in a row.
-pub(crate) fn search_unless_told<O: SeqObject, M: Memo<O>, S: Stop>(
-    alloc: Global,
-    problem: &Problem<O>,
+// Searches the configuration, unless the stop answers before. `Unfinished` where the time was up, or where memory was refused, to
+// the search or to very many notes in a row.
+pub(crate) fn search_unless_told<O: SeqObject, M: Memo<O>, S: Stop, W: Watcher>(
+    job: &Job<'_, '_, '_, O, W>,
     config: &Config<O>,
     memo: &mut M,
-    limit: Option<u64>,
     stop: &mut S,
-) -> Result<Outcome, AllocError>
-    requires { IsReachable (problem_of O.after O.State.eq O.Reply.eq problem.now) config.now.lifted
-        config.now.state }
-    ensures answer { IfOk result (IsAnswer (problem_of O.after O.State.eq O.Reply.eq problem.now)
-        config.now.lifted config.now.state limit (S.tells stop.new)) }
+) -> Result<Outcome, Unfinished>
+    requires { IsReachable (problem_of O.after O.State.eq O.Reply.eq job.now.problem.now)
+        config.now.lifted config.now.state }
+    ensures answer { IfOk result (IsAnswer
+        (problem_of O.after O.State.eq O.Reply.eq job.now.problem.now) config.now.lifted
+        config.now.state job.now.bounds.now.limit (S.tells stop.new)) }
     ensures memo { M.changes memo.old memo.new }
     ensures stop { S.follows stop.old stop.new }
 {
     match stop.ask() {
         Some(told) => Ok(Outcome::Stopped(told)),
-        None => search_unless_starved(alloc, problem, config, memo, limit, stop),
+        None => search_unless_starved(job.alloc, job.problem, config, memo, job.bounds, stop),
     }
 }
 
 // Scouts from the task of this number, over the table, until the worker leads: no other of its group is at a smaller task. It
 // ends too where a smaller task was found. A worker without a group does not scout.
-pub(crate) fn scout_until_leading<O: SeqObject>(
-    job: &Job<'_, '_, O>,
+pub(crate) fn scout_until_leading<O: SeqObject, W: Watcher>(
+    job: &Job<'_, '_, '_, O, W>,
     task: &Task<O>,
     number: u64,
     worker: &mut Done<O>,
@@ -72,40 +70,32 @@ pub(crate) fn scout_until_leading<O: SeqObject>(
     let mut memo = SharedMemo::new(job.table, &mut worker.hand);
     let mut stop = UntilLeading::new(job.board, &mut worker.seat, number, member.signals);
     let scouting = member.scouting;
-    scout_unless_told(
-        job.alloc,
-        job.problem,
-        &task.config,
-        scouting,
-        &mut memo,
-        &mut stop,
-    );
+    scout_unless_told(job, &task.config, scouting, &mut memo, &mut stop);
 }
 
 // Scouts from the configuration, unless the stop answers before. What is refuted on the way is in the memo. Want of memory
 // only ends it.
-fn scout_unless_told<O: SeqObject, M: Memo<O>, S: Stop>(
-    alloc: Global,
-    problem: &Problem<O>,
+fn scout_unless_told<O: SeqObject, M: Memo<O>, S: Stop, W: Watcher>(
+    job: &Job<'_, '_, '_, O, W>,
     config: &Config<O>,
     scouting: Scouting,
     memo: &mut M,
     stop: &mut S,
 )
-    requires { IsReachable (problem_of O.after O.State.eq O.Reply.eq problem.now) config.now.lifted
-        config.now.state }
+    requires { IsReachable (problem_of O.after O.State.eq O.Reply.eq job.now.problem.now)
+        config.now.lifted config.now.state }
     ensures memo { M.changes memo.old memo.new }
     ensures stop { S.follows stop.old stop.new }
 {
     if stop.ask().is_none() {
-        scout_unless_starved(alloc, problem, config, scouting, memo, stop);
+        scout_unless_starved(job, config, scouting, memo, stop);
     }
 }
 
 // Scouts from each task when all are claimed, up to the first that was not decided: so a worker without a task helps the
 // others at theirs. From a task that is refuted by then it goes on to the next at once. What its seat has brought stays as it is.
-pub(crate) fn scout_all<O: SeqObject>(
-    job: &Job<'_, '_, O>,
+pub(crate) fn scout_all<O: SeqObject, W: Watcher>(
+    job: &Job<'_, '_, '_, O, W>,
     worker: &mut Done<O>,
     member: Member<'_>,
 )
@@ -127,8 +117,8 @@ pub(crate) fn scout_all<O: SeqObject>(
 }
 
 // Scouts from the task of this number, over the table. It ends where this task or a smaller one was found.
-fn scout_one<O: SeqObject>(
-    job: &Job<'_, '_, O>,
+fn scout_one<O: SeqObject, W: Watcher>(
+    job: &Job<'_, '_, '_, O, W>,
     task: &Task<O>,
     number: u64,
     worker: &mut Done<O>,
@@ -144,14 +134,7 @@ fn scout_one<O: SeqObject>(
 {
     let mut memo = SharedMemo::new(job.table, &mut worker.hand);
     let mut stop = FoundBefore::new(job.board, &mut worker.seat, number.saturating_add(1));
-    scout_unless_told(
-        job.alloc,
-        job.problem,
-        &task.config,
-        scouting,
-        &mut memo,
-        &mut stop,
-    );
+    scout_unless_told(job, &task.config, scouting, &mut memo, &mut stop);
 }
 
 // How the worker of this number among so many scouts, where a search makes so many lifts at most.

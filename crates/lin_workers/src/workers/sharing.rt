@@ -8,6 +8,7 @@ ghost use Rattle.lin_workers.specs.Cut.{IsCut};
 ghost use Rattle.lin_workers.specs.Outcomes.{AreOutcomes};
 ghost use Rattle.lin_workers.specs.Values.{AreValues};
 
+use crate::bounds::{Bounds, Watcher};
 use crate::options::MAX_WORKERS;
 use crate::tasks::task::Task;
 use crate::workers::gate::Gate;
@@ -29,21 +30,21 @@ const MOST_TASKS: usize = 1 << 62;
 
 // The outcomes of the tasks as far as workers brought them: as many workers as there are hands, and not more than tasks. All
 // hands are there again afterwards. No outcome is brought where there are more tasks than a board may have.
-pub(crate) fn share<O: SharedObject, R: AllocGlobal + Threads + Sync, G: Gate>(
+pub(crate) fn share<O: SharedObject, R: AllocGlobal + Threads + Sync, G: Gate, W: Watcher>(
     rt: &R,
     table: &Table<'_, O>,
     tasks: &[Task<O>],
     hands: &mut Vec<Hand<O>>,
     gate: &G,
-    limit: Option<u64>,
+    bounds: &Bounds<'_, W>,
 ) -> Result<Vec<Option<Outcome>>, AllocError>
     requires cut { (k : ℕ) × IsCut (problem_of O.after O.State.eq O.Reply.eq table.now.problem) k
         tasks.now }
     requires workers { (1 ≤ vec_len hands.old) × (vec_len hands.old ≤ MAX_WORKERS) }
     requires hands { All (IsHandOf table.now) hands.old.items }
     ensures outcomes { IfOk result (λ outcomes. AreOutcomes
-        (problem_of O.after O.State.eq O.Reply.eq table.now.problem) tasks.now limit
-        outcomes.items) }
+        (problem_of O.after O.State.eq O.Reply.eq table.now.problem) tasks.now
+        bounds.now.limit outcomes.items) }
     ensures hands { All (IsHandOf table.now) hands.new.items }
     ensures count { vec_len hands.new ≡ vec_len hands.old }
     ensures capacity { vec_capacity hands.new ≡ vec_capacity hands.old }
@@ -64,7 +65,7 @@ pub(crate) fn share<O: SharedObject, R: AllocGlobal + Threads + Sync, G: Gate>(
         tasks,
         table,
         board: &board,
-        limit,
+        bounds,
     };
     work_all(rt, &job, workers.as_mut_slice(), &signals, gate);
     gather(outcomes.as_mut_slice(), workers, hands);
@@ -102,9 +103,9 @@ fn make_workers<O: SeqObject>(
 }
 
 // Lets each worker work, in a thread of its own where one can be had.
-fn work_all<O: SharedObject, R: Threads + Sync, G: Gate>(
+fn work_all<O: SharedObject, R: Threads + Sync, G: Gate, W: Watcher>(
     rt: &R,
-    job: &Job<'_, '_, O>,
+    job: &Job<'_, '_, '_, O, W>,
     workers: &mut [Done<O>],
     signals: &Signals,
     gate: &G,
@@ -116,7 +117,7 @@ fn work_all<O: SharedObject, R: Threads + Sync, G: Gate>(
     ensures hands { All (λ worker. IsHandOf job.now.table.now worker.hand) workers.new }
     ensures values { All (λ worker. AreValues
         (problem_of O.after O.State.eq O.Reply.eq job.now.problem.now) job.now.tasks.now
-        job.now.limit worker.seat worker.values.items) workers.new }
+        job.now.bounds.now.limit worker.seat worker.values.items) workers.new }
     ensures count { length workers.new ≡ length workers.old }
 {
     let count = workers.len();
@@ -131,10 +132,10 @@ fn work_all<O: SharedObject, R: Threads + Sync, G: Gate>(
                 × (worker.now.values.items ≡ []) }
             ensures { IsHandOf job.entry.now.table.now worker.exit.now.hand × AreValues
                 (problem_of O.after O.State.eq O.Reply.eq job.entry.now.problem.now)
-                job.entry.now.tasks.now job.entry.now.limit worker.exit.now.seat
+                job.entry.now.tasks.now job.entry.now.bounds.now.limit worker.exit.now.seat
                 worker.exit.now.values.items }
         {
-            let scouting = scouting_of(number, count, job.limit);
+            let scouting = scouting_of(number, count, job.bounds.limit());
             let member = Member {
                 number,
                 scouting,
@@ -146,8 +147,8 @@ fn work_all<O: SharedObject, R: Threads + Sync, G: Gate>(
 }
 
 // Lets the worker search tasks as a member of its group. In the end it helps the others.
-fn work_as<O: SeqObject, G: Gate>(
-    job: &Job<'_, '_, O>,
+fn work_as<O: SeqObject, G: Gate, W: Watcher>(
+    job: &Job<'_, '_, '_, O, W>,
     worker: &mut Done<O>,
     gate: &G,
     member: Member<'_>,
@@ -159,7 +160,7 @@ fn work_as<O: SeqObject, G: Gate>(
     requires none { worker.old.values.items ≡ [] }
     ensures hand { IsHandOf job.now.table.now worker.new.hand }
     ensures values { AreValues (problem_of O.after O.State.eq O.Reply.eq job.now.problem.now)
-        job.now.tasks.now job.now.limit worker.new.seat worker.new.values.items }
+        job.now.tasks.now job.now.bounds.now.limit worker.new.seat worker.new.values.items }
 {
     search_tasks(job, worker, gate, Some(member));
     scout_all(job, worker, member);

@@ -11,6 +11,7 @@ ghost use Rattle.lin_search.specs.declared.outcome.Outcome.{Outcome as OutcomeOf
 ghost use Rattle.lin_workers.specs.Heard.{HasFound, HasHeard, IsTold};
 ghost use Rattle.lin_workers.specs.Values.{HasBrought, found_of};
 
+use crate::bounds::{Bounds, Unwatched, Watcher};
 use crate::searches::stop::FoundBefore;
 use crate::tasks::task::Task;
 use crate::workers::gate::Gate;
@@ -60,13 +61,14 @@ pub fn work<O: SeqObject, G: Gate>(
         hand,
         seat,
     };
+    let bounds = Bounds::new(limit, &Unwatched);
     let job = Job {
         alloc,
         problem,
         tasks,
         table,
         board,
-        limit,
+        bounds: &bounds,
     };
     search_tasks(&job, &mut done, gate, None);
     done
@@ -74,8 +76,8 @@ pub fn work<O: SeqObject, G: Gate>(
 
 // Claims tasks and searches each over the table, until all are claimed; the values are put to the worker's, which has none
 // before. A member of a group scouts before each search until it leads, and tells the others where it is.
-pub(crate) fn search_tasks<O: SeqObject, G: Gate>(
-    job: &Job<'_, '_, O>,
+pub(crate) fn search_tasks<O: SeqObject, G: Gate, W: Watcher>(
+    job: &Job<'_, '_, '_, O, W>,
     worker: &mut Done<O>,
     gate: &G,
     member: Option<Member<'_>>,
@@ -86,7 +88,7 @@ pub(crate) fn search_tasks<O: SeqObject, G: Gate>(
     requires seat { IsSeatOf job.now.board.now worker.old.seat }
     requires none { worker.old.values.items ≡ [] }
     ensures brought { HasBrought (problem_of O.after O.State.eq O.Reply.eq job.now.problem.now)
-        job.now.tasks.now job.now.limit worker.old.seat worker.new.seat worker.new.values.items }
+        job.now.tasks.now job.now.bounds.now.limit worker.old.seat worker.new.seat worker.new.values.items }
     ensures hand { IsHandOf job.now.table.now worker.new.hand }
     ensures grown { HasGrown worker.old.hand worker.new.hand }
     ensures seat { IsSeatOf job.now.board.now worker.new.seat }
@@ -112,9 +114,9 @@ pub(crate) fn search_tasks<O: SeqObject, G: Gate>(
 }
 
 // Searches the configuration of the task of this number over the table. A member of a group scouts before until it leads.
-// `None` where memory was refused, or where the task comes after one that another worker did not decide.
-fn search_task<O: SeqObject>(
-    job: &Job<'_, '_, O>,
+// `None` where memory was refused or the time was up, or where the task comes after one that another worker did not decide.
+fn search_task<O: SeqObject, W: Watcher>(
+    job: &Job<'_, '_, '_, O, W>,
     task: &Task<O>,
     number: u64,
     worker: &mut Done<O>,
@@ -126,7 +128,7 @@ fn search_task<O: SeqObject>(
     requires seat { IsSeatOf job.now.board.now worker.old.seat }
     ensures answer { IfSome result (IsAnswer
         (problem_of O.after O.State.eq O.Reply.eq job.now.problem.now) task.now.config.lifted
-        task.now.config.state job.now.limit (IsTold number worker.new.seat)) }
+        task.now.config.state job.now.bounds.now.limit (IsTold number worker.new.seat)) }
     ensures values { worker.new.values ≡ worker.old.values }
     ensures hand { IsHandOf job.now.table.now worker.new.hand }
     ensures grown { HasGrown worker.old.hand worker.new.hand }
@@ -143,9 +145,9 @@ fn search_task<O: SeqObject>(
     searched
 }
 
-// Searches the configuration of the task of this number over the table. `None` where memory was refused.
-fn search_over_table<O: SeqObject>(
-    job: &Job<'_, '_, O>,
+// Searches the configuration of the task of this number over the table. `None` where memory was refused or the time was up.
+fn search_over_table<O: SeqObject, W: Watcher>(
+    job: &Job<'_, '_, '_, O, W>,
     task: &Task<O>,
     number: u64,
     worker: &mut Done<O>,
@@ -156,7 +158,7 @@ fn search_over_table<O: SeqObject>(
     requires seat { IsSeatOf job.now.board.now worker.old.seat }
     ensures answer { IfSome result (IsAnswer
         (problem_of O.after O.State.eq O.Reply.eq job.now.problem.now) task.now.config.lifted
-        task.now.config.state job.now.limit (IsTold number worker.new.seat)) }
+        task.now.config.state job.now.bounds.now.limit (IsTold number worker.new.seat)) }
     ensures values { worker.new.values ≡ worker.old.values }
     ensures hand { IsHandOf job.now.table.now worker.new.hand }
     ensures grown { HasGrown worker.old.hand worker.new.hand }
@@ -164,15 +166,7 @@ fn search_over_table<O: SeqObject>(
 {
     let mut memo = SharedMemo::new(job.table, &mut worker.hand);
     let mut stop = FoundBefore::new(job.board, &mut worker.seat, number);
-    search_unless_told(
-        job.alloc,
-        job.problem,
-        &task.config,
-        &mut memo,
-        job.limit,
-        &mut stop,
-    )
-    .ok()
+    search_unless_told(job, &task.config, &mut memo, &mut stop).ok()
 }
 
 // Whether the search decided its task, or was stopped since a smaller one was found.

@@ -6,6 +6,6 @@ use Rattle.lin_prefixes.proofs.AnewLemmas.{told_of}
 use Rattle.lin_prefixes.proofs.anew_search.full_answer.Goals as goal
 
 pub returns : goal.returns
-returns c =
-    rw c.told_by.ensures (told_of (any_problem c.args.part.now) (Some c.args.lifts) (λ n. ⊥) c.in_ok-outcome.outcome
-    (alike_answer (alike_itself c.lawful.ensures c.args.part.now) _ c.in_ok-root.root.state c.args.part.now.start (Some c.args.lifts) (λ n. ⊥) c.in_ok-root.ensures.state c.in_ok-outcome.outcome (rw c.in_ok-root.ensures.lifted at c.in_ok-outcome.ensures.answer)))
+returns g c =
+    rw c.told_by.ensures (told_of (any_problem c.args.part.now) (Some c.args.lifts) _ c.in_ok-outcome.outcome
+    (alike_answer (alike_itself c.lawful.ensures c.args.part.now) _ c.in_ok-root.root.state c.args.part.now.start (Some c.args.lifts) _ c.in_ok-root.ensures.state c.in_ok-outcome.outcome (rw c.in_ok-root.ensures.lifted at c.in_ok-outcome.ensures.answer)))

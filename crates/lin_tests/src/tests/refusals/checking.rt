@@ -20,6 +20,7 @@ use lincheck::{CheckFault, Gate, Options, Request, Verdict, check, options_of};
 use std::alloc::{AllocError, Global};
 use std::thread;
 use std::thread::Threads;
+use std::time::Clock;
 
 /// Two registers, each read while the other is written.
 pub const CROSSED: &str = r#"{"event":"object","object":"x","kind":"register"}
@@ -66,7 +67,7 @@ fn is_verdict(verdict: &Verdict, row: Row) -> bool {
 }
 
 // How many times the check was refused memory, with more and more room, until it told the verdict.
-fn refusals<R: AllocGlobal + Threads + Sync>(
+fn refusals<R: AllocGlobal + Threads + Clock + Sync>(
     rt: &R,
     starved: &mut Starved,
     history: &History,
@@ -88,7 +89,7 @@ fn refusals<R: AllocGlobal + Threads + Sync>(
 }
 
 // The same with two workers, from a process that has all it wants.
-fn refusals_in_turn<R: AllocGlobal + Threads + Sync>(
+fn refusals_in_turn<R: AllocGlobal + Threads + Clock + Sync>(
     rt: &R,
     alloc: Global,
     row: Row,
@@ -120,7 +121,7 @@ fn starts(rt: &impl Threads) -> bool {
 }
 
 // Whether a check with four workers shows the verdict of a row where no thread starts.
-fn is_checked_without_threads<R: AllocGlobal + Threads + Sync>(
+fn is_checked_without_threads<R: AllocGlobal + Threads + Clock + Sync>(
     rt: &R,
     alloc: Global,
     row: Row,
@@ -150,7 +151,7 @@ fn the_verdict_stays_where_no_thread_starts(rt: HostRuntime) {
 
 // Whether a check of one object, of whose steps and copies one is refused, shows the longest run; `None` where it was refused
 // memory.
-fn is_told<R: AllocGlobal + Threads + Sync>(
+fn is_told<R: AllocGlobal + Threads + Clock + Sync>(
     rt: &R,
     problem: &Refused,
     workers: u64,
@@ -168,7 +169,7 @@ fn is_told<R: AllocGlobal + Threads + Sync>(
 }
 
 // How many of the first hundred steps and copies, refused in turn, ended the check, where all others told the longest run.
-fn refusals_of_a_check<R: AllocGlobal + Threads + Sync>(
+fn refusals_of_a_check<R: AllocGlobal + Threads + Clock + Sync>(
     rt: &R,
     alloc: Global,
     workers: u64,

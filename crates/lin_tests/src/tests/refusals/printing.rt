@@ -11,6 +11,7 @@ use lin_text::{Cause, TextFault, read_history, write_cause};
 use lincheck::{Verdict, report};
 use std::alloc::{AllocError, Global};
 use std::thread::Threads;
+use std::time::Clock;
 
 // What is in a vector before it is printed to, and fills it.
 const BEFORE: [u8; 24] = [b'-'; 24];
@@ -115,7 +116,7 @@ fn refusals_of_a_report(
 }
 
 // The same of a check with two workers, from a process that has all it wants.
-fn reports_in_turn<R: AllocGlobal + Threads + Sync>(
+fn reports_in_turn<R: AllocGlobal + Threads + Clock + Sync>(
     rt: &R,
     alloc: Global,
 ) -> Result<Option<u64>, AllocError> {

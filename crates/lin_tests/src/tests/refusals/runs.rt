@@ -9,6 +9,7 @@ use std::alloc::AllocError;
 use std::io;
 use std::io::{Read, Write};
 use std::thread::Threads;
+use std::time::Clock;
 
 // Two writes, and after them a read of the first.
 const STALE: &str = r#"{"event":"object","object":"x","kind":"register"}
@@ -103,7 +104,7 @@ impl Write for Narrow {
 }
 
 // What a run answers with this reader and this writer.
-fn ran<R: AllocGlobal + Threads + Sync, D: Read + Drop>(
+fn ran<R: AllocGlobal + Threads + Clock + Sync, D: Read + Drop>(
     rt: &R,
     reader: D,
     writer: &mut Narrow,
@@ -117,7 +118,7 @@ fn ran<R: AllocGlobal + Threads + Sync, D: Read + Drop>(
 
 // Whether a run ends so whose reader fails after so many bytes and whose writer takes so many, with just these of the report
 // written.
-fn ends<R: AllocGlobal + Threads + Sync>(
+fn ends<R: AllocGlobal + Threads + Clock + Sync>(
     rt: &R,
     read: usize,
     written: usize,
@@ -180,7 +181,7 @@ const CROSSED_REPORT: &str = "linearizable
 
 // How many times a run on two registers was refused memory, with nothing written, with more and more room, until its report
 // was written.
-fn refusals_of_a_run<R: AllocGlobal + Threads + Sync>(
+fn refusals_of_a_run<R: AllocGlobal + Threads + Clock + Sync>(
     rt: &R,
     starved: &mut Starved,
     writer: &mut Narrow,
@@ -206,7 +207,9 @@ fn refusals_of_a_run<R: AllocGlobal + Threads + Sync>(
 }
 
 // The same, from a process that has all it wants, with a writer that needs no memory.
-fn runs_in_turn<R: AllocGlobal + Threads + Sync>(rt: &R) -> Result<Option<u64>, AllocError> {
+fn runs_in_turn<R: AllocGlobal + Threads + Clock + Sync>(
+    rt: &R,
+) -> Result<Option<u64>, AllocError> {
     let mut writer = Narrow {
         taken: Vec::with_capacity(rt.alloc(), 200)?,
         before: MUCH,
@@ -247,7 +250,7 @@ impl Read for Counting {
 }
 
 // How many of so many bytes are read, and whether a run ends so and no read comes late.
-fn bytes_read<R: AllocGlobal + Threads + Sync>(
+fn bytes_read<R: AllocGlobal + Threads + Clock + Sync>(
     rt: &R,
     bytes: usize,
     wanted: Status,

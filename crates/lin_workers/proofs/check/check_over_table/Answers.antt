@@ -5,12 +5,6 @@ use Rattle.lin_history.specs.Problems.Problem.{problem_of}
 use Rattle.lin_search.specs.Count.{HasReachable}
 use Rattle.lin_workers.proofs.check.check_over_table.Goals as goal
 
-pub returns-clause-stored : goal.returns-clause-stored
-returns-clause-stored g c = record {
-  few = c.in-Ok.ensures.bound;
-  reachable = subst (λ q. HasReachable (problem_of g.O.SeqObject.after g.O.State.PartialEq.eq g.O.Reply.PartialEq.eq q) c.in-Ok.stored) c.in_ok-table.ensures.table.0 c.in-Ok.ensures.reachable;
-}
-
 pub verdict_by_hands-verdict-requires-clause-hands : goal.verdict_by_hands-verdict-requires-clause-hands
 verdict_by_hands-verdict-requires-clause-hands g c κs within =
     All-weaker (λ (h : HandFacts g.row.O.Denot g.row.O-State.Denot g.row.O-Op.Denot g.row.O-Reply.Denot). h ≡ new_hand c.in_ok-table.table) (IsHandOf c.in_ok-table.table) (λ h e. (ap (λ x. x.table) e, ap (λ x. x.problem) e)) _ c.in_ok-table.ensures.hands

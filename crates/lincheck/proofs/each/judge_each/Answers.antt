@@ -6,11 +6,11 @@ use Rattle.lincheck.proofs.EachLemmas.{statuses_none, statuses_more}
 use Rattle.lincheck.proofs.each.judge_each.Goals as goal
 
 pub loop-object-init : goal.loop-object-init
-loop-object-init g c = (rw c.new-statuses.ensures.items (statuses_none c.args.history.now c.args.options.now.limit), refl, stored_none c.args.history.now)
+loop-object-init g c = (rw c.new-statuses.ensures.items (statuses_none c.args.history.now c.args.setting.now.bounds), refl, stored_none c.args.history.now)
 
 pub loop-object-preserved : goal.loop-object-preserved
 loop-object-preserved g c = (
-  rw c.in_ok-push.ensures.items (statuses_more c.args.history.now c.args.options.now.limit c.loop-object.object c.loop-object.statuses.items c.status_by.result c.loop-object.invariant.0 (c.status_by.ensures c.args.history.now c.args.options.now.limit c.loop-object.object c.in_ok-verdict.ensures.verdict)),
+  rw c.in_ok-push.ensures.items (statuses_more c.args.history.now c.args.setting.now.bounds c.loop-object.object c.loop-object.statuses.items c.status_by.result c.loop-object.invariant.0 (c.status_by.ensures c.args.history.now c.args.setting.now.bounds c.loop-object.object c.in_ok-verdict.ensures.verdict)),
   c.loop-object.invariant.1,
   stored_more c.args.history.now c.loop-object.object c.loop-object.stored c.in_ok-verdict.more c.with_more-stored.result c.loop-object.invariant.2 c.in_ok-verdict.ensures.stored c.with_more-stored.ensures.sum c.with_more-stored.ensures.told,
 )
@@ -18,7 +18,7 @@ loop-object-preserved g c = (
 pub returns-clause-statuses : goal.returns-clause-statuses
 returns-clause-statuses g c =
     let all : c.loop-object.object ≡ length c.args.history.now.objects = omega (arith, c.loop-object-test.false, c.loop-object.auto.object-end, c.len-object-end.ensures, c.in_ok-problems.ensures.count) in
-    subst (λ n. AreStatusesOf c.args.history.now c.args.options.now.limit n c.loop-object.statuses.items) all c.loop-object.invariant.0
+    subst (λ n. AreStatusesOf c.args.history.now c.args.setting.now.bounds n c.loop-object.statuses.items) all c.loop-object.invariant.0
 
 pub returns-clause-stored : goal.returns-clause-stored
 returns-clause-stored g c =

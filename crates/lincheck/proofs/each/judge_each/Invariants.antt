@@ -5,4 +5,4 @@ use Rattle.lincheck.proofs.each.judge_each.Given as goal
 
 -- the statuses so far are right, the parts are as they were, and the number stored so far is told
 abbrev pub invariant-loop-object : goal.invariant-loop-object
-invariant-loop-object g l = AreStatusesOf l.history l.options.limit l.object l.statuses.items × (l.problems.items ≡ l.initial.problems.items) × IsStoredTold l.history l.object l.stored
+invariant-loop-object g l = AreStatusesOf l.history l.setting.bounds l.object l.statuses.items × (l.problems.items ≡ l.initial.problems.items) × IsStoredTold l.history l.object l.stored

@@ -5,7 +5,7 @@ use Rattle.lincheck.proofs.JudgeLemmas.{least_none, least_more, linearizations, 
 use Rattle.lincheck.proofs.judgement.judge.Goals as goal
 
 pub order_or_end-requires-clause-right : goal.order_or_end-requires-clause-right
-order_or_end-requires-clause-right g c = (c.args.options.now.limit, c.in_ok-verdict.ensures.verdict)
+order_or_end-requires-clause-right g c = (c.args.setting.now.bounds, c.in_ok-verdict.ensures.verdict)
 
 pub loop-object-init : goal.loop-object-init
 loop-object-init g c = (rw c.new-orders.ensures.items (least_none c.args.history.now), refl, stored_none c.args.history.now)
@@ -17,7 +17,7 @@ returns-in-Break-clause-stored g c =
 
 pub returns-in-Break-clause-verdict : goal.returns-in-Break-clause-verdict
 returns-in-Break-clause-verdict g c =
-    c.in_ok-order.ensures.end c.loop-object.orders.items c.args.options.now.limit c.loop-object.invariant.0 c.in_ok-verdict.ensures.verdict c.in-Break.verdict c.in-Break.is
+    c.in_ok-order.ensures.end c.loop-object.orders.items c.args.setting.now.bounds c.loop-object.invariant.0 c.in_ok-verdict.ensures.verdict c.in-Break.verdict c.in-Break.is
 
 pub loop-object-preserved : goal.loop-object-preserved
 loop-object-preserved g c =
@@ -35,4 +35,4 @@ returns-clause-stored g c =
 pub returns-clause-verdict : goal.returns-clause-verdict
 returns-clause-verdict g c =
     let all : c.loop-object.object ≡ length c.args.history.now.objects = omega (arith, c.loop-object-test.false, c.loop-object.auto.object-end, c.len-object-end.ensures, c.in_ok-problems.ensures.count) in
-    verdict_yes c.args.history.now c.loop-object.orders.items c.loop-object.object c.in_ok-join.field-0 all c.loop-object.invariant.0 (rw c.as_slice.ensures.value at c.in_ok-join.ensures.joined) c.in_ok-join.ensures.whole c.args.options.now.limit
+    verdict_yes c.args.history.now c.loop-object.orders.items c.loop-object.object c.in_ok-join.field-0 all c.loop-object.invariant.0 (rw c.as_slice.ensures.value at c.in_ok-join.ensures.joined) c.in_ok-join.ensures.whole c.args.setting.now.bounds

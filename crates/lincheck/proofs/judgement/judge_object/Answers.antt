@@ -1,4 +1,3 @@
-use Rattle.std.proofs.Common.{subst}
 use Rattle.lin_ahead.specs.AnyProblem.{any_problem}
 use Rattle.lin_workers.specs.Verdict.{IsNumberStored, IsObjectVerdict}
 use Rattle.lincheck.proofs.JudgeLemmas.{IsPart, at_part}
@@ -11,7 +10,7 @@ returns-in-Some-clause-stored g c = nothing_stored _
 pub returns-in-Some-clause-verdict : goal.returns-in-Some-clause-verdict
 returns-in-Some-clause-verdict g c =
     let part : IsPart c.args.history.now c.args.object c.args.problem.now.calls c.args.problem.now.start = record { calls_are = c.requires.calls; start_is = c.requires.start } in
-    at_part _ _ _ _ part (λ q. IsObjectVerdict q c.args.options.now.limit c.in-Some.told) (subst (λ l. IsObjectVerdict (any_problem c.args.problem.now) l c.in-Some.told) c.limit.ensures.limit (rw c.in-Some.is at c.in_ok-told.ensures))
+    at_part _ _ _ _ part (λ q. IsObjectVerdict q c.args.setting.now.bounds c.in-Some.told) (rw c.in-Some.is at c.in_ok-told.ensures)
 
 pub returns-clause-stored : goal.returns-clause-stored
 returns-clause-stored g c =
@@ -21,4 +20,4 @@ returns-clause-stored g c =
 pub returns-clause-verdict : goal.returns-clause-verdict
 returns-clause-verdict g c =
     let part : IsPart c.args.history.now c.args.object c.args.problem.now.calls c.args.problem.now.start = record { calls_are = c.requires.calls; start_is = c.requires.start } in
-    at_part _ _ _ _ part (λ q. IsObjectVerdict q c.args.options.now.limit c.in_ok-verdict.verdict) c.in_ok-verdict.ensures.verdict
+    at_part _ _ _ _ part (λ q. IsObjectVerdict q c.args.setting.now.bounds c.in_ok-verdict.verdict) c.in_ok-verdict.ensures.verdict

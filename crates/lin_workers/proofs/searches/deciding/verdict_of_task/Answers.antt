@@ -1,4 +1,4 @@
-use Rattle.std.proofs.Common.{ap, sym}
+use Rattle.std.proofs.Common.{ap, sym, inr}
 use Rattle.lin_search.specs.SameLemmas.{alike_itself}
 use Rattle.lin_workers.proofs.VerdictLemmas.{least_found, more_runs}
 use Rattle.lin_workers.proofs.searches.deciding.verdict_of_task.Goals as goal
@@ -9,4 +9,4 @@ returns-in_ok-joined-in-Found-clause-verdict g c =
 
 pub returns-in-Undecided-clause-verdict : goal.returns-in-Undecided-clause-verdict
 returns-in-Undecided-clause-verdict g c =
-    more_runs _ (alike_itself c.lawful.ensures c.args.problem.now) c.args.task.now c.requires.next c.args.limit (rw c.in-Undecided.is at c.requires.answer)
+    inr (more_runs _ (alike_itself c.lawful.ensures c.args.problem.now) c.args.task.now c.requires.next c.args.bounds.now.limit (rw c.in-Undecided.is at c.requires.answer))

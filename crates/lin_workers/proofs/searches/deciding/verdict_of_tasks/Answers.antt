@@ -6,19 +6,19 @@ use Rattle.lin_workers.proofs.VerdictLemmas.{none_up_to}
 use Rattle.lin_workers.proofs.searches.deciding.verdict_of_tasks.Goals as goal
 
 pub outcome_of-requires-clause-reachable : goal.outcome_of-requires-clause-reachable
-outcome_of-requires-clause-reachable g c =
+outcome_of-requires-clause-reachable g c κs sync =
     let at = item_at c.args.tasks.now c.loop-i.i c.index-tasks-i.result (let m = c.loop-i-test.true in let n = c.loop-i.auto.i-end in omega (arith, m, n)) c.index-tasks-i.is in
     leads_reachable _ _ _ _ (task_at _ _ _ _ _ c.requires.cut.1.level.each at).least.0
 
 pub outcome_of-requires-clause-brought : goal.outcome_of-requires-clause-brought
-outcome_of-requires-clause-brought g c =
+outcome_of-requires-clause-brought g c κs sync =
     let below : c.loop-i.i < length c.args.tasks.now = (let m = c.loop-i-test.true in let n = c.loop-i.auto.i-end in omega (arith, m, n)) in
     let at = item_at c.args.tasks.now c.loop-i.i c.index-tasks-i.result below c.index-tasks-i.is in
     let there = item_at c.loop-i.outcomes c.loop-i.i c.index-outcomes-i.result (let e = c.loop-i.invariant.outcomes.places in omega (arith, below, e)) c.index-outcomes-i.is in
     outcome_at _ _ _ _ c.loop-i.invariant.outcomes c.loop-i.i _ c.take-brought.result at (there ∙ ap Some (c.index-outcomes-i.is ∙ sym c.take-brought.ensures.value))
 
 pub verdict_of_task-requires-clause-next : goal.verdict_of_task-requires-clause-next
-verdict_of_task-requires-clause-next g c = record {
+verdict_of_task-requires-clause-next g c κs sync = record {
   level = c.requires.cut.0;
   tasks = c.args.tasks.now;
   index = c.loop-i.i;

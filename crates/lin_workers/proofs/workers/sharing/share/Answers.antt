@@ -17,11 +17,11 @@ work_all-requires-clause-workers g c κs within =
 pub returns-clause-outcomes : goal.returns-clause-outcomes
 returns-clause-outcomes g c =
     let p = problem_of g.O.SeqObject.after g.O.State.PartialEq.eq g.O.Reply.PartialEq.eq c.args.table.now.problem in
-    let before = outcomes_none p c.args.tasks.now c.args.limit c.as_mut_slice-2.result.now (c.as_mut_slice-2.ensures.value ∙ c.in_ok-outcomes.ensures) in
-    let after = c.gather.ensures.outcomes p c.args.tasks.now c.args.limit
-    (subst (All (λ worker. AreValues p c.args.tasks.now c.args.limit worker.seat worker.values.items)) (sym (written _ c.work_all.new.workers _ (c.work_all.ensures.count ∙ c.as_mut_slice.ensures.len))) (subst (λ q. All (λ worker. AreValues (problem_of g.O.SeqObject.after g.O.State.PartialEq.eq g.O.Reply.PartialEq.eq q) c.args.tasks.now c.args.limit worker.seat worker.values.items) c.work_all.new.workers) c.problem.ensures c.work_all.ensures.values))
+    let before = outcomes_none p c.args.tasks.now c.args.bounds.now.limit c.as_mut_slice-2.result.now (c.as_mut_slice-2.ensures.value ∙ c.in_ok-outcomes.ensures) in
+    let after = c.gather.ensures.outcomes p c.args.tasks.now c.args.bounds.now.limit
+    (subst (All (λ worker. AreValues p c.args.tasks.now c.args.bounds.now.limit worker.seat worker.values.items)) (sym (written _ c.work_all.new.workers _ (c.work_all.ensures.count ∙ c.as_mut_slice.ensures.len))) (subst (λ q. All (λ worker. AreValues (problem_of g.O.SeqObject.after g.O.State.PartialEq.eq g.O.Reply.PartialEq.eq q) c.args.tasks.now c.args.bounds.now.limit worker.seat worker.values.items) c.work_all.new.workers) c.problem.ensures c.work_all.ensures.values))
     before in
-    subst (AreOutcomes p c.args.tasks.now c.args.limit) (sym (written _ c.gather.new.outcomes _ (after.places ∙ sym before.places ∙ c.as_mut_slice-2.ensures.len))) after
+    subst (AreOutcomes p c.args.tasks.now c.args.bounds.now.limit) (sym (written _ c.gather.new.outcomes _ (after.places ∙ sym before.places ∙ c.as_mut_slice-2.ensures.len))) after
 
 pub returns-clause-hands : goal.returns-clause-hands
 returns-clause-hands g c =

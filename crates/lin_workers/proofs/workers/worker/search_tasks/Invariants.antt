@@ -14,5 +14,5 @@ invariant-loop-number g l = record {
   hand : IsHandOf l.job.table.now l.worker.hand;
   grown : HasGrown l.fn.worker.hand l.worker.hand;
   seat : IsSeatOf l.job.board.now l.worker.seat;
-  brought : HasBrought (problem_of g.O.SeqObject.after g.O.State.PartialEq.eq g.O.Reply.PartialEq.eq l.job.problem.now) l.job.tasks.now l.job.limit l.fn.worker.seat l.worker.seat l.worker.values.items;
+  brought : HasBrought (problem_of g.O.SeqObject.after g.O.State.PartialEq.eq g.O.Reply.PartialEq.eq l.job.problem.now) l.job.tasks.now l.job.bounds.now.limit l.fn.worker.seat l.worker.seat l.worker.values.items;
 }

@@ -1,0 +1,17 @@
+//! With what the objects of a history are searched.
+ghost use Rattle.std.specs.Prelude.{◌≡◌};
+
+use lin_workers::{Bounds, Options, Watcher};
+
+/// With what an object is searched: the runtime, the options, the bounds, and the gate of the workers.
+#[derive(Drop)]
+pub(crate) struct Setting<'a, 'b, R, G, W: Watcher> {
+    /// Where memory and threads come from.
+    pub(crate) rt: &'a R,
+    /// By how many workers it is searched, and with how many shards.
+    pub(crate) options: Options,
+    /// Within which bounds.
+    pub(crate) bounds: Bounds<'b, W>,
+    /// What a worker passes after each claim.
+    pub(crate) gate: &'a G,
+}
