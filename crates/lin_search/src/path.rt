@@ -244,9 +244,12 @@ impl<'p, O: SeqObject> Path<'p, O> {
             self.now.entries.problem) self.now.config.lifted call }
         requires earlier { earlier < call }
         requires outside { has self.now.config.lifted earlier ≡ false }
-        ensures { IfOk result (λ follows. IsTrue follows → (t : O.State)
+        ensures follows { IfOk result (λ follows. IsTrue follows → (t : O.State)
             × IsNext (problem_of O.after O.State.eq O.Reply.eq self.now.entries.problem)
             self.now.config.lifted self.now.config.state earlier t) }
+        ensures none { IfOk result (λ follows. follows ≡ false → (t : O.State)
+            → IsNext (problem_of O.after O.State.eq O.Reply.eq self.now.entries.problem)
+            self.now.config.lifted self.now.config.state earlier t → ⊥) }
     {
         let _calls = self.problem().calls();
         Ok(self.next_state(earlier)?.is_some())

@@ -17,4 +17,4 @@ returns c =
     identical_begins_none (any_problem c.args.self.now.path.entries.problem) (alike_itself c.lawful.ensures _) _ _ _ _
     ((rw c.problem.ensures at (c.stands_where_it_follows.ensures c.if-not-stands_where_it_follows.false)) c.args.self.now.path.config.lifted c.args.self.now.path.config.state n.0 n.1)
     c.requires.passed)
-    c.can_follow_before.ensures
+    c.can_follow_before.ensures.follows
