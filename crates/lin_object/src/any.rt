@@ -32,20 +32,8 @@ fn reply_of(state: &ObjState, process: u32, op: &Op) -> Option<Reply>
     }
 }
 
-// Puts the step's state in place of this one: what takes that back.
-#[inline(always)]
-fn replaced(state: &mut ObjState, answer: Answer) -> Option<StepBack<ObjState>>
-    ensures step { IfSome result (λ back. step_state answer ≡ Some state.new) }
-    ensures back { IfSome result (λ back. state_before undone back state.new ≡ state.old) }
-    ensures none { IfNone result ((step_state answer ≡ None) × (state.new ≡ state.old)) }
-{
-    match answer {
-        Some((next, _)) => Some(StepBack::Before(mem::replace(state, next))),
-        None => None,
-    }
-}
-
 // What takes the change back, where there is one.
+#[inline(always)]
 fn changed(change: Option<Change>) -> Option<StepBack<ObjState>>
     ensures some { IfSome change (λ change. result ≡ Some (Changed change)) }
     ensures none { IfNone change (result ≡ None) }
@@ -74,39 +62,34 @@ fn stepped(
     ensures memory { IfErr result (λ _. holds_items state.old ≡ true) }
 {
     match state {
-        ObjState::Register(value) => {
-            let answer = register::step(*value, op);
-            Ok(replaced(state, answer))
-        }
-        ObjState::Counter(value) => {
-            let answer = counter::step(*value, op);
-            Ok(replaced(state, answer))
-        }
+        ObjState::Register(value) => Ok(changed(register::step_in_place(value, op))),
+        ObjState::Counter(number) => Ok(changed(counter::step_in_place(number, op))),
         ObjState::Queue(items) => Ok(changed(queue::step_in_place(items, op)?)),
         ObjState::Stack(items) => Ok(changed(stack::step_in_place(alloc, items, op)?)),
         ObjState::Set(items) => set::step_in_place(alloc, items, op),
-        ObjState::Mutex(holder) => {
-            let answer = mutex::step(*holder, process, op);
-            Ok(replaced(state, answer))
-        }
+        ObjState::Mutex(holder) => { Ok(changed(mutex::step_in_place(holder, process, op))) }
         ObjState::Map(pairs) => map::step_in_place(alloc, pairs, op),
     }
 }
 
 // Takes the change back.
+#[inline(always)]
 fn change_taken_back(state: &mut ObjState, change: Change) -> Result<(), AllocError>
     ensures { IfOk result (λ done. state.new ≡ undone change state.old) }
 {
     match state {
+        ObjState::Register(value) => register::take_back(value, change),
+        ObjState::Counter(number) => counter::take_back(number, change),
         ObjState::Queue(items) => queue::take_back(items, change),
         ObjState::Stack(items) => stack::take_back(items, change),
         ObjState::Set(items) => set::take_back(items, change),
+        ObjState::Mutex(holder) => mutex::take_back(holder, change),
         ObjState::Map(pairs) => map::take_back(pairs, change),
-        _ => Err(AllocError),
     }
 }
 
 // The same state.
+#[inline(always)]
 fn copied(alloc: Global, state: &ObjState) -> Result<ObjState, AllocError>
     ensures copy { IfOk result (λ copy. copy ≡ state.now) }
     ensures memory { IfErr result (λ _. holds_items state.now ≡ true) }
@@ -201,6 +184,7 @@ impl SeqObject for AnyObject {
         }
     }
 
+    #[inline(always)]
     fn take_back(
         &self,
         state: &mut ObjState,
@@ -215,6 +199,7 @@ impl SeqObject for AnyObject {
         }
     }
 
+    #[inline(always)]
     fn copy_state(&self, alloc: Global, state: &ObjState) -> Result<ObjState, AllocError> {
         copied(alloc, state)
     }

@@ -1,11 +1,15 @@
 //! What takes a step back that was made on a state in place.
 use crate::pairs::Pair;
 
-/// What a step changed of a state that holds items or pairs.
+/// What a step changed of a state.
 #[derive(Clone, Copy, PartialEq, Eq, Hash, Debug, Drop)]
 pub enum Change {
     /// Nothing.
     Nothing,
+    /// The value or the number, which was this one.
+    Value(i64),
+    /// The holder, which was this process; `None` where there was none.
+    Holder(Option<u32>),
     /// An item was put last.
     PutLast,
     /// An item was put first.

@@ -1,6 +1,9 @@
 //! Counters: a number that is added to.
-ghost use Rattle.std.specs.Prelude.{◌≡◌, is_some};
+ghost use Rattle.std.specs.Prelude.{◌≡◌, Some, None, is_some, IfOk, IfSome, IfNone};
 ghost use Rattle.lin_object.specs.Names.{beside, made_of};
+ghost use Rattle.lin_object.specs.Changes.{undone};
+ghost use Rattle.lin_object.specs.StepAnswers.{step_state};
+ghost use Rattle.lin_object.specs.declared.state.ObjState.TheVariants.{Counter};
 ghost use Rattle.lin_object.specs.Kinds.Counter.{counter_operations, counter_step, CounterLaw};
 ghost use Rattle.lin_object.specs.Kinds.{after};
 
@@ -8,6 +11,9 @@ use crate::kinds::Answer;
 use crate::op::Op;
 use crate::reply::Reply;
 use crate::state::ObjState;
+use crate::step_back::Change;
+use std::alloc::AllocError;
+use std::mem;
 
 /// Whether counters have an operation of that name.
 pub(crate) fn has_op(name: &str) -> bool
@@ -38,6 +44,39 @@ pub(crate) fn step(number: i64, op: &Op) -> Answer
         },
         Op::Get => Some((ObjState::Counter(number), Reply::Int(number))),
         _ => None,
+    }
+}
+
+/// Makes the step in the number of the counter itself: what it changed. `None` where it has none; the number stays as it is
+/// then.
+#[inline(always)]
+pub(crate) fn step_in_place(number: &mut i64, op: &Op) -> Option<Change>
+    ensures step { IfSome result (λ change.
+        step_state (counter_step number.old op.now) ≡ Some (Counter number.new)) }
+    ensures back { IfSome result (λ change.
+        undone change (Counter number.new) ≡ Counter number.old) }
+    ensures none { IfNone result (
+        (step_state (counter_step number.old op.now) ≡ None) × (number.new ≡ number.old)) }
+{
+    let next = match op {
+        Op::Add(difference) => number.checked_add(*difference)?,
+        Op::Get => *number,
+        _ => return None,
+    };
+    Some(Change::Value(mem::replace(number, next)))
+}
+
+/// Takes the change of a counter back. `AllocError` where the change is none of its kind's.
+#[inline(always)]
+pub(crate) fn take_back(number: &mut i64, change: Change) -> Result<(), AllocError>
+    ensures { IfOk result (λ done. Counter number.new ≡ undone change (Counter number.old)) }
+{
+    match change {
+        Change::Value(before) => {
+            *number = before;
+            Ok(())
+        }
+        _ => Err(AllocError),
     }
 }
 
