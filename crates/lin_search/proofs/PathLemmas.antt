@@ -20,13 +20,15 @@ use Rattle.lin_search.specs.Refutation.{IsRefutedWith}
 use Rattle.lin_search.specs.Memo.{IsClosed}
 use Rattle.lin_search.specs.Size.{HasMany, HasMoreThan}
 use Rattle.lin_search.specs.declared.path.Position.{Position}
-use Rattle.lin_search.specs.Path.{Frame, Level, levels, calls_of}
+use Rattle.lin_object.specs.StepBacks.{state_before}
+use Rattle.lin_object.specs.declared.step_back.Change.{Change}
+use Rattle.lin_search.specs.Path.{Frame, Level, KeptFrame, levels, calls_of, kept_calls, frame_of, frames_of, state_at}
 use Rattle.lin_search.specs.Progress.{IsContinuationBelow, IsSearchedTo, IsLevel, IsPath, IsAt, HasLifts, AreLifts, IsLeft, IsTaken, IsProgress, HoldsBelow, HoldsOnPath, HoldsSearched, GoesOn, IsStep, IsLifted, IsRefusal, bound, free, power, work, work_below, work_on_path}
 use Rattle.lin_search.specs.Answer.{IsAnswer, IsDecision, IsRefutation}
 use Rattle.lin_search.specs.declared.outcome.Outcome.{Outcome}
 use Rattle.lin_search.specs.declared.outcome.Outcome.TheVariants.{Found, Refuted, Undecided, Stopped}
 use Rattle.lin_search.specs.NeedlessCalls.{AddsNothing, EndsTheList}
-use Rattle.lin_search.specs.AlikeLemmas.{AreAlike}
+use Rattle.lin_search.specs.AlikeLemmas.{AreAlike, turned}
 use Rattle.lin_search.specs.FirstCallLemmas.{next_within}
 use Rattle.lin_search.proofs.ProgressLemmas.{free_less, searched_start, searched_skip, searched_to, searched_all, searched_after, found_least, least_none, room}
 use Rattle.lin_search.proofs.MemoLemmas.{followed_to, followed_one, followed_next, followed_start, followed_all, closed_look, closed_more}
@@ -59,6 +61,30 @@ module _ {State : Type 0} where
   pub calls_pushed : (base : List ℕ) (fs : List (Frame State)) (f : Frame State) → base ++ calls_of (fs ++ f ∷ []) ≡ (base ++ calls_of fs) ++ f.call ∷ []
   calls_pushed [] fs f = calls_end fs f
   calls_pushed (c ∷ cs) fs f = ap (λ (l : List ℕ). c ∷ l) (calls_pushed cs fs f)
+
+-- kept frames
+module _ {State : Type 0} (undone : Change → State → State) where
+  state_end : (fs : List (KeptFrame State)) (f : KeptFrame State) (t : State) → state_at undone (fs ++ f ∷ []) t ≡ state_at undone fs (state_before undone f.back t)
+  state_end [] f t = refl
+  state_end (g ∷ fs) f t = ap (λ (s : State). state_before undone g.back s) (state_end fs f t)
+
+  -- one frame more, which leads here
+  pub frames_end : (fs : List (KeptFrame State)) (f : KeptFrame State) (t : State) → frames_of undone (fs ++ f ∷ []) t ≡ frames_of undone fs (state_before undone f.back t) ++ frame_of undone f t ∷ []
+  frames_end [] f t = refl
+  frames_end (g ∷ fs) f t = rw (state_end fs f t, frames_end fs f t) refl
+
+  pub frames_split : (all fs : List (KeptFrame State)) (f : KeptFrame State) (t : State) → all ≡ fs ++ f ∷ [] → frames_of undone all t ≡ frames_of undone fs (state_before undone f.back t) ++ frame_of undone f t ∷ []
+  frames_split all fs f t e = rw e (frames_end fs f t)
+
+  pub calls_kept : (fs : List (KeptFrame State)) (t : State) → calls_of (frames_of undone fs t) ≡ kept_calls fs
+  calls_kept [] t = refl
+  calls_kept (f ∷ fs) t = ap (λ (l : List ℕ). f.call ∷ l) (calls_kept fs t)
+
+  pub frames_same : (fs gs : List (KeptFrame State)) (t u : State) → fs ≡ gs → t ≡ u → frames_of undone fs t ≡ frames_of undone gs u
+  frames_same fs gs t u e s = rw (e, s) refl
+
+  pub none_kept : (fs : List (KeptFrame State)) (t : State) → fs ≡ [] → frames_of undone fs t ≡ []
+  none_kept fs t none = rw none refl
 
 module _ {State Op Reply : Type 0} (p : Problem State Op Reply) where
   pub next_minimal : (set : List Bool) (s : State) (c : ℕ) (t : State) → IsNext p set s c t → IsMinimal p set c
@@ -318,6 +344,17 @@ module _ {State Op Reply : Type 0} {p : Problem State Op Reply} where
     set = k.set;
   }
 
+  -- what the memo holds of a configuration, it holds of an equal one
+  pub holds_alike : AreAlike p p → (holds : List Bool → State → Type 0) (root : List Bool) (fs : List (Frame State)) (here copy : Configuration State) → ((set : List Bool) (s t : State) → p.same_state s t ≡ true → holds set s → holds set t) → copy.lifted ≡ here.lifted → p.same_state copy.state here.state ≡ true → HoldsSearched p holds root fs here None → HoldsSearched p holds root fs copy None
+  holds_alike alike holds root fs here copy at_equal set same k = record {
+    closed = k.closed;
+    below = λ c less t n.
+        let m = alike.there.steps copy.state here.state t c same n.step in
+        rw set (at_equal (with_call here.lifted c) m.0 t (turned alike t m.0 m.2) (k.below c less m.0 (record { outside = rw set at n.outside; preceded = rw set at n.preceded; step = m.1 })));
+    path = k.path;
+    set = k.set ∙ sym set;
+  }
+
   -- the search goes on after the last frame's call, with what the memo holds
   pub holds_pop : (holds : List Bool → State → Type 0) (root : Configuration State) (limit : Option ℕ) (lifted : List ℕ) (all fs : List (Frame State)) (f : Frame State) (left : Option ℕ) (here now : Configuration State) (longest : Longest) (candidate : Option ℕ) → all ≡ fs ++ f ∷ [] → with_calls root.lifted (calls_of fs) ≡ now.lifted → f.state ≡ now.state → IsProgress p root limit lifted all left here longest None → holds here.lifted here.state → IsLeastMinimal p now.lifted (f.call + 1) candidate → HoldsSearched p holds root.lifted all here None → HoldsSearched p holds root.lifted fs now candidate
   holds_pop holds root limit lifted all fs f left here now longest candidate split set state k kept least h =
@@ -562,15 +599,15 @@ module _ {State Op Reply : Type 0} {p : Problem State Op Reply} where
         rw ends (less_down p root (levels root.lifted fs ++ level_of from f ∷ []) (levels root.lifted fs) from here f.longest (Some f.call) f.call candidate refl refl q.at k.next k.set),
       )
 
-  pub lifted_now : (root : Configuration State) (limit : Option ℕ) (before lifted : List ℕ) (fs : List (Frame State)) (left : Option ℕ) (from here : Configuration State) (next f : Frame State) → IsProgress p root limit before fs left from next.longest (Some next.call) → IsNext p from.lifted from.state next.call next.state → IsReachable p (with_call from.lifted next.call) next.state → lifted ≡ before ++ next.call ∷ [] → here.lifted ≡ with_call from.lifted next.call → here.state ≡ next.state → f ≡ record { state = from.state; call = next.call; longest = next.longest } → IsLifted p root limit lifted fs left from f here
-  lifted_now root limit before lifted fs left from here next f progress follows reachable last set state is = rw is (record {
+  pub lifted_now : (root : Configuration State) (limit : Option ℕ) (before lifted : List ℕ) (fs : List (Frame State)) (left : Option ℕ) (from here : Configuration State) (c : ℕ) (longest : Longest) (f : Frame State) → IsProgress p root limit before fs left from longest (Some c) → IsNext p from.lifted from.state c here.state → IsReachable p (with_call from.lifted c) here.state → lifted ≡ before ++ c ∷ [] → here.lifted ≡ with_call from.lifted c → f ≡ record { state = from.state; call = c; longest = longest } → IsLifted p root limit lifted fs left from f here
+  lifted_now root limit before lifted fs left from here c longest f progress follows reachable last set is = rw is (record {
     before = before;
     progress = progress;
     last = last;
     state = refl;
     set = set;
-    next = rw state follows;
-    reachable = rw (set, state) reachable;
+    next = follows;
+    reachable = rw set reachable;
   })
 
   -- what is known where a call was lifted

@@ -1,5 +1,6 @@
 //! Configurations: a set of lifted calls, and the state that they lead to.
-ghost use Rattle.std.specs.Prelude.{◌≡◌, ℕ, ◌<◌, ◌≤◌, ◌↔◌, true, false, length, IfOk, IfSome, IfNone, IsTrue};
+ghost use Rattle.std.specs.Prelude.{◌≡◌, ℕ, ◌<◌, ◌≤◌, ◌↔◌, true, false, Some, None, length, IfOk, IfSome, IfNone, IsTrue};
+ghost use Rattle.lin_object.specs.StepBacks.{state_before};
 ghost use Rattle.lin_history.specs.Problems.Problem.{problem_of};
 ghost use Rattle.lin_history.specs.Problems.LegalLists.{next};
 ghost use Rattle.lin_history.specs.Problems.Precedence.{Before};
@@ -11,11 +12,10 @@ ghost use Rattle.lin_search.specs.Entries.{IsMinimal};
 
 use crate::call_set::CallSet;
 use lin_history::Problem;
-use lin_object::{SeqObject, lawful};
+use lin_object::{SeqObject, StepBack, lawful};
 use std::alloc::{AllocError, Global};
 use std::hash::{Hash, Hasher};
 use std::marker::Model;
-use std::mem;
 
 /// A configuration of a problem: the set of the calls that are lifted, and the state that they lead to
 /// (Lowe 2017). Two are equal, and are hashed alike, where their sets are the same and their states equal.
@@ -145,6 +145,28 @@ fn state_after<O: SeqObject>(
     }
 }
 
+// Makes the step of the call in the state itself, where it has one whose reply is the recorded one: what takes it back.
+#[inline(always)]
+fn step_in_state<O: SeqObject>(
+    alloc: Global,
+    problem: &Problem<O>,
+    state: &mut O::State,
+    call: usize,
+) -> Result<Option<StepBack<O::State>>, AllocError>
+    requires { call < length problem.now.calls }
+    ensures next { IfOk result (λ answer. IfSome answer (λ back. next
+        (problem_of O.after O.State.eq O.Reply.eq problem.now) state.old call ≡ Some state.new)) }
+    ensures back { IfOk result (λ answer. IfSome answer (λ back. state_before O.undone back
+        state.new ≡ state.old)) }
+    ensures none { IfOk result (λ answer. IfNone answer ((next
+        (problem_of O.after O.State.eq O.Reply.eq problem.now) state.old call ≡ None)
+        × (state.new ≡ state.old))) }
+{
+    let taken = problem.call(call);
+    let object = problem.object();
+    object.step_in_place(alloc, state, taken.process, &taken.op, &taken.returned)
+}
+
 impl<O: SeqObject> Config<O> {
     /// The configuration in which a search begins: no call is lifted, and the state is the problem's at
     /// the start. `AllocError` where memory was refused.
@@ -224,33 +246,65 @@ impl<O: SeqObject> Config<O> {
         state_after(alloc, problem, &self.state, call)
     }
 
-    // Lifts the call, which is not lifted and leads to the state. The state before it comes in that one's place.
+    // Makes the step of the call, which is minimal, in the state itself, and lifts the call: what takes the step back.
+    // `None` exactly where it has no step from the state, or its step's reply is not the recorded one.
     #[inline(always)]
-    pub(crate) fn lift(&mut self, call: usize, state: &mut O::State) -> Result<(), AllocError>
-        requires within { call < length self.old.lifted }
-        requires outside { has self.old.lifted call ≡ false }
-        ensures lifted { IfOk result (λ done. self.new.lifted ≡ with_call self.old.lifted call) }
-        ensures state { IfOk result (λ done. self.new.state ≡ state.old) }
-        ensures before { IfOk result (λ done. state.new ≡ self.old.state) }
+    pub(crate) fn lift(
+        &mut self,
+        alloc: Global,
+        problem: &Problem<O>,
+        call: usize,
+    ) -> Result<Option<StepBack<O::State>>, AllocError>
+        requires reachable { IsReachable (problem_of O.after O.State.eq O.Reply.eq problem.now)
+            self.old.lifted self.old.state }
+        requires minimal { IsMinimal (problem_of O.after O.State.eq O.Reply.eq problem.now)
+            self.old.lifted call }
+        ensures lifted { IfOk result (λ answer. IfSome answer (λ back. self.new.lifted
+            ≡ with_call self.old.lifted call)) }
+        ensures next { IfOk result (λ answer. IfSome answer (λ back. IsNext
+            (problem_of O.after O.State.eq O.Reply.eq problem.now) self.old.lifted self.old.state
+            call self.new.state)) }
+        ensures reachable { IfOk result (λ answer. IfSome answer (λ back. IsReachable
+            (problem_of O.after O.State.eq O.Reply.eq problem.now) (with_call self.old.lifted call)
+            self.new.state)) }
+        ensures back { IfOk result (λ answer. IfSome answer (λ back. state_before O.undone back
+            self.new.state ≡ self.old.state)) }
+        ensures none { IfOk result (λ answer. IfNone answer
+            ((t : O.State) → IsNext (problem_of O.after O.State.eq O.Reply.eq problem.now)
+            self.old.lifted self.old.state call t → ⊥)) }
+        ensures kept { IfOk result (λ answer. IfNone answer (self.new ≡ self.old)) }
     {
+        lawful::<O>();
+        let Some(back) = step_in_state(alloc, problem, &mut self.state, call)? else {
+            return Ok(None);
+        };
         self.lifted.insert(call)?;
-        mem::swap(&mut self.state, state);
-        Ok(())
+        Ok(Some(back))
     }
 
-    // Takes the call, which is lifted, out again, and puts the state before it in. The state that it led to comes in
-    // that one's place.
+    // Takes the call, which is lifted, out again.
     #[inline(always)]
-    pub(crate) fn unlift(&mut self, call: usize, state: &mut O::State) -> Result<(), AllocError>
+    pub(crate) fn take_out(&mut self, call: usize) -> Result<(), AllocError>
         requires { has self.old.lifted call ≡ true }
         ensures lifted { IfOk result (λ done. with_call self.new.lifted call ≡ self.old.lifted) }
         ensures outside { IfOk result (λ done. has self.new.lifted call ≡ false) }
-        ensures state { IfOk result (λ done. self.new.state ≡ state.old) }
-        ensures after { IfOk result (λ done. state.new ≡ self.old.state) }
+        ensures state { self.new.state ≡ self.old.state }
     {
-        self.lifted.remove(call)?;
-        mem::swap(&mut self.state, state);
-        Ok(())
+        self.lifted.remove(call)
+    }
+
+    // Takes the step back that led to the state.
+    #[inline(always)]
+    pub(crate) fn take_back(
+        &mut self,
+        object: &O,
+        back: &mut StepBack<O::State>,
+    ) -> Result<(), AllocError>
+        ensures lifted { self.new.lifted ≡ self.old.lifted }
+        ensures state { IfOk result (λ done. self.new.state
+            ≡ state_before O.undone back.old self.old.state) }
+    {
+        object.take_back(&mut self.state, back)
     }
 
     /// The calls that are lifted.
@@ -263,6 +317,7 @@ impl<O: SeqObject> Config<O> {
     /// A configuration equal to this one. `AllocError` where memory was refused.
     ///
     /// Condition: the configuration is reachable in the problem.
+    #[inline(always)]
     pub fn copy(&self, alloc: Global, problem: &Problem<O>) -> Result<Config<O>, AllocError>
         requires { IsReachable (problem_of O.after O.State.eq O.Reply.eq problem.now)
             self.now.lifted self.now.state }

@@ -2,6 +2,7 @@
 //!
 //! The parts of a step are inlined always, as those of a path are.
 ghost use Rattle.std.specs.Prelude.{◌≡◌, ℕ, ◌<◌, ◌++◌, ◌∷◌, ◌⊎◌, Bool, List, Option, Some, None, [], length, true, false, IfOk, IfSome, IfNone, IsTrue};
+ghost use Rattle.lin_object.specs.StepBacks.{state_before};
 ghost use Rattle.lin_history.specs.Problems.Problem.{problem_of};
 ghost use Rattle.lin_history.specs.Problems.Configurations.{IsReachable};
 ghost use Rattle.lin_search.specs.Answer.{IsAnswer, IsDecision, IsRefutation};
@@ -12,7 +13,7 @@ ghost use Rattle.lin_search.specs.NeedlessCalls.{AddsNothing, EndsTheList};
 ghost use Rattle.lin_search.specs.Entries.{IsMinimal};
 ghost use Rattle.lin_search.specs.NextCall.{IsNext, HasEveryCompleted};
 ghost use Rattle.lin_search.specs.Refutation.{IsRefutedWith};
-ghost use Rattle.lin_search.specs.Path.{Frame as PathFrame, calls_of};
+ghost use Rattle.lin_search.specs.Path.{Frame as PathFrame, kept_calls, frame_of, frames_of};
 ghost use Rattle.lin_search.specs.declared.longest.Longest.{Longest};
 ghost use Rattle.lin_search.specs.declared.outcome.Outcome.TheVariants.{Found, Refuted, Undecided};
 ghost use Rattle.std.proofs.Common.{Break};
@@ -249,18 +250,19 @@ fn passed_over<O: SeqObject>(
 ) -> Result<Option<Position>, AllocError>
     requires { (root : Configuration O.State) × (limit left : Option ℕ)
         × IsProgress (problem_of O.after O.State.eq O.Reply.eq path.now.entries.problem) root limit
-        path.now.entries.lifted path.now.frames.items left path.now.config candidate.longest
+        path.now.entries.lifted (frames_of O.undone path.now.frames.items path.now.config.state) left path.now.config candidate.longest
         (Some candidate.call) }
     ensures step { IfOk result (λ passed. IfSome passed
         (λ position. (root : Configuration O.State)
         (limit left : Option ℕ)
         → IsProgress (problem_of O.after O.State.eq O.Reply.eq path.now.entries.problem) root limit
-        path.now.entries.lifted path.now.frames.items left path.now.config candidate.longest
+        path.now.entries.lifted (frames_of O.undone path.now.frames.items path.now.config.state) left path.now.config candidate.longest
         (Some candidate.call)
         → GoesOn (problem_of O.after O.State.eq O.Reply.eq path.now.entries.problem) root limit
-        path.now.entries.lifted path.now.frames.items left path.now.config position.longest
+        path.now.entries.lifted (frames_of O.undone path.now.frames.items path.now.config.state) left path.now.config position.longest
         position.candidate (work (length path.now.entries.problem.calls) root.lifted
-        path.now.frames.items path.now.config.lifted candidate.call))) }
+        (frames_of O.undone path.now.frames.items path.now.config.state) path.now.config.lifted
+        candidate.call))) }
     ensures none { IfOk result (λ passed. passes_over ≡ false → passed ≡ None) }
 {
     if !passes_over {
@@ -311,7 +313,8 @@ fn go_on<O: SeqObject, M: Memo<O>>(
     requires of { IsTrue terms.is_for_problem → M.is_of memo.old path.old.entries.problem }
     requires lifted { (root from : Configuration O.State) × (limit left : Option ℕ)
         × IsLifted (problem_of O.after O.State.eq O.Reply.eq path.old.entries.problem) root limit
-        path.old.entries.lifted path.old.frames.items left from frame path.old.config }
+        path.old.entries.lifted (frames_of O.undone path.old.frames.items
+        (state_before O.undone frame.back path.old.config.state)) left from (frame_of O.undone frame path.old.config.state) path.old.config }
     requires incomplete { HasEveryCompleted
         (problem_of O.after O.State.eq O.Reply.eq path.old.entries.problem) path.old.config.lifted
         → ⊥ }
@@ -319,27 +322,30 @@ fn go_on<O: SeqObject, M: Memo<O>>(
     ensures step { IfOk result (λ step. (root from : Configuration O.State)
         (limit left after : Option ℕ) → IsTaken left after
         → IsLifted (problem_of O.after O.State.eq O.Reply.eq path.old.entries.problem) root limit
-        path.old.entries.lifted path.old.frames.items left from frame path.old.config
+        path.old.entries.lifted (frames_of O.undone path.old.frames.items
+        (state_before O.undone frame.back path.old.config.state)) left from (frame_of O.undone frame path.old.config.state) path.old.config
         → IsStep (problem_of O.after O.State.eq O.Reply.eq path.old.entries.problem) root limit
-        path.new.entries.lifted path.new.frames.items after path.new.config (λ told. ⊥)
-        (work (length path.old.entries.problem.calls) root.lifted path.old.frames.items from.lifted
+        path.new.entries.lifted (frames_of O.undone path.new.frames.items path.new.config.state) after path.new.config (λ told. ⊥)
+        (work (length path.old.entries.problem.calls) root.lifted (frames_of O.undone path.old.frames.items
+        (state_before O.undone frame.back path.old.config.state)) from.lifted
         frame.call) step) }
     ensures holds { IfOk result (λ step. terms.passes_over ≡ false
         → (root from : Configuration O.State) (limit left : Option ℕ)
         → IsLifted (problem_of O.after O.State.eq O.Reply.eq path.old.entries.problem) root limit
-        path.old.entries.lifted path.old.frames.items left from frame path.old.config
+        path.old.entries.lifted (frames_of O.undone path.old.frames.items
+        (state_before O.undone frame.back path.old.config.state)) left from (frame_of O.undone frame path.old.config.state) path.old.config
         → HoldsSearched (problem_of O.after O.State.eq O.Reply.eq path.old.entries.problem)
-        (M.holds memo.old) root.lifted path.old.frames.items from (Some frame.call)
+        (M.holds memo.old) root.lifted (frames_of O.undone path.old.frames.items
+        (state_before O.undone frame.back path.old.config.state)) from (Some frame.call)
         → HoldsStep (problem_of O.after O.State.eq O.Reply.eq path.old.entries.problem) root
-        (M.holds memo.new) path.new.frames.items path.new.config step) }
+        (M.holds memo.new) (frames_of O.undone path.new.frames.items path.new.config.state) path.new.config step) }
     ensures changes { M.changes memo.old memo.new }
 {
     let problem = path.problem();
     let call = frame.call();
     match look_at(problem, path.config(), memo, terms.is_for_problem) {
         Some(deep) => {
-            let mut left = frame;
-            let position = path.leave(&mut left, deep)?;
+            let position = path.leave(frame, deep)?;
             let on = unless_ended(problem, call, position, terms.passes_over);
             Ok(ControlFlow::Continue(on))
         }
@@ -353,53 +359,48 @@ fn success<O: SeqObject>(
     call: usize,
 ) -> Result<ControlFlow<Outcome, Position>, AllocError>
     ensures { IfOk result (λ step. step
-        ≡ Break (Found (calls_of path.now.frames.items ++ call ∷ []))) }
+        ≡ Break (Found (kept_calls path.now.frames.items ++ call ∷ []))) }
 {
     Ok(ControlFlow::Break(Outcome::Found(path.order_through(call)?)))
 }
 
-// Lifts the call, which leads to the frame's state: that is a success where the configuration is complete then. Else
-// the search goes on from there.
+// Goes on where the frame's call was lifted last: that is a success where the configuration is complete then. Else the
+// search goes on from there.
 #[inline(always)]
 fn visit<O: SeqObject, M: Memo<O>>(
     path: &mut Path<'_, O>,
-    next: Frame<O>,
+    frame: Frame<O>,
     memo: &mut M,
     terms: Terms,
 ) -> Result<ControlFlow<Outcome, Position>, AllocError>
     requires of { IsTrue terms.is_for_problem → M.is_of memo.old path.old.entries.problem }
-    requires progress { (root : Configuration O.State) × (limit left : Option ℕ)
-        × IsProgress (problem_of O.after O.State.eq O.Reply.eq path.old.entries.problem) root limit
-        path.old.entries.lifted path.old.frames.items left path.old.config next.longest
-        (Some next.call) }
-    requires next { IsNext (problem_of O.after O.State.eq O.Reply.eq path.old.entries.problem)
-        path.old.config.lifted path.old.config.state next.call next.state }
-    requires reachable { IsReachable
-        (problem_of O.after O.State.eq O.Reply.eq path.old.entries.problem)
-        (with_call path.old.config.lifted next.call) next.state }
+    requires lifted { (root from : Configuration O.State) × (limit left : Option ℕ)
+        × IsLifted (problem_of O.after O.State.eq O.Reply.eq path.old.entries.problem) root limit
+        path.old.entries.lifted (frames_of O.undone path.old.frames.items
+        (state_before O.undone frame.back path.old.config.state)) left from (frame_of O.undone frame path.old.config.state) path.old.config }
     ensures problem { path.new.entries.problem ≡ path.old.entries.problem }
-    ensures step { IfOk result (λ step. (root : Configuration O.State) (limit left after : Option ℕ)
-        → IsTaken left after
-        → IsProgress (problem_of O.after O.State.eq O.Reply.eq path.old.entries.problem) root limit
-        path.old.entries.lifted path.old.frames.items left path.old.config next.longest
-        (Some next.call)
+    ensures step { IfOk result (λ step. (root from : Configuration O.State)
+        (limit left after : Option ℕ) → IsTaken left after
+        → IsLifted (problem_of O.after O.State.eq O.Reply.eq path.old.entries.problem) root limit
+        path.old.entries.lifted (frames_of O.undone path.old.frames.items
+        (state_before O.undone frame.back path.old.config.state)) left from (frame_of O.undone frame path.old.config.state) path.old.config
         → IsStep (problem_of O.after O.State.eq O.Reply.eq path.old.entries.problem) root limit
-        path.new.entries.lifted path.new.frames.items after path.new.config (λ told. ⊥)
-        (work (length path.old.entries.problem.calls) root.lifted path.old.frames.items
-        path.old.config.lifted next.call) step) }
+        path.new.entries.lifted (frames_of O.undone path.new.frames.items path.new.config.state) after path.new.config (λ told. ⊥)
+        (work (length path.old.entries.problem.calls) root.lifted (frames_of O.undone path.old.frames.items
+        (state_before O.undone frame.back path.old.config.state)) from.lifted
+        frame.call) step) }
     ensures holds { IfOk result (λ step. terms.passes_over ≡ false
-        → (root : Configuration O.State) (limit left : Option ℕ)
-        → IsProgress (problem_of O.after O.State.eq O.Reply.eq path.old.entries.problem) root limit
-        path.old.entries.lifted path.old.frames.items left path.old.config next.longest
-        (Some next.call)
+        → (root from : Configuration O.State) (limit left : Option ℕ)
+        → IsLifted (problem_of O.after O.State.eq O.Reply.eq path.old.entries.problem) root limit
+        path.old.entries.lifted (frames_of O.undone path.old.frames.items
+        (state_before O.undone frame.back path.old.config.state)) left from (frame_of O.undone frame path.old.config.state) path.old.config
         → HoldsSearched (problem_of O.after O.State.eq O.Reply.eq path.old.entries.problem)
-        (M.holds memo.old) root.lifted path.old.frames.items path.old.config (Some next.call)
+        (M.holds memo.old) root.lifted (frames_of O.undone path.old.frames.items
+        (state_before O.undone frame.back path.old.config.state)) from (Some frame.call)
         → HoldsStep (problem_of O.after O.State.eq O.Reply.eq path.old.entries.problem) root
-        (M.holds memo.new) path.new.frames.items path.new.config step) }
+        (M.holds memo.new) (frames_of O.undone path.new.frames.items path.new.config.state) path.new.config step) }
     ensures changes { M.changes memo.old memo.new }
 {
-    let mut frame = next;
-    path.lift(&mut frame)?;
     if path.is_complete() {
         return success(path, frame.call());
     }
@@ -447,40 +448,39 @@ fn try_call<O: SeqObject, M: Memo<O>, S: Stop>(
         → M.is_of memo.old path.old.entries.problem }
     requires progress { (root : Configuration O.State) × (limit : Option ℕ)
         × IsProgress (problem_of O.after O.State.eq O.Reply.eq path.old.entries.problem) root limit
-        path.old.entries.lifted path.old.frames.items tally.old.left path.old.config
+        path.old.entries.lifted (frames_of O.undone path.old.frames.items path.old.config.state) tally.old.left path.old.config
         candidate.longest (Some candidate.call) }
     ensures problem { path.new.entries.problem ≡ path.old.entries.problem }
     ensures step { IfOk result (λ step. (root : Configuration O.State) (limit : Option ℕ)
         → IsProgress (problem_of O.after O.State.eq O.Reply.eq path.old.entries.problem) root limit
-        path.old.entries.lifted path.old.frames.items tally.old.left path.old.config
+        path.old.entries.lifted (frames_of O.undone path.old.frames.items path.old.config.state) tally.old.left path.old.config
         candidate.longest (Some candidate.call)
         → IsStep (problem_of O.after O.State.eq O.Reply.eq path.old.entries.problem) root limit
-        path.new.entries.lifted path.new.frames.items tally.new.left path.new.config
+        path.new.entries.lifted (frames_of O.undone path.new.frames.items path.new.config.state) tally.new.left path.new.config
         (S.tells stop.new) (work (length path.old.entries.problem.calls) root.lifted
-        path.old.frames.items path.old.config.lifted candidate.call) step) }
+        (frames_of O.undone path.old.frames.items path.old.config.state) path.old.config.lifted candidate.call) step) }
     ensures holds { IfOk result (λ step. tally.old.terms.passes_over ≡ false
         → (root : Configuration O.State) (limit : Option ℕ)
         → IsProgress (problem_of O.after O.State.eq O.Reply.eq path.old.entries.problem) root limit
-        path.old.entries.lifted path.old.frames.items tally.old.left path.old.config
+        path.old.entries.lifted (frames_of O.undone path.old.frames.items path.old.config.state) tally.old.left path.old.config
         candidate.longest (Some candidate.call)
         → HoldsSearched (problem_of O.after O.State.eq O.Reply.eq path.old.entries.problem)
-        (M.holds memo.old) root.lifted path.old.frames.items path.old.config (Some candidate.call)
+        (M.holds memo.old) root.lifted (frames_of O.undone path.old.frames.items path.old.config.state) path.old.config (Some candidate.call)
         → HoldsStep (problem_of O.after O.State.eq O.Reply.eq path.old.entries.problem) root
-        (M.holds memo.new) path.new.frames.items path.new.config step) }
+        (M.holds memo.new) (frames_of O.undone path.new.frames.items path.new.config.state) path.new.config step) }
     ensures changes { M.changes memo.old memo.new }
     ensures stop { S.follows stop.old stop.new }
     ensures whole { tally.new.whole ≡ tally.old.whole }
     ensures terms { tally.new.terms ≡ tally.old.terms }
 {
     let Candidate { call, longest } = candidate;
-    let Some(state) = path.next_state(call)? else {
+    let Some(frame) = path.lift(call, longest)? else {
         return Ok(ControlFlow::Continue(path.after(call, longest)));
     };
     if let Some(outcome) = refusal(&mut tally.left, stop) {
         return Ok(ControlFlow::Break(outcome));
     }
-    let next = Frame::new(state, call, longest);
-    visit(path, next, memo, tally.terms)
+    visit(path, frame, memo, tally.terms)
 }
 
 // Goes back from a configuration all of whose calls were tried, and which is so refuted with this longest: hands it to
@@ -497,38 +497,38 @@ fn go_back<O: SeqObject, M: Memo<O>>(
         → M.is_of memo.old path.old.entries.problem }
     requires progress { (root : Configuration O.State) × (limit : Option ℕ)
         × IsProgress (problem_of O.after O.State.eq O.Reply.eq path.old.entries.problem) root limit
-        path.old.entries.lifted path.old.frames.items tally.old.left path.old.config longest None }
+        path.old.entries.lifted (frames_of O.undone path.old.frames.items path.old.config.state) tally.old.left path.old.config longest None }
     ensures problem { path.new.entries.problem ≡ path.old.entries.problem }
     ensures left { tally.new.left ≡ tally.old.left }
     ensures terms { tally.new.terms ≡ tally.old.terms }
     ensures step { IfOk result (λ step. (root : Configuration O.State) (limit : Option ℕ)
         → IsProgress (problem_of O.after O.State.eq O.Reply.eq path.old.entries.problem) root limit
-        path.old.entries.lifted path.old.frames.items tally.old.left path.old.config longest None
+        path.old.entries.lifted (frames_of O.undone path.old.frames.items path.old.config.state) tally.old.left path.old.config longest None
         → IsStep (problem_of O.after O.State.eq O.Reply.eq path.old.entries.problem) root limit
-        path.new.entries.lifted path.new.frames.items tally.old.left path.new.config (λ told. ⊥)
-        (work (length path.old.entries.problem.calls) root.lifted path.old.frames.items
+        path.new.entries.lifted (frames_of O.undone path.new.frames.items path.new.config.state) tally.old.left path.new.config (λ told. ⊥)
+        (work (length path.old.entries.problem.calls) root.lifted (frames_of O.undone path.old.frames.items path.old.config.state)
         path.old.config.lifted (length path.old.entries.problem.calls)) step) }
     ensures whole { IsTrue tally.new.whole → IsTrue tally.old.whole }
     ensures holds { IfOk result (λ step. IsTrue tally.new.whole
         → tally.old.terms.passes_over ≡ false
         → (root : Configuration O.State) (limit : Option ℕ)
         → IsProgress (problem_of O.after O.State.eq O.Reply.eq path.old.entries.problem) root limit
-        path.old.entries.lifted path.old.frames.items tally.old.left path.old.config longest None
+        path.old.entries.lifted (frames_of O.undone path.old.frames.items path.old.config.state) tally.old.left path.old.config longest None
         → HoldsSearched (problem_of O.after O.State.eq O.Reply.eq path.old.entries.problem)
-        (M.holds memo.old) root.lifted path.old.frames.items path.old.config None
+        (M.holds memo.old) root.lifted (frames_of O.undone path.old.frames.items path.old.config.state) path.old.config None
         → HoldsStep (problem_of O.after O.State.eq O.Reply.eq path.old.entries.problem) root
-        (M.holds memo.new) path.new.frames.items path.new.config step) }
+        (M.holds memo.new) (frames_of O.undone path.new.frames.items path.new.config.state) path.new.config step) }
     ensures changes { M.changes memo.old memo.new }
 {
-    let Some(mut frame) = path.pop() else {
+    lawful::<O>();
+    let Some(frame) = path.pop() else {
         return Ok(ControlFlow::Break(Outcome::Refuted(longest)));
     };
     let call = frame.call();
-    let lifted = path.copy_lifted()?;
-    let position = path.leave(&mut frame, longest)?;
+    let refuted = path.copy_config()?;
+    let position = path.leave(frame, longest)?;
     let problem = path.problem();
     let on = unless_ended(problem, call, position, tally.terms.passes_over);
-    let refuted = Config::from_parts(lifted, frame.into_state());
     let noted = note_at(problem, refuted, longest, memo, tally.terms.is_for_problem);
     tally.add(noted);
     if tally.wants_memory() {
@@ -551,18 +551,18 @@ fn step<O: SeqObject, M: Memo<O>, S: Stop>(
         → M.is_of memo.old path.old.entries.problem }
     requires progress { (root : Configuration O.State) × (limit : Option ℕ)
         × IsProgress (problem_of O.after O.State.eq O.Reply.eq path.old.entries.problem) root limit
-        path.old.entries.lifted path.old.frames.items tally.old.left path.old.config
+        path.old.entries.lifted (frames_of O.undone path.old.frames.items path.old.config.state) tally.old.left path.old.config
         position.longest position.candidate }
     ensures problem { path.new.entries.problem ≡ path.old.entries.problem }
     ensures terms { tally.new.terms ≡ tally.old.terms }
     ensures step { IfOk result (λ step. (root : Configuration O.State) (limit : Option ℕ)
         → IsProgress (problem_of O.after O.State.eq O.Reply.eq path.old.entries.problem) root limit
-        path.old.entries.lifted path.old.frames.items tally.old.left path.old.config
+        path.old.entries.lifted (frames_of O.undone path.old.frames.items path.old.config.state) tally.old.left path.old.config
         position.longest position.candidate
         → IsStep (problem_of O.after O.State.eq O.Reply.eq path.old.entries.problem) root limit
-        path.new.entries.lifted path.new.frames.items tally.new.left path.new.config
+        path.new.entries.lifted (frames_of O.undone path.new.frames.items path.new.config.state) tally.new.left path.new.config
         (S.tells stop.new) (work (length path.old.entries.problem.calls) root.lifted
-        path.old.frames.items path.old.config.lifted
+        (frames_of O.undone path.old.frames.items path.old.config.state) path.old.config.lifted
         (bound (problem_of O.after O.State.eq O.Reply.eq path.old.entries.problem)
         position.candidate)) step) }
     ensures whole { IsTrue tally.new.whole → IsTrue tally.old.whole }
@@ -570,12 +570,12 @@ fn step<O: SeqObject, M: Memo<O>, S: Stop>(
         → tally.old.terms.passes_over ≡ false
         → (root : Configuration O.State) (limit : Option ℕ)
         → IsProgress (problem_of O.after O.State.eq O.Reply.eq path.old.entries.problem) root limit
-        path.old.entries.lifted path.old.frames.items tally.old.left path.old.config
+        path.old.entries.lifted (frames_of O.undone path.old.frames.items path.old.config.state) tally.old.left path.old.config
         position.longest position.candidate
         → HoldsSearched (problem_of O.after O.State.eq O.Reply.eq path.old.entries.problem)
-        (M.holds memo.old) root.lifted path.old.frames.items path.old.config position.candidate
+        (M.holds memo.old) root.lifted (frames_of O.undone path.old.frames.items path.old.config.state) path.old.config position.candidate
         → HoldsStep (problem_of O.after O.State.eq O.Reply.eq path.old.entries.problem) root
-        (M.holds memo.new) path.new.frames.items path.new.config step) }
+        (M.holds memo.new) (frames_of O.undone path.new.frames.items path.new.config.state) path.new.config step) }
     ensures changes { M.changes memo.old memo.new }
     ensures stop { S.follows stop.old stop.new }
 {

@@ -81,10 +81,10 @@ fn follow<O: SeqObject>(
         (problem_of O.after O.State.eq O.Reply.eq problem.now) config.new.lifted
         config.new.state) }
 {
-    let Some(mut state) = config.next_state(alloc, problem, call)? else {
-        unreachable!()
-    };
-    config.lift(call, &mut state)
+    match config.lift(alloc, problem, call)? {
+        Some(_) => Ok(()),
+        None => unreachable!(),
+    }
 }
 
 // The first of the longest continuations of a configuration with no completion, which is left at the end of it.

@@ -1,53 +1,42 @@
 //! The path of a search: where it is, the frames behind it, and the entries left.
 //!
 //! What a search does at each lift is inlined always: `docs/PERFORMANCE.md` shows what that gives.
-ghost use Rattle.std.specs.Prelude.{◌≡◌, ℕ, ◌+◌, ◌<◌, ◌≤◌, ◌↔◌, ◌++◌, ◌∷◌, [], false, List, Option, Some, None, length, IfOk, IfSome, IfNone, IsTrue};
+ghost use Rattle.std.specs.Prelude.{◌≡◌, ℕ, ◌+◌, ◌<◌, ◌≤◌, ◌↔◌, ◌++◌, ◌∷◌, [], true, false, List, Option, Some, None, length, IfOk, IfSome, IfNone, IsTrue};
+ghost use Rattle.lin_object.specs.StepBacks.{state_before};
 ghost use Rattle.lin_history.specs.Problems.Problem.{problem_of};
 ghost use Rattle.lin_history.specs.Problems.Configurations.{IsReachable};
 ghost use Rattle.lin_history.specs.Problems.Continuations.{has};
 ghost use Rattle.lin_search.specs.CallSet.{with_call, lifted_set};
 ghost use Rattle.lin_search.specs.Entries.{IsMinimal, IsLeastMinimal};
 ghost use Rattle.lin_search.specs.NextCall.{IsNext, HasEveryCompleted};
-ghost use Rattle.lin_search.specs.Path.{calls_of};
+ghost use Rattle.lin_search.specs.Path.{kept_calls, frame_of};
 
-use crate::call_set::CallSet;
 use crate::config::Config;
 use crate::entries::Entries;
 use crate::longest::Longest;
 use lin_history::{MAX_CALLS_ON_OBJECT, Order, Problem};
-use lin_object::SeqObject;
+use lin_object::{SeqObject, StepBack};
 use std::alloc::{AllocError, Global};
 use std::marker::Model;
 
-/// A state on the path of a search, the call that leads on from it, and what the continuations that begin with a call
-/// before that one show. Its set of calls is not kept: it is the one that the search is at, without the calls since.
+/// A call on the path of a search, what takes its step back, and what the continuations that begin with a call before
+/// that one show. Neither a set of calls nor a state is kept: they are those that the search is at, without the calls since.
 #[derive(Drop)]
 pub struct Frame<O: SeqObject> {
-    state: O::State,
+    back: StepBack<O::State>,
     call: usize,
     longest: Longest,
 }
 
 impl<O: SeqObject> Model for Frame<O> {
-    ghost use Rattle.lin_search.specs.Path.{Frame};
+    ghost use Rattle.lin_search.specs.Path.{KeptFrame};
 
-    ghost Value = { Frame O.State };
+    ghost Value = { KeptFrame O.State };
 
-    ghost view = { λ f. record { state = f.state; call = f.call; longest = f.longest } };
+    ghost view = { λ f. record { back = f.back; call = f.call; longest = f.longest } };
 }
 
 impl<O: SeqObject> Frame<O> {
-    /// The state, the call, and what the calls before that one show.
-    pub fn new(state: O::State, call: usize, longest: Longest) -> Self
-        ensures { result ≡ record { state = state; call = call; longest = longest } }
-    {
-        Frame {
-            state,
-            call,
-            longest,
-        }
-    }
-
     /// The call.
     pub fn call(&self) -> usize
         ensures { result ≡ self.now.call }
@@ -72,13 +61,6 @@ impl<O: SeqObject> Frame<O> {
     {
         self.longest.or_after(self.call, deep)
     }
-
-    /// The state.
-    pub fn into_state(self) -> O::State
-        ensures { result ≡ self.state }
-    {
-        self.state
-    }
 }
 
 // The calls of the frames, in order, and then this one.
@@ -87,7 +69,7 @@ fn order_through<O: SeqObject>(
     frames: &[Frame<O>],
     call: usize,
 ) -> Result<Order, AllocError>
-    ensures { IfOk result (λ order. order ≡ calls_of frames.now ++ call ∷ []) }
+    ensures { IfOk result (λ order. order ≡ kept_calls frames.now ++ call ∷ []) }
 {
     let mut calls = Vec::new(alloc);
     for frame in frames {
@@ -291,116 +273,143 @@ impl<'p, O: SeqObject> Path<'p, O> {
         }
     }
 
-    /// Lifts the frame's call, which leads to the frame's state. The state before it comes into the frame. `AllocError`
-    /// where memory was refused; the path is of no more use then.
+    /// Lifts the call, which is minimal, where it can follow: the frame of it, with what the calls before it show. `None`
+    /// exactly where it can't follow, and then the path stays as it is. `AllocError` where memory was refused; the path is
+    /// of no more use then.
     ///
-    /// Conditions: the calls lifted from the entries are just those of the configuration, and the call is minimal in it.
+    /// Conditions: the calls lifted from the entries are just those of the configuration, which is reachable, and the call
+    /// is minimal in it.
     #[inline(always)]
-    pub fn lift(&mut self, frame: &mut Frame<O>) -> Result<(), AllocError>
+    pub fn lift(&mut self, call: usize, longest: Longest) -> Result<Option<Frame<O>>, AllocError>
         requires lifted { lifted_set (problem_of O.after O.State.eq O.Reply.eq
             self.old.entries.problem) self.old.entries.lifted ≡ self.old.config.lifted }
+        requires reachable { IsReachable (problem_of O.after O.State.eq O.Reply.eq
+            self.old.entries.problem) self.old.config.lifted self.old.config.state }
         requires minimal { IsMinimal (problem_of O.after O.State.eq O.Reply.eq
-            self.old.entries.problem) self.old.config.lifted frame.old.call }
+            self.old.entries.problem) self.old.config.lifted call }
         ensures problem { self.new.entries.problem ≡ self.old.entries.problem }
-        ensures last { self.new.entries.lifted ≡ self.old.entries.lifted ++ frame.old.call ∷ [] }
         ensures frames { self.new.frames ≡ self.old.frames }
-        ensures lifted { IfOk result (λ done. self.new.config.lifted
-            ≡ with_call self.old.config.lifted frame.old.call) }
-        ensures state { IfOk result (λ done. self.new.config.state ≡ frame.old.state) }
-        ensures before { IfOk result (λ done. frame.new ≡ record {
-          state = self.old.config.state;
-          call = frame.old.call;
-          longest = frame.old.longest;
-        }) }
+        ensures last { IfOk result (λ answer. IfSome answer (λ frame. self.new.entries.lifted
+            ≡ self.old.entries.lifted ++ call ∷ [])) }
+        ensures lifted { IfOk result (λ answer. IfSome answer (λ frame. self.new.config.lifted
+            ≡ with_call self.old.config.lifted call)) }
+        ensures next { IfOk result (λ answer. IfSome answer (λ frame. IsNext
+            (problem_of O.after O.State.eq O.Reply.eq self.old.entries.problem)
+            self.old.config.lifted self.old.config.state call self.new.config.state)) }
+        ensures reachable { IfOk result (λ answer. IfSome answer (λ frame. IsReachable
+            (problem_of O.after O.State.eq O.Reply.eq self.old.entries.problem)
+            (with_call self.old.config.lifted call) self.new.config.state)) }
+        ensures frame { IfOk result (λ answer. IfSome answer (λ frame. frame_of O.undone frame
+            self.new.config.state ≡ record {
+              state = self.old.config.state;
+              call = call;
+              longest = longest;
+            })) }
+        ensures none { IfOk result (λ answer. IfNone answer
+            ((t : O.State) → IsNext (problem_of O.after O.State.eq O.Reply.eq
+            self.old.entries.problem) self.old.config.lifted self.old.config.state call t → ⊥)) }
+        ensures kept { IfOk result (λ answer. IfNone answer (self.new ≡ self.old)) }
     {
-        self.entries.lift(frame.call);
-        self.config.lift(frame.call, &mut frame.state)
+        let problem = self.entries.problem();
+        let Some(back) = self.config.lift(self.alloc, problem, call)? else {
+            return Ok(None);
+        };
+        self.entries.lift(call);
+        Ok(Some(Frame {
+            back,
+            call,
+            longest,
+        }))
     }
 
-    /// Takes the frame's call, which was lifted last, back, and puts the frame's state in again. The state that the call
-    /// led to comes into the frame. `AllocError` where memory was refused; the path is of no more use then.
+    /// Takes the frame's call, which was lifted last, and its step back. `AllocError` where memory was refused; the path is
+    /// of no more use then.
     ///
     /// Conditions: the calls lifted from the entries are just those of the configuration, and the call was lifted last,
     /// from a configuration where it was minimal.
     #[inline(always)]
-    pub fn unlift(&mut self, frame: &mut Frame<O>) -> Result<(), AllocError>
+    pub fn unlift(&mut self, frame: Frame<O>) -> Result<(), AllocError>
         requires lifted { lifted_set (problem_of O.after O.State.eq O.Reply.eq
             self.old.entries.problem) self.old.entries.lifted ≡ self.old.config.lifted }
         requires last { (before : List ℕ)
-            × (self.old.entries.lifted ≡ before ++ frame.old.call ∷ [])
+            × (self.old.entries.lifted ≡ before ++ frame.call ∷ [])
             × IsMinimal (problem_of O.after O.State.eq O.Reply.eq self.old.entries.problem)
             (lifted_set (problem_of O.after O.State.eq O.Reply.eq self.old.entries.problem) before)
-            frame.old.call }
+            frame.call }
         ensures problem { self.new.entries.problem ≡ self.old.entries.problem }
         ensures frames { self.new.frames ≡ self.old.frames }
         ensures last { (before : List ℕ)
-            → self.old.entries.lifted ≡ before ++ frame.old.call ∷ []
+            → self.old.entries.lifted ≡ before ++ frame.call ∷ []
             → self.new.entries.lifted ≡ before }
         ensures lifted { IfOk result (λ done. lifted_set
             (problem_of O.after O.State.eq O.Reply.eq self.old.entries.problem)
             self.new.entries.lifted ≡ self.new.config.lifted) }
-        ensures state { IfOk result (λ done. self.new.config.state ≡ frame.old.state) }
-        ensures after { IfOk result (λ done. frame.new ≡ record {
-          state = self.old.config.state;
-          call = frame.old.call;
-          longest = frame.old.longest;
-        }) }
+        ensures state { IfOk result (λ done. self.new.config.state
+            ≡ state_before O.undone frame.back self.old.config.state) }
     {
-        self.entries.unlift(frame.call);
-        self.config.unlift(frame.call, &mut frame.state)
+        let call = frame.call;
+        let object = self.entries.problem().object();
+        self.entries.unlift(call);
+        let mut back = frame.back;
+        self.config.take_back(object, &mut back)?;
+        self.config.take_out(call)
     }
 
     // Goes back before the frame's call, which was lifted last and led to a configuration that is refuted with this
-    // longest: to the position after it. The state of that configuration comes into the frame.
+    // longest: to the position after it.
     #[inline(always)]
-    pub(crate) fn leave(
-        &mut self,
-        frame: &mut Frame<O>,
-        deep: Longest,
-    ) -> Result<Position, AllocError>
+    pub(crate) fn leave(&mut self, frame: Frame<O>, deep: Longest) -> Result<Position, AllocError>
         requires lifted { lifted_set (problem_of O.after O.State.eq O.Reply.eq
             self.old.entries.problem) self.old.entries.lifted ≡ self.old.config.lifted }
         requires last { (before : List ℕ)
-            × (self.old.entries.lifted ≡ before ++ frame.old.call ∷ [])
+            × (self.old.entries.lifted ≡ before ++ frame.call ∷ [])
             × IsMinimal (problem_of O.after O.State.eq O.Reply.eq self.old.entries.problem)
             (lifted_set (problem_of O.after O.State.eq O.Reply.eq self.old.entries.problem) before)
-            frame.old.call }
+            frame.call }
         requires room { deep.more < length self.old.entries.problem.calls }
         ensures problem { self.new.entries.problem ≡ self.old.entries.problem }
         ensures frames { self.new.frames ≡ self.old.frames }
         ensures last { (before : List ℕ)
-            → self.old.entries.lifted ≡ before ++ frame.old.call ∷ []
+            → self.old.entries.lifted ≡ before ++ frame.call ∷ []
             → self.new.entries.lifted ≡ before }
         ensures lifted { IfOk result (λ position. lifted_set
             (problem_of O.after O.State.eq O.Reply.eq self.old.entries.problem)
             self.new.entries.lifted ≡ self.new.config.lifted) }
-        ensures state { IfOk result (λ position. self.new.config.state ≡ frame.old.state) }
-        ensures after { IfOk result (λ position. frame.new.state ≡ self.old.config.state) }
-        ensures longer { IfOk result (λ position. frame.old.longest.more < deep.more + 1
-            → position.longest ≡ record { more = deep.more + 1; first = Some frame.old.call }) }
-        ensures not_longer { IfOk result (λ position. deep.more + 1 ≤ frame.old.longest.more
-            → position.longest ≡ frame.old.longest) }
+        ensures state { IfOk result (λ position. self.new.config.state
+            ≡ state_before O.undone frame.back self.old.config.state) }
+        ensures longer { IfOk result (λ position. frame.longest.more < deep.more + 1
+            → position.longest ≡ record { more = deep.more + 1; first = Some frame.call }) }
+        ensures not_longer { IfOk result (λ position. deep.more + 1 ≤ frame.longest.more
+            → position.longest ≡ frame.longest) }
         ensures candidate { IfOk result (λ position. IsLeastMinimal
             (problem_of O.after O.State.eq O.Reply.eq self.old.entries.problem)
-            self.new.config.lifted (frame.old.call + 1) position.candidate) }
+            self.new.config.lifted (frame.call + 1) position.candidate) }
     {
         let calls = self.entries.problem().calls().len();
         prove!(calls <= MAX_CALLS_ON_OBJECT);
+        let call = frame.call;
+        let longest = frame.longest_with(deep);
         self.unlift(frame)?;
-        Ok(self.after(frame.call, frame.longest_with(deep)))
+        Ok(self.after(call, longest))
     }
 
-    // A copy of the set of calls that the search is at.
+    // A copy of the configuration that the search is at.
     #[inline(always)]
-    pub(crate) fn copy_lifted(&self) -> Result<CallSet, AllocError>
-        ensures { IfOk result (λ set. set ≡ self.now.config.lifted) }
+    pub(crate) fn copy_config(&self) -> Result<Config<O>, AllocError>
+        requires { IsReachable (problem_of O.after O.State.eq O.Reply.eq self.now.entries.problem)
+            self.now.config.lifted self.now.config.state }
+        ensures lifted { IfOk result (λ copy. copy.lifted ≡ self.now.config.lifted) }
+        ensures state { IfOk result (λ copy. O.State.eq copy.state self.now.config.state ≡ true) }
+        ensures reachable { IfOk result (λ copy. IsReachable
+            (problem_of O.after O.State.eq O.Reply.eq self.now.entries.problem) copy.lifted
+            copy.state) }
     {
-        self.config.lifted().copy(self.alloc)
+        self.config.copy(self.alloc, self.problem())
     }
 
     /// The calls on the path, in order, and then this one. `AllocError` where memory was refused.
     pub fn order_through(&self, call: usize) -> Result<Order, AllocError>
-        ensures { IfOk result (λ order. order ≡ calls_of self.now.frames.items ++ call ∷ []) }
+        ensures { IfOk result (λ order. order ≡ kept_calls self.now.frames.items ++ call ∷ []) }
     {
         order_through(self.alloc, self.frames.as_slice(), call)
     }

@@ -1,6 +1,6 @@
 use Rattle.std.proofs.Common.{refl, ◌∙◌, ap}
 use Rattle.lin_search.specs.declared.depth_first.Terms.{Terms}
-use Rattle.lin_search.proofs.PathLemmas.{progress_start, holds_start}
+use Rattle.lin_search.proofs.PathLemmas.{progress_start, holds_start, none_kept}
 use Rattle.lin_search.proofs.depth_first.search_on.Goals as goal
 
 pub step-requires-clause-of : goal.step-requires-clause-of
@@ -12,9 +12,9 @@ step-requires-clause-of g c =
 pub loop-next-init : goal.loop-next-init
 loop-next-init g c = record {
   problem = refl;
-  progress = progress_start _ _ _ _ _ _ c.requires.frames c.requires.lifted c.requires.reachable c.requires.incomplete c.enter-position.ensures.longest c.enter-position.ensures.candidate;
+  progress = progress_start _ _ _ _ _ _ (none_kept g.O.SeqObject.undone _ _ c.requires.frames) c.requires.lifted c.requires.reachable c.requires.incomplete c.enter-position.ensures.longest c.enter-position.ensures.candidate;
   memo = g.met.M.Memo.unchanged _;
-  holds = λ w off closed. rw c.requires.frames (holds_start _ _ _ c.enter-position.ensures.candidate closed);
+  holds = λ w off closed. rw (none_kept g.O.SeqObject.undone _ c.args.path.now.config.state c.requires.frames) (holds_start _ _ _ c.enter-position.ensures.candidate closed);
   stop = g.met.S.Stop.unchanged _;
   is_for = refl;
 }
