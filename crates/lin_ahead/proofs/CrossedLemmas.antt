@@ -1,5 +1,5 @@
 -- A push that crosses a call: there is no linearization.
-use Rattle.std.proofs.Common.{◌≡◌, ℕ, ◌<◌, Bool, true, false, Option, Some, None, List, [], ◌∷◌, ◌++◌, length, ◌⊎◌, inl, inr, refl, sym, ◌∙◌, ap, subst, arith}
+use Rattle.std.proofs.Common.{◌≡◌, ℕ, ◌<◌, Bool, true, false, Some, List, [], ◌∷◌, ◌++◌, length, ◌⊎◌, inl, inr, refl, sym, subst, arith}
 use Rattle.std.specs.Prelude.{slice_get, IsSomeAnd}
 use Rattle.std.proofs.lemmas.List.{length-set, length-replicate}
 use Rattle.lin_object.specs.declared.op.Op.{Op}
@@ -15,10 +15,10 @@ use Rattle.lin_history.specs.Problems.Precedence.{Before, IsCompleted}
 use Rattle.lin_history.specs.Problems.Continuations.{has, no_calls}
 use Rattle.lin_history.specs.Problems.Linearizations.{IsRun, IsLinearization}
 use Rattle.lin_search.specs.CallSet.{with_call, with_calls}
-use Rattle.lin_search.specs.CallSetLemmas.{no_calls_has, true_or_false, has_same, has_with, has_still, length_calls}
+use Rattle.lin_search.specs.CallSetLemmas.{no_calls_has, true_or_false, has_same, has_with, has_still}
 use Rattle.lin_search.specs.FirstCallLemmas.{next_within}
 use Rattle.lin_ahead.specs.declared.late_pushes.LateRows.{LateRows}
-use Rattle.lin_ahead.specs.Late.{NoneIsLate, IsDeadline, FindsUnder, IsCrossed}
+use Rattle.lin_ahead.specs.Late.{NoneIsLate, FindsUnder, IsCrossed}
 use Rattle.lin_ahead.proofs.NeedsLemmas.{not_before, stands}
 
 -- ---- the set of a list of calls

@@ -1,6 +1,6 @@
 -- What a first search knows of the calls that it has tried, and its steps.
-use Rattle.std.proofs.Common.{◌≡◌, ℕ, zero, suc, ◌+◌, ◌-◌, ◌*◌, ◌<◌, ◌≤◌, Bool, true, false, Option, Some, None, List, [], ◌∷◌, ◌++◌, length, length-append, ◌⊎◌, inl, inr, refl, sym, ◌∙◌, ap, subst, arith, append-nil, ◌||◌}
-use Rattle.std.specs.Prelude.{IfNone, IfSome}
+use Rattle.std.proofs.Common.{◌≡◌, ℕ, zero, suc, ◌+◌, ◌-◌, ◌*◌, ◌<◌, ◌≤◌, Bool, true, false, Option, Some, None, List, [], ◌∷◌, ◌++◌, length, length-append, ◌⊎◌, inl, inr, refl, sym, ◌∙◌, ap, subst, arith, append-nil, ◌||◌, Result, Ok, Err}
+use Rattle.std.specs.Prelude.{IfOk, IfSome}
 use Rattle.std.specs.List.{list_any}
 use Rattle.std.proofs.lemmas.Bool.{cases_lt}
 use Rattle.lin_history.specs.Problems.Problem.{Problem}
@@ -8,6 +8,7 @@ use Rattle.lin_history.specs.Problems.Lists.{IsUpTo, IsLeast}
 use Rattle.lin_history.specs.Problems.Continuations.{IsContinuation, IsCompletion, no_calls}
 use Rattle.lin_history.specs.Problems.Linearizations.{IsRun, IsLinearization}
 use Rattle.lin_history.specs.Problems.Configurations.{IsReachable, IsRefuted}
+use Rattle.lin_object.specs.declared.step_back.Change.{Change}
 use Rattle.lin_search.specs.AlikeLemmas.{AreAlike, turned, like_completion, alike_reachable, alike_many}
 use Rattle.lin_search.specs.CallSet.{with_call, with_calls, lifted_set}
 use Rattle.lin_search.specs.CallSetLemmas.{with_append}
@@ -19,10 +20,11 @@ use Rattle.lin_search.specs.ExchangeLemmas.{exchanged_completes}
 use Rattle.lin_search.specs.FrontLemmas.{front_completes}
 use Rattle.lin_search.specs.NeedlessCalls.{exchange, without, StandsFor}
 use Rattle.lin_search.specs.NextCall.{IsNext, HasEveryCompleted}
-use Rattle.lin_search.specs.Path.{Frame, Level, levels, calls_of}
+use Rattle.lin_search.specs.Path.{Frame, KeptFrame, Level, levels, calls_of, frames_of}
+use Rattle.lin_search.specs.declared.longest.Longest.{Longest}
 use Rattle.lin_search.specs.Progress.{IsContinuationBelow, HasLifts, AreLifts, bound}
 use Rattle.lin_search.specs.Size.{AllDifferent, EachOf, HasMany, HasMoreThan}
-use Rattle.lin_ahead.specs.FirstProgress.{BeginsNone, ComesAfter, IsPassed, IsPassedLevel, IsPassedPath, AreRefuted, IsFirstProgress, IsFirstTurn, IsFirstLifted, left_to_try}
+use Rattle.lin_ahead.specs.FirstProgress.{BeginsNone, ComesAfter, IsPassed, IsPassedLevel, IsPassedPath, AreRefuted, IsFirstProgress, IsFirstLifted, left_to_try}
 use Rattle.lin_search.proofs.LookupLemmas.{parts_same}
 use Rattle.lin_search.proofs.PathLemmas.{calls_along, level_of, levels_end, calls_levels, calls_pushed, next_minimal, none_between, bound_within, counted_pop, lifts_to, lifts_hit, lifts_push, minimal_of, way_on}
 use Rattle.lin_search.proofs.ProgressLemmas.{below_cases}
@@ -53,13 +55,8 @@ module _ {State Op Reply : Type 0} (p : Problem State Op Reply) where
   begins_refuted set s i t flags next none cs k = none cs (tail_completes p set s i t flags next cs k)
 
   -- a call that can't follow
-  begins_skipped : (set : List Bool) (s : State) (i : ℕ) → length set ≡ length p.calls → ((t : State) → IsNext p set s i t → ⊥) → BeginsNone p set s i
+  pub begins_skipped : (set : List Bool) (s : State) (i : ℕ) → length set ≡ length p.calls → ((t : State) → IsNext p set s i t → ⊥) → BeginsNone p set s i
   begins_skipped set s i flags none cs k = let n = completion_split p set s i cs flags k in none n.0 n.1
-
-  -- the same, of the state that a call may lead to
-  pub begins_unless : (set : List Bool) (s : State) (i : ℕ) → length set ≡ length p.calls → (answer : Option State) → IfNone answer ((t : State) → IsNext p set s i t → ⊥) → IfNone answer (BeginsNone p set s i)
-  begins_unless set s i flags None none = begins_skipped set s i flags none
-  begins_unless set s i flags (Some t) none = tt
 
   passed_all : (set : List Bool) (s : State) → length set ≡ length p.calls → IsPassed p set s (length p.calls) → (l : List ℕ) → IsCompletion p set s l → ⊥
   passed_all set s flags passed [] k = passed [] k tt
@@ -169,6 +166,20 @@ many_fewer P n (suc k) h many = elim (cases_lt k n) [
   | inr more ↦ many_fewer P n k more (one_fewer P k many.lists many.different many.each many.count)
 ]
 
+-- there are as many frames with states as are kept
+frames_length : {State : Type 0} (undone : Change → State → State) (frames : List (KeptFrame State)) (t : State) → length (frames_of undone frames t) ≡ length frames
+frames_length undone [] t = refl
+frames_length undone (f ∷ fs) t = ap (λ (n : ℕ). suc n) (frames_length undone fs t)
+
+-- less is left to try of frames with states, and so of those that are kept
+pub left_less : {State : Type 0} (undone : Change → State → State) (n : ℕ) (some all : List (KeptFrame State)) (s t : State) (i j : ℕ) → left_to_try n (frames_of undone some s) i < left_to_try n (frames_of undone all t) j → left_to_try n some i < left_to_try n all j
+left_less undone n some all s t i j h = rw (frames_length undone some s, frames_length undone all t) at h
+
+-- where a result is well, three facts of it give a fourth
+pub ok_three : {T E : Type 0} (P Q R S : T → Type 0) (r : Result T E) → ((x : T) → P x → Q x → R x → S x) → IfOk r P → IfOk r Q → IfOk r R → IfOk r S
+ok_three P Q R S (Ok x) f a b c = f x a b c
+ok_three P Q R S (Err e) f a b c = tt
+
 -- what is among the configurations that a look-up finds
 pub among_if : {State : Type 0} (same : State → State → Bool) (k : Configuration State) (kept : List (Configuration State)) → list_any (same_configuration same k) kept ≡ true → Among same kept k.lifted k.state
 among_if same k [] e = absurd (cc)
@@ -180,16 +191,17 @@ among_if same k (x ∷ xs) e = by (same_configuration same k x) refl e (among_if
 
 module _ {State Op Reply : Type 0} {p : Problem State Op Reply} where
   -- what is equal to a refuted configuration is refuted
+  pub refuted_same : AreAlike p p → (here copy : Configuration State) → copy.lifted ≡ here.lifted → p.same_state copy.state here.state ≡ true → IsRefuted p here.lifted here.state → IsRefuted p copy.lifted copy.state
+  refuted_same alike here copy lifted same k = rw lifted (record {
+    reachable = alike_reachable alike here.lifted here.state copy.state (turned alike copy.state here.state same) k.reachable;
+    none = λ l c. k.none l (like_completion alike.there here.lifted copy.state here.state l same c);
+  })
+
+  -- the same of what is equal to one of them
   pub refuted_among : AreAlike p p → (kept : List (Configuration State)) (set : List Bool) (s : State) → AreRefuted p kept → Among p.same_state kept set s → IsRefuted p set s
   refuted_among alike [] set s k h = absurd h
   refuted_among alike (x ∷ xs) set s k h = elim h [
-    | inl q ↦ (
-        let back = turned alike s x.state q.1 in
-        subst (λ (a : List Bool). IsRefuted p a s) (sym q.0) (record {
-          reachable = alike_reachable alike x.lifted x.state s back k.0.reachable;
-          none = λ l c. k.0.none l (like_completion alike.there x.lifted s x.state l q.1 c);
-        })
-        )
+    | inl q ↦ refuted_same alike x (record { lifted = set; state = s }) q.0 q.1 k.0
     | inr more ↦ refuted_among alike xs set s k.1 more
   ]
 
@@ -254,18 +266,18 @@ module _ {State Op Reply : Type 0} {p : Problem State Op Reply} where
   )
 
   -- the candidate was lifted
-  pub first_lifted : (kept : List (Configuration State)) (made lifts : ℕ) (before lifted : List ℕ) (fs : List (Frame State)) (from here : Configuration State) (next f : Frame State) → IsFirstTurn p kept made before fs from next → lifts ≡ made + 1 → lifted ≡ before ++ next.call ∷ [] → here.lifted ≡ with_call from.lifted next.call → here.state ≡ next.state → f ≡ record { state = from.state; call = next.call; longest = next.longest } → IsFirstLifted p kept lifts lifted fs f here
-  first_lifted kept made lifts before lifted fs from here next f turn count last set state is = rw is (record {
+  pub first_lifted : (kept : List (Configuration State)) (made : ℕ) (before lifted : List ℕ) (fs : List (Frame State)) (from here : Configuration State) (c : ℕ) (longest : Longest) (f : Frame State) → IsFirstProgress p kept made before fs from (Some c) → IsNext p from.lifted from.state c here.state → IsReachable p (with_call from.lifted c) here.state → lifted ≡ before ++ c ∷ [] → here.lifted ≡ with_call from.lifted c → f ≡ record { state = from.state; call = c; longest = longest } → IsFirstLifted p kept (made + 1) lifted fs f here
+  first_lifted kept made before lifted fs from here c longest f progress follows reachable last set is = rw is (record {
     from = from;
     before = before;
     made = made;
-    count = count;
-    progress = turn.progress;
+    count = refl;
+    progress = progress;
     last = last;
     state = refl;
     set = set;
-    next = rw state turn.follows;
-    reachable = rw (set, state) turn.reachable;
+    next = follows;
+    reachable = rw set reachable;
   })
 
   module _ (kept : List (Configuration State)) (lifts : ℕ) (lifted : List ℕ) (fs : List (Frame State)) (f : Frame State) (here : Configuration State) (k : IsFirstLifted p kept lifts lifted fs f here) where
@@ -328,6 +340,14 @@ module _ {State Op Reply : Type 0} {p : Problem State Op Reply} where
         let least : IsLeast (IsCompletion p (no_calls p) q.root) (calls_of fs ++ f.call ∷ []) = rw calls_levels at (passed_lead p (levels (no_calls p) fs) (no_calls p) q.root k.from.lifted k.from.state (f.call ∷ []) q.path here_least) in
         (like_completion q.alike.there (no_calls p) q.root p.start _ q.start least.0, λ m h. least.1 m (like_completion q.alike.back (no_calls p) p.start q.root m (turned q.alike q.root p.start q.start) h))
 
+    -- one call more was lifted than may be
+    pub first_more : (most : ℕ) → most < lifts → HasMoreThan (IsRun p) most
+    first_more most more =
+        let q = k.progress in
+        let same = k.count in
+        let many = passed_more p (levels (no_calls p) fs) (no_calls p) q.root k.from.lifted k.from.state f.call k.made here.state q.path q.reachable.flags k.next q.count in
+        many_fewer (IsRun p) (most + 1) (k.made + 1) (omega (arith, more, same)) (alike_many q.alike (no_calls p) q.root p.start (k.made + 1) q.start many)
+
   -- all calls of the root were tried
   pub first_none : (kept : List (Configuration State)) (lifts : ℕ) (lifted : List ℕ) (fs : List (Frame State)) (here : Configuration State) → fs ≡ [] → IsFirstProgress p kept lifts lifted fs here None → (l : List ℕ) → IsLinearization p l → ⊥
   first_none kept lifts lifted fs here none k l h =
@@ -338,13 +358,6 @@ module _ {State Op Reply : Type 0} {p : Problem State Op Reply} where
   -- all calls here were tried
   pub first_refuted : (kept : List (Configuration State)) (lifts : ℕ) (lifted : List ℕ) (fs : List (Frame State)) (here : Configuration State) → IsFirstProgress p kept lifts lifted fs here None → IsRefuted p here.lifted here.state
   first_refuted kept lifts lifted fs here k = record { reachable = k.reachable; none = passed_all p here.lifted here.state k.reachable.flags k.passed }
-
-  -- as many lifts were made as may be, and one call more can follow
-  pub first_more : (kept : List (Configuration State)) (lifts most : ℕ) (lifted : List ℕ) (fs : List (Frame State)) (here : Configuration State) (next : Frame State) → most ≤ lifts → IsFirstTurn p kept lifts lifted fs here next → HasMoreThan (IsRun p) most
-  first_more kept lifts most lifted fs here next h turn =
-      let k = turn.progress in
-      let many = passed_more p (levels (no_calls p) fs) (no_calls p) k.root here.lifted here.state next.call lifts next.state k.path k.reachable.flags turn.follows k.count in
-      many_fewer (IsRun p) (most + 1) (lifts + 1) (omega (arith, h)) (alike_many k.alike (no_calls p) k.root p.start (lifts + 1) k.start many)
 
   -- the configuration that the last frame's call was lifted from
   module _ (kept : List (Configuration State)) (lifts : ℕ) (lifted : List ℕ) (all fs : List (Frame State)) (f : Frame State) (here : Configuration State) (split : all ≡ fs ++ f ∷ []) (k : IsFirstProgress p kept lifts lifted all here None) where

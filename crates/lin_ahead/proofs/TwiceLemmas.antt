@@ -1,9 +1,8 @@
 -- Two calls that returned with one item, which no two calls put there: there is no linearization.
-use Rattle.std.proofs.Common.{◌≡◌, ◌≢◌, ℕ, ◌<◌, ◌+◌, Some, List, [], ◌∷◌, ◌++◌, length, ◌⊎◌, inl, inr, refl, sym, ◌∙◌, ap, subst, append_assoc, arith}
-use Rattle.std.specs.Prelude.{ℤ, slice_get, IfSome}
+use Rattle.std.proofs.Common.{◌≡◌, ◌≢◌, ℕ, ◌<◌, ◌+◌, Some, List, [], ◌∷◌, ◌++◌, ◌⊎◌, inl, inr, refl, sym, ◌∙◌, ap, subst, append_assoc, arith}
+use Rattle.std.specs.Prelude.{ℤ}
 use Rattle.lin_object.specs.declared.op.Op.{Op}
 use Rattle.lin_object.specs.declared.reply.Reply.{Reply}
-use Rattle.lin_object.specs.declared.reply.Reply.TheVariants.{Int}
 use Rattle.lin_object.specs.declared.state.ObjState.{ObjState}
 use Rattle.lin_object.specs.declared.state.ObjState.TheVariants.{Stack}
 use Rattle.lin_history.specs.ReplyLemmas.{reply_same}
@@ -15,10 +14,9 @@ use Rattle.lin_history.specs.Problems.LegalLists.{next, Legal}
 use Rattle.lin_history.specs.Problems.Precedence.{IsCompleted}
 use Rattle.lin_history.specs.Problems.Linearizations.{IsRun, IsLinearization}
 use Rattle.lin_ahead.specs.AnyProblem.{any_problem}
-use Rattle.lin_ahead.specs.Impossible.{AddsItem, IsTakenTwice, TookItem}
-use Rattle.lin_ahead.specs.Queue.{Item, IsOfQueue, Puts, Took}
-use Rattle.lin_ahead.specs.Stack.{Pushes, Popped, PushedOnce}
-use Rattle.lin_ahead.specs.ToldAhead.{PutOnce}
+use Rattle.lin_ahead.specs.Impossible.{AddsItem, IsTakenTwice}
+use Rattle.lin_ahead.specs.Queue.{Item, Took}
+use Rattle.lin_ahead.specs.Stack.{Popped, PushedOnce}
 use Rattle.lin_ahead.proofs.AnyLemmas.{of_any}
 use Rattle.lin_ahead.proofs.ChainLemmas.{legal_split}
 use Rattle.lin_ahead.proofs.NeedsLemmas.{place_split, stands}

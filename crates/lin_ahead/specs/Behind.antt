@@ -21,7 +21,7 @@ use Rattle.lin_ahead.specs.ToldOfStack.{exchanged_calls}
 use Rattle.lin_ahead.specs.StackTakers.{on_queue}
 use Rattle.lin_ahead.specs.Sums.{NoneIsOver}
 
--- Call b needs call a behind the set: wherever b stands in a linearization, with no call of the set behind it, a stands before it.
+-- Call b needs call a behind the set: wherever b is in a linearization, with no call of the set behind it, a comes before it.
 abbrev pub NeedsBehind : {State Op Reply : Type 0} → Problem State Op Reply → List Bool → ℕ → ℕ → Type 0
 NeedsBehind p set a b = (l early late : List ℕ) → IsLinearization p l → l ≡ early ++ b ∷ late → ((c : ℕ) → In c late → has set c ≡ false) → In a early
 

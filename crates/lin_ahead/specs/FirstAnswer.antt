@@ -1,4 +1,4 @@
--- What a first search of a problem answers, which tells nothing of its longest runs (this project's own).
+-- What a first search of a problem answers, which says nothing of its longest runs (this project's own).
 use Rattle.std.specs.Prelude.{ℕ, List}
 use Rattle.lin_history.specs.Problems.Lists.{IsLeast}
 use Rattle.lin_history.specs.Problems.Problem.{Problem}

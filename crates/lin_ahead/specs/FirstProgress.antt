@@ -6,13 +6,15 @@ use Rattle.lin_history.specs.Problems.Lists.{IsLeast}
 use Rattle.lin_history.specs.Problems.Continuations.{IsCompletion, no_calls}
 use Rattle.lin_history.specs.Problems.Linearizations.{IsLinearization}
 use Rattle.lin_history.specs.Problems.Configurations.{IsReachable, IsRefuted}
+use Rattle.lin_object.specs.StepBacks.{state_before}
+use Rattle.lin_object.specs.declared.step_back.Change.{Change}
 use Rattle.lin_search.specs.AlikeLemmas.{AreAlike}
 use Rattle.lin_search.specs.CallSet.{with_call, with_calls}
 use Rattle.lin_search.specs.Configuration.{Configuration}
 use Rattle.lin_search.specs.Entries.{IsMinimal, IsLeastMinimal}
 use Rattle.lin_search.specs.NeedlessCalls.{LeavesStates}
 use Rattle.lin_search.specs.NextCall.{IsNext}
-use Rattle.lin_search.specs.Path.{Frame, Level, levels, calls_of}
+use Rattle.lin_search.specs.Path.{Frame, KeptFrame, Level, levels, calls_of, frame_of, frames_of}
 use Rattle.lin_search.specs.Progress.{IsBelow, AreLifts, bound}
 
 -- No completion of the configuration begins with the call.
@@ -56,12 +58,6 @@ pub record IsFirstProgress {State Op Reply : Type 0} (p : Problem State Op Reply
   pub minimal : IfSome candidate (λ (c : ℕ). IsMinimal p here.lifted c)
   pub count : AreLifts p (levels (no_calls p) frames) here.lifted here.state (bound p candidate) lifts
 
--- The frame's call is the candidate, and leads to the frame's state.
-pub record IsFirstTurn {State Op Reply : Type 0} (p : Problem State Op Reply) (kept : List (Configuration State)) (lifts : ℕ) (lifted : List ℕ) (frames : List (Frame State)) (here : Configuration State) (next : Frame State) : Type 0 where
-  pub progress : IsFirstProgress p kept lifts lifted frames here (Some next.call)
-  pub follows : IsNext p here.lifted here.state next.call next.state
-  pub reachable : IsReachable p (with_call here.lifted next.call) next.state
-
 -- The frame's call was lifted, and led to the configuration that the search is at.
 pub record IsFirstLifted {State Op Reply : Type 0} (p : Problem State Op Reply) (kept : List (Configuration State)) (lifts : ℕ) (lifted : List ℕ) (frames : List (Frame State)) (f : Frame State) (here : Configuration State) : Type 0 where
   pub from : Configuration State
@@ -76,14 +72,14 @@ pub record IsFirstLifted {State Op Reply : Type 0} (p : Problem State Op Reply) 
   pub reachable : IsReachable p here.lifted here.state
 
 -- How much is left until a call is to be lifted, by how many frames there are and the calls from i: a frame counts as all calls and one more.
-abbrev pub left_to_try : {State : Type 0} → ℕ → List (Frame State) → ℕ → ℕ
+abbrev pub left_to_try : {A : Type 0} → ℕ → List A → ℕ → ℕ
 left_to_try n frames i = length frames * (n + 1) + (n - i)
 
--- After a step with no lift the search goes on with less left to try, or the frame's call is to be lifted, or there is no linearization.
-abbrev pub IsFirstStep : {State Op Reply : Type 0} → Problem State Op Reply → List (Configuration State) → ℕ → List ℕ → List (Frame State) → Configuration State → ℕ → ControlFlow (Option (Frame State)) (Option ℕ) → Type 0
-IsFirstStep p kept lifts lifted frames here before (Continue candidate) = IsFirstProgress p kept lifts lifted frames here candidate × (left_to_try (length p.calls) frames (bound p candidate) < before)
-IsFirstStep p kept lifts lifted frames here before (Break (Some next)) = IsFirstTurn p kept lifts lifted frames here next
-IsFirstStep p kept lifts lifted frames here before (Break None) = (l : List ℕ) → IsLinearization p l → ⊥
+-- After a step that counts no lift the search goes on with less left to try, or the frame's call was lifted, which is to be counted, or there is no linearization. The frames are as a path keeps them.
+abbrev pub IsFirstStep : {State Op Reply : Type 0} → Problem State Op Reply → (Change → State → State) → List (Configuration State) → ℕ → List ℕ → List (KeptFrame State) → Configuration State → ℕ → ControlFlow (Option (KeptFrame State)) (Option ℕ) → Type 0
+IsFirstStep p undone kept lifts lifted frames here before (Continue candidate) = IsFirstProgress p kept lifts lifted (frames_of undone frames here.state) here candidate × (left_to_try (length p.calls) frames (bound p candidate) < before)
+IsFirstStep p undone kept lifts lifted frames here before (Break (Some f)) = IsFirstLifted p kept (lifts + 1) lifted (frames_of undone frames (state_before undone f.back here.state)) (frame_of undone f here.state) here
+IsFirstStep p undone kept lifts lifted frames here before (Break None) = (l : List ℕ) → IsLinearization p l → ⊥
 
 -- After a lift the search goes on, or has the least linearization.
 abbrev pub IsFirstVisit : {State Op Reply : Type 0} → Problem State Op Reply → List (Configuration State) → ℕ → List ℕ → List (Frame State) → Configuration State → ControlFlow (List ℕ) (Option ℕ) → Type 0

@@ -35,7 +35,7 @@ abbrev pub is_of : Option ℤ → ℤ → Bool
 is_of None v = false
 is_of (Some w) v = int_eq w v
 
--- What no call tells.
+-- What no call shows.
 abbrev pub nothing_told : ItemCalls
 nothing_told = record { putters = Nobody; taken = false; returned = BEYOND; called = BEYOND }
 
@@ -58,7 +58,7 @@ told_from told (c ∷ cs) v = told_from (told_next told c v) cs v
 abbrev pub told : List (ProblemCall Op Reply) → ℤ → ItemCalls
 told calls v = told_from nothing_told calls v
 
--- What is told of the item by a map; what no call tells, where the map has nothing of it.
+-- What a map says of the item; what no call shows, where the map has nothing of it.
 abbrev pub told_in : (ℤ → Option ItemCalls) → ℤ → ItemCalls
 told_in items v = unwrap_or (items v) nothing_told
 

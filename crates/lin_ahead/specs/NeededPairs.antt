@@ -17,7 +17,7 @@ abbrev pub with_needs : List CallNumbers → List CallNumbers
 with_needs [] = []
 with_needs (c ∷ cs) = if nat_lt 0 c.from then c ∷ with_needs cs else with_needs cs
 
--- Where a call stands in the order of the numbers 'by'.
+-- Where a call is in the order of the numbers 'by'.
 abbrev pub number_by : CallNumbers → ℕ
 number_by c = c.by
 

@@ -9,7 +9,7 @@ use Rattle.lin_history.specs.Problems.Linearizations.{IsLinearization}
 abbrev pub IsPendingAnswer : {State Op Reply : Type 0} → Problem State Op Reply → State → ℕ → Reply → Type 0
 IsPendingAnswer {State} {Op} {Reply} p s c r = (x : ProblemCall Op Reply) × (slice_get p.calls c ≡ Some x) × (x.returned ≡ None) × ((t : State) × (p.after s x.process x.op ≡ Some (t, r)))
 
--- Wherever a pending call stands in a linearization, it is not answered so.
+-- Wherever a pending call is in a linearization, it is not answered so.
 abbrev pub IsOwed : {State Op Reply : Type 0} → Problem State Op Reply → Reply → Type 0
 IsOwed {State} {Op} {Reply} p r = (l early late : List ℕ) (c : ℕ) (s : State) (q : Reply) → IsLinearization p l → l ≡ early ++ c ∷ late → Legal p p.start early s → IsPendingAnswer p s c q → p.same_reply q r ≡ true → ⊥
 

@@ -27,7 +27,7 @@ value_written (Cas a b) (Some (number, Flag false)) = None
 value_written (Cas a b) returned = Some b
 value_written op returned = None
 
--- The value that a call found, as its reply tells: a read, or a cas that returned true.
+-- The value that a call found, as its reply shows: a read, or a cas that returned true.
 abbrev pub value_found : Op → Option (ℕ × Reply) → Option ℤ
 value_found Read (Some (number, Int v)) = Some v
 value_found (Cas a b) (Some (number, Flag true)) = Some a

@@ -22,7 +22,7 @@ module _ (p : Problem ObjState Op Reply) (set : List Bool) (c : ℕ) where
   abbrev pub FindsGoneAbove : List ℤ → ℕ → List ℤ → Type 0
   FindsGoneAbove items z gone = (FoundEmpty p z × (gone ≡ items)) ⊎ ((w : ℤ) × TookLifted z w × LieAbove items w gone)
 
-  -- Call y stands no later than call z, which finds these of the items gone: it is z, or it is left and returned with one of them,
+  -- Call y comes no later than call z, which finds these of the items gone: it is z, or it is left and returned with one of them,
   -- which lies on the stack once, and which no call that is left puts in.
   abbrev pub StandsBy : List ℤ → List ℤ → ℕ → ℕ → Type 0
   StandsBy items gone z y = (y ≡ z) ⊎ ((is_left set c y ≡ true) × ((u : ℤ) × TookLifted y u × Item u gone × ((above : List ℤ) × LieAbove items u above)))
@@ -32,6 +32,6 @@ abbrev pub on_queue : Problem ObjState Op Reply → Problem ObjState Op Reply
 on_queue p = queue_of (exchanged_calls p.calls)
 
 -- With call c added to the set, and these items on the stack then, more items must be taken by pops that are pending than there
--- are such pops: a call that is left finds them gone, or they go before one that stands no later, and fewer were called by its return.
+-- are such pops: a call that is left finds them gone, or they go before one that comes no later, and fewer were called by its return.
 abbrev pub LacksPops : Problem ObjState Op Reply → List Bool → ℕ → List ℤ → Type 0
 LacksPops p set c items = (gone : List ℤ) × (y z m : ℕ) × ReturnsOutside p set z m × (z ≢ c) × FindsGoneAbove (on_queue p) set c items z gone × StandsBy (on_queue p) set c items gone z y × AreTooFew (on_queue p) set c gone y m

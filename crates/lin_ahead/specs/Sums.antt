@@ -50,7 +50,7 @@ IsHeight up value n = n + share_in (not up) value ≡ 2 ^ 63 + share_in up value
 abbrev pub IsSumOfAll : Problem ObjState Op Reply → Bool → (ℕ → Type 0) → ℕ → Type 0
 IsSumOfAll p up P n = (l : List ℕ) × IsDistinct l × ((c : ℕ) → (In c l → P c) × (P c → In c l)) × (n ≡ sum_of_shares up p.calls l)
 
--- Call a may stand before call g: g does not precede it.
+-- Call a may come before call g: g does not precede it.
 abbrev pub MayStandBefore : Problem ObjState Op Reply → ℕ → ℕ → Type 0
 MayStandBefore p g a = (a < length p.calls) × (Before p g a → ⊥)
 
@@ -59,7 +59,7 @@ abbrev pub Got : Problem ObjState Op Reply → ℕ → ℤ → Type 0
 Got p g value = (x : ProblemCall Op Reply) × (slice_get p.calls g ≡ Some x) × (x.op ≡ Get) × ((n : ℕ) × (x.returned ≡ Some (n, Int value)))
 
 -- The limit of a completed get in a direction: the height of the start with all that precedes the get adds, and the height of
--- its reply with all that may stand before it adds the other way.
+-- its reply with all that may come before it adds the other way.
 pub record IsLimit (p : Problem ObjState Op Reply) (start : ℤ) (up : Bool) (g : ℕ) (limit : SumLimit) : Type 0 where
   pub value : ℤ
   pub got : Got p g value
@@ -153,7 +153,7 @@ pub record AreSumsAt (p : Problem ObjState Op Reply) (up returns : Bool) (events
   pub sums : (i g : ℕ) → slice_get events i ≡ Some (event_of false returns g) → slice_get row g ≡ Some (sum_of_shares up p.calls (counted returns (take i events)))
   pub few : (g n : ℕ) → slice_get row g ≡ Some n → n ≤ 2 ^ 127
 
--- The limit of a call with these sums of what precedes it and of what may stand before it: it is a completed get.
+-- The limit of a call with these sums of what precedes it and of what may come before it: it is a completed get.
 pub record IsLimitOf (up : Bool) (start : ℤ) (x : ProblemCall Op Reply) (before through : ℕ) (limit : SumLimit) : Type 0 where
   pub value : ℤ
   pub op : x.op ≡ Get

@@ -15,7 +15,7 @@ use Rattle.lin_ahead.specs.ItemCalls.{one_more, is_of}
 use Rattle.lin_ahead.specs.NeededPairs.{some_pair}
 use Rattle.lin_ahead.specs.Register.{value_written, value_found}
 
--- What no call tells of a value.
+-- What no call shows of a value.
 abbrev pub no_value_told : ValueCalls
 no_value_told = record { writers = Nobody; returned = BEYOND; called = 0 }
 
@@ -53,7 +53,7 @@ value_from told (c ∷ cs) v = value_from (value_next told c v) cs v
 abbrev pub value_told : List (ProblemCall Op Reply) → ℤ → ValueCalls
 value_told calls v = value_from no_value_told calls v
 
--- What is told of the value by a map; what no call tells, where the map has nothing of it.
+-- What a map says of the value; what no call shows, where the map has nothing of it.
 abbrev pub value_in : (ℤ → Option ValueCalls) → ℤ → ValueCalls
 value_in values v = unwrap_or (values v) no_value_told
 

@@ -1,16 +1,17 @@
 //! A first search: it passes over calls that are known to begin no completion, and says nothing of longest runs.
-ghost use Rattle.std.specs.Prelude.{◌≡◌, ℕ, ◌+◌, ◌<◌, ◌^◌, ◌++◌, ◌∷◌, [], List, Option, Some, None, length, IfOk, IfSome, IfNone, IsTrue};
+ghost use Rattle.std.specs.Prelude.{◌≡◌, ℕ, ◌+◌, ◌<◌, ◌^◌, ◌++◌, ◌∷◌, [], List, Option, Some, None, length, false, IfOk, IfSome, IfNone, IsTrue};
 ghost use Rattle.lin_ahead.specs.AnyProblem.{any_problem};
-ghost use Rattle.lin_history.specs.Problems.Configurations.{IsReachable, IsRefuted};
+ghost use Rattle.lin_object.specs.Changes.{undone};
+ghost use Rattle.lin_object.specs.StepBacks.{state_before};
+ghost use Rattle.lin_history.specs.Problems.Configurations.{IsReachable};
 ghost use Rattle.lin_history.specs.Problems.Linearizations.{IsLinearization};
-ghost use Rattle.lin_history.specs.Problems.Lists.{IsLeast};
-ghost use Rattle.lin_search.specs.CallSet.{with_call, lifted_set};
+ghost use Rattle.lin_search.specs.CallSet.{lifted_set};
 ghost use Rattle.lin_search.specs.Entries.{IsMinimal, IsLeastMinimal};
 ghost use Rattle.lin_ahead.specs.FirstAnswer.{IsFirstAnswer};
 ghost use Rattle.lin_ahead.specs.Behind.{IsRightAhead};
-ghost use Rattle.lin_ahead.specs.FirstProgress.{BeginsNone, ComesAfter, IsPassed, IsFirstProgress, IsFirstTurn, IsFirstLifted, IsFirstStep, IsFirstVisit, left_to_try};
+ghost use Rattle.lin_ahead.specs.FirstProgress.{BeginsNone, ComesAfter, IsPassed, IsFirstProgress, IsFirstLifted, IsFirstStep, IsFirstVisit, left_to_try};
 ghost use Rattle.lin_search.specs.NextCall.{IsNext, HasEveryCompleted};
-ghost use Rattle.lin_search.specs.Path.{calls_of};
+ghost use Rattle.lin_search.specs.Path.{kept_calls, frame_of, frames_of};
 ghost use Rattle.lin_search.specs.Progress.{bound};
 ghost use Rattle.std.proofs.Common.{Break};
 
@@ -55,42 +56,43 @@ struct FirstSearch<'p> {
 
 impl<'p> FirstSearch<'p> {
     // Takes the frame's call, which was lifted last, back, and goes on after it: behind a call that changes nothing no other one
-    // need be tried. The state that the call led to comes into the frame.
-    fn leave(&mut self, frame: &mut Frame<AnyObject>) -> Result<Option<usize>, AllocError>
+    // need be tried.
+    fn leave(&mut self, frame: Frame<AnyObject>) -> Result<Option<usize>, AllocError>
         requires lifted { lifted_set (any_problem
             self.old.path.entries.problem) self.old.path.entries.lifted
             ≡ self.old.path.config.lifted }
         requires last { (before : List ℕ)
-            × (self.old.path.entries.lifted ≡ before ++ frame.old.call ∷ [])
+            × (self.old.path.entries.lifted ≡ before ++ frame.call ∷ [])
             × IsMinimal (any_problem self.old.path.entries.problem)
             (lifted_set (any_problem self.old.path.entries.problem)
-            before) frame.old.call }
+            before) frame.call }
         ensures problem { self.new.path.entries.problem ≡ self.old.path.entries.problem }
         ensures frames { self.new.path.frames ≡ self.old.path.frames }
         ensures refuted { self.new.refuted ≡ self.old.refuted }
         ensures lifts { self.new.lifts ≡ self.old.lifts }
         ensures last { (before : List ℕ)
-            → self.old.path.entries.lifted ≡ before ++ frame.old.call ∷ []
+            → self.old.path.entries.lifted ≡ before ++ frame.call ∷ []
             → self.new.path.entries.lifted ≡ before }
         ensures lifted { IfOk result (λ next. lifted_set
             (any_problem self.old.path.entries.problem)
             self.new.path.entries.lifted ≡ self.new.path.config.lifted) }
-        ensures state { IfOk result (λ next. self.new.path.config.state ≡ frame.old.state) }
-        ensures after { IfOk result (λ next. frame.new.state ≡ self.old.path.config.state) }
+        ensures state { IfOk result (λ next. self.new.path.config.state
+            ≡ state_before undone frame.back self.old.path.config.state) }
         ensures candidate { IfOk result (ComesAfter (any_problem self.old.path.entries.problem)
-            self.new.path.config.lifted frame.old.call) }
+            self.new.path.config.lifted frame.call) }
     {
+        let call = frame.call();
         self.path.unlift(frame)?;
-        self.needed.unlifted(frame.call());
-        self.owed.unlifted(frame.call());
-        self.held.unlifted(frame.call());
-        self.stack.unlifted(frame.call());
-        self.takers.unlifted(frame.call());
-        self.sums.unlifted(frame.call());
-        if changes_nothing(self.path.problem(), frame.call()) {
+        self.needed.unlifted(call);
+        self.owed.unlifted(call);
+        self.held.unlifted(call);
+        self.stack.unlifted(call);
+        self.takers.unlifted(call);
+        self.sums.unlifted(call);
+        if changes_nothing(self.path.problem(), call) {
             return Ok(None);
         }
-        Ok(self.path.after(frame.call(), Longest::none()).candidate)
+        Ok(self.path.after(call, Longest::none()).candidate)
     }
 
     // Goes on from the configuration that the frame's call, which was lifted last, led to: back where it is known to be
@@ -98,14 +100,17 @@ impl<'p> FirstSearch<'p> {
     fn go_on(&mut self, frame: Frame<AnyObject>) -> Result<Option<usize>, AllocError>
         requires lifted { IsFirstLifted (any_problem
             self.old.path.entries.problem) self.old.refuted self.old.lifts
-            self.old.path.entries.lifted self.old.path.frames.items frame self.old.path.config }
+            self.old.path.entries.lifted (frames_of undone self.old.path.frames.items
+            (state_before undone frame.back self.old.path.config.state))
+            (frame_of undone frame self.old.path.config.state) self.old.path.config }
         requires incomplete { HasEveryCompleted (any_problem
             self.old.path.entries.problem) self.old.path.config.lifted → ⊥ }
         ensures problem { self.new.path.entries.problem ≡ self.old.path.entries.problem }
         ensures lifts { self.new.lifts ≡ self.old.lifts }
         ensures progress { IfOk result (IsFirstProgress (any_problem
             self.old.path.entries.problem) self.new.refuted self.new.lifts
-            self.new.path.entries.lifted self.new.path.frames.items self.new.path.config) }
+            self.new.path.entries.lifted (frames_of undone self.new.path.frames.items
+            self.new.path.config.state) self.new.path.config) }
     {
         self.held.lifted(self.path.config(), frame.call());
         self.stack.lifted(
@@ -116,9 +121,7 @@ impl<'p> FirstSearch<'p> {
         self.takers.lifted(self.path.config(), frame.call())?;
         self.sums.lifted(frame.call())?;
         if self.refuted.has(self.path.config()) {
-            let mut left = frame;
-            let next = self.leave(&mut left)?;
-            return Ok(next);
+            return self.leave(frame);
         }
         self.needed.lifted(self.path.config());
         self.owed.lifted(self.path.config());
@@ -128,29 +131,30 @@ impl<'p> FirstSearch<'p> {
     // The calls on the path, in order, and then this one.
     fn success(&self, call: usize) -> Result<ControlFlow<Order, Option<usize>>, AllocError>
         ensures { IfOk result (λ visit. visit
-            ≡ Break (calls_of self.now.path.frames.items ++ call ∷ [])) }
+            ≡ Break (kept_calls self.now.path.frames.items ++ call ∷ [])) }
     {
         Ok(ControlFlow::Break(self.path.order_through(call)?))
     }
 
-    // Lifts the frame's call, which leads to the frame's state: that is a success where the configuration is complete then.
+    // Counts the lift of the frame's call, which was lifted last: that is a success where the configuration is complete then.
     // Else the search goes on from there.
     fn visit(
         &mut self,
-        next: Frame<AnyObject>,
+        frame: Frame<AnyObject>,
     ) -> Result<ControlFlow<Order, Option<usize>>, AllocError>
         requires room { self.old.lifts + 1 < 2 ^ 64 }
-        requires turn { IsFirstTurn (any_problem
-            self.old.path.entries.problem) self.old.refuted self.old.lifts
-            self.old.path.entries.lifted self.old.path.frames.items self.old.path.config next }
+        requires lifted { IsFirstLifted (any_problem
+            self.old.path.entries.problem) self.old.refuted (self.old.lifts + 1)
+            self.old.path.entries.lifted (frames_of undone self.old.path.frames.items
+            (state_before undone frame.back self.old.path.config.state))
+            (frame_of undone frame self.old.path.config.state) self.old.path.config }
         ensures problem { self.new.path.entries.problem ≡ self.old.path.entries.problem }
         ensures lifts { IfOk result (λ visit. self.new.lifts ≡ self.old.lifts + 1) }
         ensures visit { IfOk result (IsFirstVisit (any_problem
             self.old.path.entries.problem) self.new.refuted self.new.lifts
-            self.new.path.entries.lifted self.new.path.frames.items self.new.path.config) }
+            self.new.path.entries.lifted (frames_of undone self.new.path.frames.items
+            self.new.path.config.state) self.new.path.config) }
     {
-        let mut frame = next;
-        self.path.lift(&mut frame)?;
         self.lifts += 1;
         if self.path.is_complete() {
             return self.success(frame.call());
@@ -363,9 +367,13 @@ impl<'p> FirstSearch<'p> {
         self.path.can_follow_before(earlier, call)
     }
 
-    // The state that the call, which is minimal, leads to. `None` where no completion begins with the call: where that is
-    // known ahead, or it can't follow.
-    fn follow(&self, ahead: &KnownAhead, call: usize) -> Result<Option<ObjState>, AllocError>
+    // Whether what is known ahead of the call looks at the state that it leads to.
+    fn looks_at_next(&self, call: usize) -> bool {
+        self.held.another(self.path.config(), call).is_some() || self.concerns_takers(call)
+    }
+
+    // Whether a completion may begin with the call, which is minimal, as far as is known ahead.
+    fn may_begin(&self, ahead: &KnownAhead, call: usize) -> Result<bool, AllocError>
         requires ahead { IsRightAhead (any_problem
             self.now.path.entries.problem) ahead.now }
         requires reachable { IsReachable (any_problem
@@ -374,35 +382,32 @@ impl<'p> FirstSearch<'p> {
             self.now.path.entries.problem) self.now.path.config.lifted call }
         requires passed { IsPassed (any_problem self.now.path.entries.problem)
             self.now.path.config.lifted self.now.path.config.state call }
-        ensures next { IfOk result (λ answer. IfSome answer
-            (λ t. IsNext (any_problem self.now.path.entries.problem)
-            self.now.path.config.lifted self.now.path.config.state call t)) }
-        ensures reachable { IfOk result (λ answer. IfSome answer (λ t. IsReachable
+        ensures { IfOk result (λ may. may ≡ false → BeginsNone
             (any_problem self.now.path.entries.problem)
-            (with_call self.now.path.config.lifted call) t)) }
-        ensures none { IfOk result (λ answer. IfNone answer (BeginsNone
-            (any_problem self.now.path.entries.problem)
-            self.now.path.config.lifted self.now.path.config.state call)) }
+            self.now.path.config.lifted self.now.path.config.state call) }
     {
         if self.repeats_one_left(call) || self.is_behind_completed(call)? {
-            return Ok(None);
+            return Ok(false);
         }
         if self.begins_none(ahead, call)? {
-            return Ok(None);
+            return Ok(false);
+        }
+        if !self.looks_at_next(call) {
+            return Ok(true);
         }
         let Some(state) = self.path.next_state(call)? else {
-            return Ok(None);
+            return Ok(false);
         };
         if self.leaves_what_is_held(ahead, call, &state)? {
-            return Ok(None);
+            return Ok(false);
         }
         if self.leaves_few_takers(ahead, call, &state)? {
-            return Ok(None);
+            return Ok(false);
         }
-        Ok(Some(state))
+        Ok(true)
     }
 
-    // Tries the call, the candidate: passes it over where no completion begins with it.
+    // Tries the call, the candidate: lifts it, or passes it over where no completion begins with it.
     fn try_call(
         &mut self,
         ahead: &KnownAhead,
@@ -412,25 +417,25 @@ impl<'p> FirstSearch<'p> {
             self.old.path.entries.problem) ahead.now }
         requires progress { IsFirstProgress (any_problem
             self.old.path.entries.problem) self.old.refuted self.old.lifts
-            self.old.path.entries.lifted self.old.path.frames.items self.old.path.config
-            (Some call) }
-        ensures same { self.new ≡ self.old }
+            self.old.path.entries.lifted (frames_of undone self.old.path.frames.items
+            self.old.path.config.state) self.old.path.config (Some call) }
+        ensures problem { self.new.path.entries.problem ≡ self.old.path.entries.problem }
+        ensures lifts { self.new.lifts ≡ self.old.lifts }
         ensures step { IfOk result (IsFirstStep (any_problem
-            self.old.path.entries.problem) self.old.refuted self.old.lifts
-            self.old.path.entries.lifted self.old.path.frames.items self.old.path.config
+            self.old.path.entries.problem) undone self.new.refuted self.new.lifts
+            self.new.path.entries.lifted self.new.path.frames.items self.new.path.config
             (left_to_try (length self.old.path.entries.problem.calls) self.old.path.frames.items
             call)) }
     {
-        match self.follow(ahead, call)? {
-            Some(state) => {
-                let next = Frame::new(state, call, Longest::none());
-                Ok(ControlFlow::Break(Some(next)))
-            }
-            None => {
-                let position = self.path.after(call, Longest::none());
-                Ok(ControlFlow::Continue(position.candidate))
-            }
+        if !self.may_begin(ahead, call)? {
+            let position = self.path.after(call, Longest::none());
+            return Ok(ControlFlow::Continue(position.candidate));
         }
+        let Some(frame) = self.path.lift(call, Longest::none())? else {
+            let position = self.path.after(call, Longest::none());
+            return Ok(ControlFlow::Continue(position.candidate));
+        };
+        Ok(ControlFlow::Break(Some(frame)))
     }
 
     // Goes back from a configuration all of whose calls were tried, and which is so refuted: keeps it, and goes on after the
@@ -440,11 +445,12 @@ impl<'p> FirstSearch<'p> {
     ) -> Result<ControlFlow<Option<Frame<AnyObject>>, Option<usize>>, AllocError>
         requires progress { IsFirstProgress (any_problem
             self.old.path.entries.problem) self.old.refuted self.old.lifts
-            self.old.path.entries.lifted self.old.path.frames.items self.old.path.config None }
+            self.old.path.entries.lifted (frames_of undone self.old.path.frames.items
+            self.old.path.config.state) self.old.path.config None }
         ensures problem { self.new.path.entries.problem ≡ self.old.path.entries.problem }
         ensures lifts { self.new.lifts ≡ self.old.lifts }
         ensures step { IfOk result (IsFirstStep (any_problem
-            self.old.path.entries.problem) self.new.refuted self.new.lifts
+            self.old.path.entries.problem) undone self.new.refuted self.new.lifts
             self.new.path.entries.lifted self.new.path.frames.items self.new.path.config
             (left_to_try (length self.old.path.entries.problem.calls) self.old.path.frames.items
             (length self.old.path.entries.problem.calls))) }
@@ -452,15 +458,14 @@ impl<'p> FirstSearch<'p> {
         let Some(frame) = self.path.pop() else {
             return Ok(ControlFlow::Break(None));
         };
-        let lifted = self.path.config().lifted().copy(self.alloc)?;
-        let mut frame = frame;
-        let next = self.leave(&mut frame)?;
-        self.refuted
-            .add(Config::from_parts(lifted, frame.into_state()))?;
+        let problem = self.path.problem();
+        let refuted = self.path.config().copy(self.alloc, problem)?;
+        let next = self.leave(frame)?;
+        self.refuted.add(refuted)?;
         Ok(ControlFlow::Continue(next))
     }
 
-    // One step with no lift: tries the candidate, or goes back where there is none.
+    // One step: tries the candidate, or goes back where there is none.
     fn step(
         &mut self,
         ahead: &KnownAhead,
@@ -470,12 +475,12 @@ impl<'p> FirstSearch<'p> {
             self.old.path.entries.problem) ahead.now }
         requires progress { IsFirstProgress (any_problem
             self.old.path.entries.problem) self.old.refuted self.old.lifts
-            self.old.path.entries.lifted self.old.path.frames.items self.old.path.config
-            candidate }
+            self.old.path.entries.lifted (frames_of undone self.old.path.frames.items
+            self.old.path.config.state) self.old.path.config candidate }
         ensures problem { self.new.path.entries.problem ≡ self.old.path.entries.problem }
         ensures lifts { self.new.lifts ≡ self.old.lifts }
         ensures step { IfOk result (IsFirstStep (any_problem
-            self.old.path.entries.problem) self.new.refuted self.new.lifts
+            self.old.path.entries.problem) undone self.new.refuted self.new.lifts
             self.new.path.entries.lifted self.new.path.frames.items self.new.path.config
             (left_to_try (length self.old.path.entries.problem.calls) self.old.path.frames.items
             (bound (any_problem self.old.path.entries.problem)
@@ -487,8 +492,9 @@ impl<'p> FirstSearch<'p> {
         }
     }
 
-    // The next call that is to be lifted, from the candidate on. `None` where there is none, and so no linearization.
-    fn next_turn(
+    // Lifts the next call that may begin a completion, from the candidate on: its frame. `None` where there is none, and so
+    // no linearization.
+    fn lift_next(
         &mut self,
         ahead: &KnownAhead,
         candidate: Option<usize>,
@@ -497,14 +503,16 @@ impl<'p> FirstSearch<'p> {
             self.old.path.entries.problem) ahead.now }
         requires progress { IsFirstProgress (any_problem
             self.old.path.entries.problem) self.old.refuted self.old.lifts
-            self.old.path.entries.lifted self.old.path.frames.items self.old.path.config
-            candidate }
+            self.old.path.entries.lifted (frames_of undone self.old.path.frames.items
+            self.old.path.config.state) self.old.path.config candidate }
         ensures problem { self.new.path.entries.problem ≡ self.old.path.entries.problem }
         ensures lifts { self.new.lifts ≡ self.old.lifts }
-        ensures turn { IfOk result (λ answer. IfSome answer (IsFirstTurn
+        ensures lifted { IfOk result (λ answer. IfSome answer (λ frame. IsFirstLifted
             (any_problem self.old.path.entries.problem)
-            self.new.refuted self.new.lifts self.new.path.entries.lifted
-            self.new.path.frames.items self.new.path.config)) }
+            self.new.refuted (self.new.lifts + 1) self.new.path.entries.lifted
+            (frames_of undone self.new.path.frames.items
+            (state_before undone frame.back self.new.path.config.state))
+            (frame_of undone frame self.new.path.config.state) self.new.path.config)) }
         ensures none { IfOk result (λ answer. IfNone answer ((l : List ℕ)
             → IsLinearization (any_problem
             self.old.path.entries.problem) l → ⊥)) }
@@ -513,7 +521,7 @@ impl<'p> FirstSearch<'p> {
         loop {
             match self.step(ahead, at)? {
                 ControlFlow::Continue(next) => at = next,
-                ControlFlow::Break(turn) => return Ok(turn),
+                ControlFlow::Break(frame) => return Ok(frame),
             }
         }
     }
@@ -527,8 +535,8 @@ impl<'p> FirstSearch<'p> {
             self.old.path.entries.problem) self.old.path.config.lifted 0 candidate
             → IsFirstProgress (any_problem
             self.old.path.entries.problem) self.old.refuted self.old.lifts
-            self.old.path.entries.lifted self.old.path.frames.items self.old.path.config
-            candidate }
+            self.old.path.entries.lifted (frames_of undone self.old.path.frames.items
+            self.old.path.config.state) self.old.path.config candidate }
         requires lifted { lifted_set (any_problem
             self.old.path.entries.problem) self.old.path.entries.lifted
             ≡ self.old.path.config.lifted }
@@ -537,15 +545,15 @@ impl<'p> FirstSearch<'p> {
     {
         let mut candidate = self.path.enter().candidate;
         while self.lifts < lifts {
-            let Some(next) = self.next_turn(ahead, candidate)? else {
+            let Some(frame) = self.lift_next(ahead, candidate)? else {
                 return Ok(FirstAnswer::Refuted);
             };
-            match self.visit(next)? {
+            match self.visit(frame)? {
                 ControlFlow::Continue(after) => candidate = after,
                 ControlFlow::Break(order) => return Ok(FirstAnswer::Found(order)),
             }
         }
-        let Some(_next) = self.next_turn(ahead, candidate)? else {
+        let Some(_next) = self.lift_next(ahead, candidate)? else {
             return Ok(FirstAnswer::Refuted);
         };
         Ok(FirstAnswer::Exhausted)

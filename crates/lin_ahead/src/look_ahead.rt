@@ -138,7 +138,7 @@ pub struct KnownAhead {
     pub(crate) on_queue: Vec<ProblemCall<Op, Reply>>,
     /// For each call, whether it returned with a reply that no pending call can be answered with.
     pub owed: Vec<bool>,
-    /// For each call, whether the state may not change where it could follow, until it stands.
+    /// For each call, whether the state may not change where it could follow, until it is lifted.
     pub held: Vec<bool>,
     /// Whether what is known shows that there is no linearization.
     pub in_vain: bool,

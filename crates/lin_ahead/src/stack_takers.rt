@@ -84,7 +84,7 @@ fn items_gone(
     }
 }
 
-// A call that finds items gone, and one that stands no later.
+// A call that finds items gone, and one that comes no later.
 #[derive(Clone, Copy, Debug)]
 struct Finding {
     // The call that finds items gone.

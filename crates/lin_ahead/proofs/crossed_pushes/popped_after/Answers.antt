@@ -1,5 +1,4 @@
 use Rattle.std.proofs.Common.{inl, inr, arith}
-use Rattle.lin_ahead.specs.Late.{IsPoppedAfter}
 use Rattle.lin_ahead.proofs.crossed_pushes.popped_after.Goals as goal
 
 pub returns-then-returned-from-clause-popped : goal.returns-then-returned-from-clause-popped

@@ -1,6 +1,8 @@
 use Rattle.std.proofs.Common.{refl, sym, ◌∙◌, true≢false}
 use Rattle.lin_search.specs.FirstCallLemmas.{none_completes}
 use Rattle.lin_search.specs.SameLemmas.{alike_itself}
+use Rattle.lin_object.specs.Changes.{undone}
+use Rattle.lin_search.proofs.PathLemmas.{none_kept}
 use Rattle.lin_ahead.proofs.FirstLemmas.{first_start}
 use Rattle.lin_ahead.proofs.first_search.search_first.Goals as goal
 
@@ -12,7 +14,7 @@ pub go-requires-clause-progress : goal.go-requires-clause-progress
 go-requires-clause-progress c =
     rw (c.in_ok-path.ensures.problem, c.in_ok-path.ensures.config)
     (λ candidate least.
-    first_start (alike_itself c.lawful.ensures c.args.problem.now) _ _ _ _ _ candidate c.new-3.ensures refl c.in_ok-path.ensures.frames c.in_ok-root.ensures.lifted c.in_ok-root.ensures.state c.in_ok-path.ensures.lifted c.in_ok-root.ensures.reachable (λ h. true≢false (sym (c.is_complete.ensures.1 h) ∙ c.if-is_complete.false)) least)
+    first_start (alike_itself c.lawful.ensures c.args.problem.now) _ _ _ _ _ candidate c.new-3.ensures refl (none_kept undone _ _ c.in_ok-path.ensures.frames) c.in_ok-root.ensures.lifted c.in_ok-root.ensures.state c.in_ok-path.ensures.lifted c.in_ok-root.ensures.reachable (λ h. true≢false (sym (c.is_complete.ensures.1 h) ∙ c.if-is_complete.false)) least)
 
 pub go-requires-clause-ahead : goal.go-requires-clause-ahead
 go-requires-clause-ahead c = rw c.in_ok-path.ensures.problem c.requires

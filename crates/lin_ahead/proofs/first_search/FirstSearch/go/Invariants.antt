@@ -1,4 +1,6 @@
 use Rattle.std.proofs.Common.{◌≡◌, ◌-◌}
+use Rattle.lin_object.specs.Changes.{undone}
+use Rattle.lin_search.specs.Path.{frames_of}
 use Rattle.lin_ahead.specs.AnyProblem.{any_problem}
 use Rattle.lin_ahead.specs.FirstProgress.{IsFirstProgress}
 use Rattle.lin_ahead.proofs.first_search.FirstSearch.go.Given as goal
@@ -9,5 +11,5 @@ decreases-loop-self l = l.lifts - l.self.lifts
 abbrev pub invariant-loop-self : goal.invariant-loop-self
 invariant-loop-self l = record {
   problem : l.self.path.entries.problem ≡ l.fn.self.path.entries.problem;
-  progress : IsFirstProgress (any_problem l.self.path.entries.problem) l.self.refuted l.self.lifts l.self.path.entries.lifted l.self.path.frames.items l.self.path.config l.candidate;
+  progress : IsFirstProgress (any_problem l.self.path.entries.problem) l.self.refuted l.self.lifts l.self.path.entries.lifted (frames_of undone l.self.path.frames.items l.self.path.config.state) l.self.path.config l.candidate;
 }

@@ -1,8 +1,10 @@
 use Rattle.std.proofs.Common.{◌≡◌, length}
+use Rattle.lin_object.specs.Changes.{undone}
+use Rattle.lin_search.specs.Path.{frames_of}
 use Rattle.lin_ahead.specs.AnyProblem.{any_problem}
 use Rattle.lin_ahead.specs.FirstProgress.{IsFirstProgress, left_to_try}
 use Rattle.lin_search.specs.Progress.{bound}
-use Rattle.lin_ahead.proofs.first_search.FirstSearch.next_turn.Given as goal
+use Rattle.lin_ahead.proofs.first_search.FirstSearch.lift_next.Given as goal
 
 abbrev pub decreases-loop-next : goal.decreases-loop-next
 decreases-loop-next l =
@@ -12,5 +14,5 @@ abbrev pub invariant-loop-next : goal.invariant-loop-next
 invariant-loop-next l = record {
   problem : l.self.path.entries.problem ≡ l.fn.self.path.entries.problem;
   lifts : l.self.lifts ≡ l.fn.self.lifts;
-  progress : IsFirstProgress (any_problem l.self.path.entries.problem) l.self.refuted l.self.lifts l.self.path.entries.lifted l.self.path.frames.items l.self.path.config l.at;
+  progress : IsFirstProgress (any_problem l.self.path.entries.problem) l.self.refuted l.self.lifts l.self.path.entries.lifted (frames_of undone l.self.path.frames.items l.self.path.config.state) l.self.path.config l.at;
 }
