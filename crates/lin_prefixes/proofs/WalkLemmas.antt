@@ -1,5 +1,7 @@
 -- A run, followed call by call.
-use Rattle.std.proofs.Common.{◌≡◌, ℕ, zero, suc, ◌+◌, ◌<◌, ◌≤◌, Bool, List, [], ◌∷◌, ◌++◌, length, take, get_or, refl, sym, ◌∙◌, ap, subst, append_assoc, append-nil, arith}
+use Rattle.std.proofs.Common.{◌≡◌, ℕ, zero, suc, ◌+◌, ◌<◌, ◌≤◌, Bool, true, Option, Some, None, true≢false, List, [], ◌∷◌, ◌++◌, length, take, get_or, refl, sym, ◌∙◌, ap, subst, append_assoc, append-nil, arith}
+use Rattle.std.specs.Prelude.{IfSome}
+use Rattle.std.specs.Option.{is_some}
 use Rattle.lin_history.specs.Problems.Problem.{Problem}
 use Rattle.lin_history.specs.Problems.Continuations.{IsContinuation, no_calls}
 use Rattle.lin_history.specs.Problems.Configurations.{IsReachable}
@@ -17,6 +19,11 @@ take_all (c ∷ l) (suc i) h = ap (λ (x : List ℕ). c ∷ x) (take_all l i (om
 with_calls_last : (set : List Bool) (l : List ℕ) (c : ℕ) → with_calls set (l ++ c ∷ []) ≡ with_call (with_calls set l) c
 with_calls_last set [] c = refl
 with_calls_last set (d ∷ l) c = with_calls_last (with_call set d) l c
+
+-- what holds where the option has a value, where it has one
+pub where_some : {T : Type 0} (x : Option T) (b : Bool) (P : Type 0) → b ≡ is_some x → b ≡ true → IfSome x (λ v. P) → P
+where_some (Some v) b P is e h = h
+where_some None b P is e h = absurd (true≢false (sym e ∙ is))
 
 -- the set of the calls lifted, with one call more
 pub lifted_more : {State Op Reply : Type 0} (p : Problem State Op Reply) (lifted new : List ℕ) (c : ℕ) (set now : List Bool) → new ≡ lifted ++ c ∷ [] → lifted_set p lifted ≡ set → now ≡ with_call set c → lifted_set p new ≡ now

@@ -1,4 +1,4 @@
--- What a search tells of the problem of some of a problem's calls (this project's own).
+-- What a search shows of the problem of some of a problem's calls (this project's own).
 use Rattle.std.specs.Prelude.{ℕ, List}
 use Rattle.lin_history.specs.declared.problems.problem.ProblemCall.{ProblemCall}
 use Rattle.lin_history.specs.Problems.Lists.{IsLeast}
@@ -22,7 +22,7 @@ IsAnswerTo p (Found order) = IsLeast (IsLinearization p) order
 IsAnswerTo p Refuted = (l : List ℕ) → IsLinearization p l → ⊥
 IsAnswerTo p Unknown = Unit {0}
 
--- What the outcome of a search from the root tells.
+-- What the outcome of a search from the root shows.
 abbrev pub answer_of : Outcome → PartAnswer
 answer_of (outcomes.Found order) = Found order
 answer_of (outcomes.Refuted longest) = Refuted

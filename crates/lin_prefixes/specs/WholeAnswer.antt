@@ -1,4 +1,4 @@
--- What a search by prefixes tells of a problem (this project's own).
+-- What a search by prefixes shows of a problem (this project's own).
 use Rattle.std.specs.Prelude.{List, ℕ}
 use Rattle.lin_history.specs.Problems.Lists.{IsLeast}
 use Rattle.lin_history.specs.Problems.Problem.{Problem}

@@ -16,7 +16,7 @@ use crate::part_search::PartSearch;
 use lin_history::{Order, Problem};
 use lin_object::{SeqObject, lawful};
 use lin_parts::{fill, with_names};
-use lin_search::{Config, Frame, Longest, Path};
+use lin_search::{Config, Longest, Path};
 use std::alloc::{AllocError, Global};
 
 // Whether the call is left, and none that is left precedes it.
@@ -61,12 +61,7 @@ fn follow<O: SeqObject>(path: &mut Path<'_, O>, call: usize) -> Result<bool, All
     if !comes_next(path, call) {
         return Ok(false);
     }
-    let Some(state) = path.next_state(call)? else {
-        return Ok(false);
-    };
-    let mut frame = Frame::new(state, call, Longest::none());
-    path.lift(&mut frame)?;
-    Ok(true)
+    Ok(path.lift(call, Longest::none())?.is_some())
 }
 
 // Whether the calls are a run: `true` only where each can follow those before it.

@@ -1,7 +1,9 @@
 -- What the calls that a scout has tried tell of a configuration, and the way that it came.
 use Rattle.std.proofs.Common.{◌≡◌, ℕ, ◌+◌, ◌<◌, ◌≤◌, Bool, true, false, Option, Some, None, List, [], ◌∷◌, ◌++◌, length, ◌⊎◌, inl, inr, refl, sym, ◌∙◌, ap, subst, arith}
-use Rattle.std.specs.Prelude.{IfSome, IfNone, ◌-◌}
+use Rattle.std.specs.Prelude.{IfSome, IfNone, ◌-◌, map}
 use Rattle.std.proofs.lemmas.Bool.{cases_lt}
+use Rattle.lin_object.specs.StepBacks.{state_before}
+use Rattle.lin_object.specs.declared.step_back.Change.{Change}
 use Rattle.lin_history.specs.Problems.Problem.{Problem}
 use Rattle.lin_history.specs.Problems.Lists.{first_of}
 use Rattle.lin_history.specs.Problems.Continuations.{IsContinuation, IsCompletion, no_calls}
@@ -14,8 +16,8 @@ use Rattle.lin_search.specs.NextCall.{IsNext, HasEveryCompleted}
 use Rattle.lin_search.specs.Entries.{IsMinimal, IsLeastMinimal}
 use Rattle.lin_search.specs.Refutation.{IsRefutedWith}
 use Rattle.lin_search.specs.FirstCallLemmas.{continuation_split, continuation_join, none_continues, complete_none, tail_continues, tail_completes}
-use Rattle.lin_workers.specs.Scouting.{ComesBefore, WasTried, IsThrough, BeginsIn, IsSearchedBy, IsNextTurn, IsWithTurn, IsTurnAt, Turn, IsTrail, IsTrailTo, IsScouted, IsTurnFrom, turned}
-use Rattle.lin_search.specs.Path.{Frame}
+use Rattle.lin_workers.specs.Scouting.{ComesBefore, WasTried, IsThrough, BeginsIn, IsSearchedBy, IsNextTurn, IsWithTurn, IsTurnAt, Turn, KeptTurn, IsTrail, IsTrailTo, IsScouted, IsTurnFrom, turned, turn_of, turns_of}
+use Rattle.lin_search.specs.Path.{Frame, state_at}
 use Rattle.lin_workers.specs.declared.workers.scouts.Position.{Position}
 use Rattle.lin_search.proofs.ProgressLemmas.{room}
 use Rattle.lin_search.proofs.PathLemmas.{next_minimal, calls_more}
@@ -280,6 +282,26 @@ same_ends (a ∷ xs) (b ∷ ys) x y e =
     let r = same_ends xs ys x y (cc) in
     (rw (heads, r.0) refl, r.1)
 
+-- turns as a scout keeps them
+module _ {State : Type 0} (undone : Change → State → State) where
+  state_end : (ks : List (KeptTurn State)) (k : KeptTurn State) (t : State) → state_at undone (map (λ (k : KeptTurn State). k.frame) (ks ++ k ∷ [])) t ≡ state_at undone (map (λ (k : KeptTurn State). k.frame) ks) (state_before undone k.frame.back t)
+  state_end [] k t = refl
+  state_end (j ∷ ks) k t = ap (λ (s : State). state_before undone j.frame.back s) (state_end ks k t)
+
+  turns_end : (ks : List (KeptTurn State)) (k : KeptTurn State) (t : State) → turns_of undone (ks ++ k ∷ []) t ≡ turns_of undone ks (state_before undone k.frame.back t) ++ turn_of undone k t ∷ []
+  turns_end [] k t = refl
+  turns_end (j ∷ ks) k t = rw (state_end ks k t, turns_end ks k t) refl
+
+  -- one turn more, whose call led here
+  pub turns_split : (all ks : List (KeptTurn State)) (k : KeptTurn State) (t : State) → all ≡ ks ++ k ∷ [] → turns_of undone all t ≡ turns_of undone ks (state_before undone k.frame.back t) ++ turn_of undone k t ∷ []
+  turns_split all ks k t e = rw e (turns_end ks k t)
+
+  pub turns_same : (ks js : List (KeptTurn State)) (t u : State) → ks ≡ js → t ≡ u → turns_of undone ks t ≡ turns_of undone js u
+  turns_same ks js t u e s = rw (e, s) refl
+
+  pub none_kept : (ks : List (KeptTurn State)) (t : State) → ks ≡ [] → turns_of undone ks t ≡ []
+  none_kept ks t none = rw none refl
+
 config_is : {State : Type 0} (here : Configuration State) (set : List Bool) (s : State) → set ≡ here.lifted → s ≡ here.state → record { lifted = set; state = s } ≡ here
 config_is here set s a b = rw (a, b) refl
 
@@ -306,16 +328,16 @@ module _ {State Op Reply : Type 0} (p : Problem State Op Reply) where
   }
 
   -- a call was lifted
-  pub turn_lifted : (lifted new : List ℕ) (turns : List (Turn State)) (here there : Configuration State) (up : Bool) (f g : Frame State) → IsScouted p lifted turns here up f.longest (Some f.call) → IsNext p here.lifted here.state f.call f.state → new ≡ lifted ++ f.call ∷ [] → there.lifted ≡ with_call here.lifted f.call → there.state ≡ f.state → g ≡ record { state = here.state; call = f.call; longest = f.longest } → IsTurnFrom p new turns there (record { frame = g; up = up })
-  turn_lifted lifted new turns here there up f g k next last set state before = record {
-    set = calls_more p lifted new f.call here.lifted there.lifted last k.way.set set;
+  pub turn_lifted : (lifted new : List ℕ) (turns : List (Turn State)) (here there : Configuration State) (up : Bool) (longest : Longest) (c : ℕ) (f : Frame State) → IsScouted p lifted turns here up longest (Some c) → IsNext p here.lifted here.state c there.state → new ≡ lifted ++ c ∷ [] → there.lifted ≡ with_call here.lifted c → f ≡ record { state = here.state; call = c; longest = longest } → IsTurnFrom p new turns there (record { frame = f; up = up })
+  turn_lifted lifted new turns here there up longest c f k next last set before = record {
+    set = calls_more p lifted new c here.lifted there.lifted last k.way.set set;
     back = k.way.back;
     order = k.way.order;
-    trail = rw (before, state) (
+    trail = rw before (
       lifted,
       last,
       rw k.way.set next,
-      subst (λ (x : Configuration State). IsTurnAt p x up f.longest (Some f.call)) (sym (config_is here (lifted_set p lifted) here.state k.way.set refl)) k.at,
+      subst (λ (x : Configuration State). IsTurnAt p x up longest (Some c)) (sym (config_is here (lifted_set p lifted) here.state k.way.set refl)) k.at,
       k.way.trail,
     );
   }

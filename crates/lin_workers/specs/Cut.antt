@@ -36,12 +36,12 @@ abbrev pub AreTasks : {State Op Reply : Type 0} → Problem State Op Reply → �
 AreTasks p k [] = Unit {0}
 AreTasks p k (t ∷ ts) = IsTask p k t × AreTasks p k ts
 
--- The list stands before the path of each task.
+-- The list comes before the path of each task.
 abbrev pub IsBeforeEach : {State : Type 0} → List ℕ → List (Task State) → Type 0
 IsBeforeEach l [] = Unit {0}
 IsBeforeEach l (t ∷ ts) = (IsUpTo l t.path × (l ≡ t.path → ⊥)) × IsBeforeEach l ts
 
--- The tasks stand in lexicographic order of their paths, none twice.
+-- The tasks are in lexicographic order of their paths, none twice.
 abbrev pub AreInOrder : {State : Type 0} → List (Task State) → Type 0
 AreInOrder [] = Unit {0}
 AreInOrder (t ∷ ts) = IsBeforeEach t.path ts × AreInOrder ts

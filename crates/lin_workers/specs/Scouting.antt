@@ -1,6 +1,7 @@
 -- A search that tries the calls of each configuration upwards or downwards, as it likes (this project's own).
-use Rattle.std.specs.Prelude.{◌≡◌, ℕ, ◌+◌, ◌<◌, ◌≤◌, Bool, true, false, Option, Some, None, List, [], ◌∷◌, ◌++◌, ◌⊎◌, IfSome}
+use Rattle.std.specs.Prelude.{◌≡◌, ℕ, ◌+◌, ◌<◌, ◌≤◌, Bool, true, false, Option, Some, None, List, [], ◌∷◌, ◌++◌, ◌⊎◌, IfSome, map}
 use Rattle.std.proofs.Common.{ControlFlow, Continue, Break}
+use Rattle.lin_object.specs.declared.step_back.Change.{Change}
 use Rattle.lin_history.specs.Problems.Problem.{Problem}
 use Rattle.lin_history.specs.Problems.Lists.{IsLongest}
 use Rattle.lin_history.specs.Problems.Continuations.{IsContinuation, IsCompletion}
@@ -10,7 +11,7 @@ use Rattle.lin_search.specs.Configuration.{Configuration}
 use Rattle.lin_search.specs.CallSet.{lifted_set}
 use Rattle.lin_search.specs.NextCall.{IsNext}
 use Rattle.lin_search.specs.Entries.{IsMinimal}
-use Rattle.lin_search.specs.Path.{Frame}
+use Rattle.lin_search.specs.Path.{Frame, KeptFrame, frame_of, state_at}
 use Rattle.lin_workers.specs.declared.workers.scouts.Position.{Position}
 
 -- Call d is tried before call c: upwards the smaller one, downwards the greater.
@@ -64,6 +65,21 @@ pub record IsTurnAt {State Op Reply : Type 0} (p : Problem State Op Reply) (here
 pub record Turn (State : Type 0) : Type 0 where
   pub frame : Frame State
   pub up : Bool
+
+-- A turn as a scout keeps it: with what takes its call's step back in place of the state before.
+pub record KeptTurn (State : Type 0) : Type 0 where
+  pub frame : KeptFrame State
+  pub up : Bool
+
+-- The turn, where its call led to this state.
+abbrev pub turn_of : {State : Type 0} → (Change → State → State) → KeptTurn State → State → Turn State
+turn_of undone turn t = record { frame = frame_of undone turn.frame t; up = turn.up }
+
+-- The turns, where the last one's call led to this state.
+abbrev pub turns_of : {State : Type 0} → (Change → State → State) → List (KeptTurn State) → State → List (Turn State)
+turns_of undone [] t = []
+turns_of {State} undone (turn ∷ turns) t =
+    turn_of undone turn (state_at undone (map (λ (k : KeptTurn State). k.frame) turns) t) ∷ turns_of undone turns t
 
 -- The list from its end.
 abbrev pub turned : {A : Type 0} → List A → List A

@@ -40,7 +40,7 @@ found_of [] = []
 found_of (v ∷ vs) = if_found v.0 v.1 ++ found_of vs
 
 -- What a worker brings: values of tasks that its seat claimed, of none two, and the seat told the board of those found alone. What
--- the seat had claimed before stands in front of its claims.
+-- the seat had claimed before comes in front of its claims.
 pub record HasBrought {State Op Reply : Type 0} (p : Problem State Op Reply) (ts : List (Task State)) (limit : Option ℕ) (old new : SeatFacts) (vs : List (ℕ × Outcome)) : Type 0 where
   pub values : AreValues p ts limit new vs
   pub once : IsDistinct (tasks_of vs)

@@ -1,12 +1,13 @@
 //! A scout: a search that only refutes, and tries the calls of each configuration in an order of its own.
 ghost use Rattle.std.specs.Prelude.{◌≡◌, ℕ, ◌<◌, ◌≤◌, Some, None, [], IfOk, IfSome, IfNone, IsTrue};
+ghost use Rattle.lin_object.specs.StepBacks.{state_before};
 ghost use Rattle.lin_history.specs.Problems.Problem.{problem_of};
 ghost use Rattle.lin_history.specs.Problems.Configurations.{IsReachable};
-ghost use Rattle.lin_search.specs.CallSet.{with_call, lifted_set};
+ghost use Rattle.lin_search.specs.CallSet.{lifted_set};
 ghost use Rattle.lin_search.specs.Entries.{IsMinimal};
-ghost use Rattle.lin_search.specs.NextCall.{IsNext, HasEveryCompleted};
+ghost use Rattle.lin_search.specs.NextCall.{HasEveryCompleted};
 ghost use Rattle.lin_search.specs.Refutation.{IsRefutedWith};
-ghost use Rattle.lin_workers.specs.Scouting.{IsNextTurn, IsThrough, IsScouted, IsScoutStep, IsTurnFrom, IsWithTurn};
+ghost use Rattle.lin_workers.specs.Scouting.{IsNextTurn, IsThrough, IsScouted, IsScoutStep, IsTurnFrom, IsWithTurn, turn_of, turns_of};
 
 use lin_history::{MAX_CALLS_ON_OBJECT, Problem};
 use lin_object::{SeqObject, lawful};
@@ -32,9 +33,9 @@ struct Turn<O: SeqObject> {
 }
 
 impl<O: SeqObject> Model for Turn<O> {
-    ghost use Rattle.lin_workers.specs.Scouting.{Turn};
+    ghost use Rattle.lin_workers.specs.Scouting.{KeptTurn};
 
-    ghost Value = { Turn O.State };
+    ghost Value = { KeptTurn O.State };
 
     ghost view = { λ t. record { frame = t.frame; up = t.is_up } };
 }
@@ -57,17 +58,13 @@ impl<'p, O: SeqObject> Walk<'p, O> {
     }
 
     // Goes back before the frame's call, which was lifted last and led to a configuration that is refuted with this
-    // longest. The state of that configuration comes into the frame.
-    fn leave(
-        &mut self,
-        frame: &mut Frame<O>,
-        is_up: bool,
-        deep: Longest,
-    ) -> Result<Position, AllocError>
+    // longest.
+    fn leave(&mut self, frame: Frame<O>, is_up: bool, deep: Longest) -> Result<Position, AllocError>
         requires turn { IsTurnFrom
             (problem_of O.after O.State.eq O.Reply.eq self.old.path.entries.problem)
-            self.old.path.entries.lifted self.old.turns.items self.old.path.config
-            (record { frame = frame.old; up = is_up }) }
+            self.old.path.entries.lifted (turns_of O.undone self.old.turns.items
+            (state_before O.undone frame.back self.old.path.config.state)) self.old.path.config
+            (turn_of O.undone (record { frame = frame; up = is_up }) self.old.path.config.state) }
         requires refuted { IsRefutedWith
             (problem_of O.after O.State.eq O.Reply.eq self.old.path.entries.problem)
             self.old.path.config.lifted self.old.path.config.state deep }
@@ -75,23 +72,24 @@ impl<'p, O: SeqObject> Walk<'p, O> {
         ensures named { self.new.is_for_problem ≡ self.old.is_for_problem }
         ensures scouted { IfOk result (λ at. IsScouted
             (problem_of O.after O.State.eq O.Reply.eq self.old.path.entries.problem)
-            self.new.path.entries.lifted self.new.turns.items self.new.path.config at.is_up
-            at.longest at.candidate) }
-        ensures state { IfOk result (λ at. frame.new.state ≡ self.old.path.config.state) }
+            self.new.path.entries.lifted (turns_of O.undone self.new.turns.items
+            self.new.path.config.state) self.new.path.config at.is_up at.longest at.candidate) }
     {
         let calls = self.path.problem().calls().len();
         prove!(calls <= MAX_CALLS_ON_OBJECT);
+        let call = frame.call();
+        let longest = with_turn(&frame, is_up, deep);
         self.path.unlift(frame)?;
-        let longest = with_turn(frame, is_up, deep);
-        Ok(after(self.path.entries(), is_up, frame.call(), longest))
+        Ok(after(self.path.entries(), is_up, call, longest))
     }
 
     // Goes on from the configuration that the frame's call, which was lifted last, led to, and will come back to the frame.
     fn descend(&mut self, frame: Frame<O>, is_up: bool) -> Result<Position, AllocError>
         requires turn { IsTurnFrom
             (problem_of O.after O.State.eq O.Reply.eq self.old.path.entries.problem)
-            self.old.path.entries.lifted self.old.turns.items self.old.path.config
-            (record { frame = frame; up = is_up }) }
+            self.old.path.entries.lifted (turns_of O.undone self.old.turns.items
+            (state_before O.undone frame.back self.old.path.config.state)) self.old.path.config
+            (turn_of O.undone (record { frame = frame; up = is_up }) self.old.path.config.state) }
         requires reachable { IsReachable
             (problem_of O.after O.State.eq O.Reply.eq self.old.path.entries.problem)
             self.old.path.config.lifted self.old.path.config.state }
@@ -102,8 +100,8 @@ impl<'p, O: SeqObject> Walk<'p, O> {
         ensures named { self.new.is_for_problem ≡ self.old.is_for_problem }
         ensures scouted { IfOk result (λ at. IsScouted
             (problem_of O.after O.State.eq O.Reply.eq self.old.path.entries.problem)
-            self.new.path.entries.lifted self.new.turns.items self.new.path.config at.is_up
-            at.longest at.candidate) }
+            self.new.path.entries.lifted (turns_of O.undone self.new.turns.items
+            self.new.path.config.state) self.new.path.config at.is_up at.longest at.candidate) }
     {
         self.turns.push(Turn { frame, is_up })?;
         Ok(enter(self.path.entries(), self.is_up_here()))
@@ -121,8 +119,9 @@ impl<'p, O: SeqObject> Walk<'p, O> {
             → M.is_of memo.old self.old.path.entries.problem }
         requires turn { IsTurnFrom
             (problem_of O.after O.State.eq O.Reply.eq self.old.path.entries.problem)
-            self.old.path.entries.lifted self.old.turns.items self.old.path.config
-            (record { frame = frame; up = is_up }) }
+            self.old.path.entries.lifted (turns_of O.undone self.old.turns.items
+            (state_before O.undone frame.back self.old.path.config.state)) self.old.path.config
+            (turn_of O.undone (record { frame = frame; up = is_up }) self.old.path.config.state) }
         requires reachable { IsReachable
             (problem_of O.after O.State.eq O.Reply.eq self.old.path.entries.problem)
             self.old.path.config.lifted self.old.path.config.state }
@@ -133,7 +132,8 @@ impl<'p, O: SeqObject> Walk<'p, O> {
         ensures named { self.new.is_for_problem ≡ self.old.is_for_problem }
         ensures step { IfOk result (λ step. IsScoutStep
             (problem_of O.after O.State.eq O.Reply.eq self.old.path.entries.problem)
-            self.new.path.entries.lifted self.new.turns.items self.new.path.config step) }
+            self.new.path.entries.lifted (turns_of O.undone self.new.turns.items
+            self.new.path.config.state) self.new.path.config step) }
         ensures changes { M.changes memo.old memo.new }
     {
         let known = look_at(
@@ -143,43 +143,36 @@ impl<'p, O: SeqObject> Walk<'p, O> {
             self.is_for_problem,
         );
         match known {
-            Some(deep) => {
-                let mut left = frame;
-                Ok(ControlFlow::Continue(self.leave(&mut left, is_up, deep)?))
-            }
+            Some(deep) => Ok(ControlFlow::Continue(self.leave(frame, is_up, deep)?)),
             None => Ok(ControlFlow::Continue(self.descend(frame, is_up)?)),
         }
     }
 
-    // Lifts the frame's call, which leads to the frame's state, and goes on from there. The scout ends where that is
-    // complete.
+    // Goes on where the frame's call was lifted last. The scout ends where the configuration is complete.
     fn visit<M: Memo<O>>(
         &mut self,
-        next: Frame<O>,
+        frame: Frame<O>,
         is_up: bool,
         memo: &mut M,
     ) -> Result<ControlFlow<(), Position>, AllocError>
         requires of { IsTrue self.old.is_for_problem
             → M.is_of memo.old self.old.path.entries.problem }
-        requires scouted { IsScouted
+        requires turn { IsTurnFrom
             (problem_of O.after O.State.eq O.Reply.eq self.old.path.entries.problem)
-            self.old.path.entries.lifted self.old.turns.items self.old.path.config is_up
-            next.longest (Some next.call) }
-        requires next { IsNext
-            (problem_of O.after O.State.eq O.Reply.eq self.old.path.entries.problem)
-            self.old.path.config.lifted self.old.path.config.state next.call next.state }
+            self.old.path.entries.lifted (turns_of O.undone self.old.turns.items
+            (state_before O.undone frame.back self.old.path.config.state)) self.old.path.config
+            (turn_of O.undone (record { frame = frame; up = is_up }) self.old.path.config.state) }
         requires reachable { IsReachable
             (problem_of O.after O.State.eq O.Reply.eq self.old.path.entries.problem)
-            (with_call self.old.path.config.lifted next.call) next.state }
+            self.old.path.config.lifted self.old.path.config.state }
         ensures problem { self.new.path.entries.problem ≡ self.old.path.entries.problem }
         ensures named { self.new.is_for_problem ≡ self.old.is_for_problem }
         ensures step { IfOk result (λ step. IsScoutStep
             (problem_of O.after O.State.eq O.Reply.eq self.old.path.entries.problem)
-            self.new.path.entries.lifted self.new.turns.items self.new.path.config step) }
+            self.new.path.entries.lifted (turns_of O.undone self.new.turns.items
+            self.new.path.config.state) self.new.path.config step) }
         ensures changes { M.changes memo.old memo.new }
     {
-        let mut frame = next;
-        self.path.lift(&mut frame)?;
         if self.path.is_complete() {
             return Ok(ControlFlow::Break(()));
         }
@@ -199,24 +192,25 @@ impl<'p, O: SeqObject> Walk<'p, O> {
             → M.is_of memo.old self.old.path.entries.problem }
         requires scouted { IsScouted
             (problem_of O.after O.State.eq O.Reply.eq self.old.path.entries.problem)
-            self.old.path.entries.lifted self.old.turns.items self.old.path.config at.is_up
-            at.longest (Some call) }
+            self.old.path.entries.lifted (turns_of O.undone self.old.turns.items
+            self.old.path.config.state) self.old.path.config at.is_up at.longest (Some call) }
         ensures problem { self.new.path.entries.problem ≡ self.old.path.entries.problem }
         ensures named { self.new.is_for_problem ≡ self.old.is_for_problem }
         ensures step { IfOk result (λ step. IsScoutStep
             (problem_of O.after O.State.eq O.Reply.eq self.old.path.entries.problem)
-            self.new.path.entries.lifted self.new.turns.items self.new.path.config step) }
+            self.new.path.entries.lifted (turns_of O.undone self.new.turns.items
+            self.new.path.config.state) self.new.path.config step) }
         ensures changes { M.changes memo.old memo.new }
         ensures stop { S.follows stop.old stop.new }
     {
-        let Some(state) = self.path.next_state(call)? else {
+        let Some(frame) = self.path.lift(call, at.longest)? else {
             let next = after(self.path.entries(), at.is_up, call, at.longest);
             return Ok(ControlFlow::Continue(next));
         };
         if stop.ask().is_some() {
             return Ok(ControlFlow::Break(()));
         }
-        self.visit(Frame::new(state, call, at.longest), at.is_up, memo)
+        self.visit(frame, at.is_up, memo)
     }
 
     // Goes back from a configuration all of whose calls were tried, and which is so refuted with this longest: hands it to
@@ -230,24 +224,24 @@ impl<'p, O: SeqObject> Walk<'p, O> {
             → M.is_of memo.old self.old.path.entries.problem }
         requires scouted { IsScouted
             (problem_of O.after O.State.eq O.Reply.eq self.old.path.entries.problem)
-            self.old.path.entries.lifted self.old.turns.items self.old.path.config at.is_up
-            at.longest None }
+            self.old.path.entries.lifted (turns_of O.undone self.old.turns.items
+            self.old.path.config.state) self.old.path.config at.is_up at.longest None }
         ensures problem { self.new.path.entries.problem ≡ self.old.path.entries.problem }
         ensures named { self.new.is_for_problem ≡ self.old.is_for_problem }
         ensures step { IfOk result (λ step. IsScoutStep
             (problem_of O.after O.State.eq O.Reply.eq self.old.path.entries.problem)
-            self.new.path.entries.lifted self.new.turns.items self.new.path.config step) }
+            self.new.path.entries.lifted (turns_of O.undone self.new.turns.items
+            self.new.path.config.state) self.new.path.config step) }
         ensures changes { M.changes memo.old memo.new }
     {
+        lawful::<O>();
         let Some(turn) = self.turns.pop() else {
             return Ok(ControlFlow::Break(()));
         };
         let Turn { frame, is_up } = turn;
-        let lifted = self.path.config().lifted().copy(self.alloc)?;
-        let mut frame = frame;
-        let next = self.leave(&mut frame, is_up, at.longest)?;
-        let refuted = Config::from_parts(lifted, frame.into_state());
         let problem = self.path.problem();
+        let refuted = self.path.config().copy(self.alloc, problem)?;
+        let next = self.leave(frame, is_up, at.longest)?;
         note_at(problem, refuted, at.longest, memo, self.is_for_problem);
         Ok(ControlFlow::Continue(next))
     }
@@ -263,13 +257,14 @@ impl<'p, O: SeqObject> Walk<'p, O> {
             → M.is_of memo.old self.old.path.entries.problem }
         requires scouted { IsScouted
             (problem_of O.after O.State.eq O.Reply.eq self.old.path.entries.problem)
-            self.old.path.entries.lifted self.old.turns.items self.old.path.config at.is_up
-            at.longest at.candidate }
+            self.old.path.entries.lifted (turns_of O.undone self.old.turns.items
+            self.old.path.config.state) self.old.path.config at.is_up at.longest at.candidate }
         ensures problem { self.new.path.entries.problem ≡ self.old.path.entries.problem }
         ensures named { self.new.is_for_problem ≡ self.old.is_for_problem }
         ensures step { IfOk result (λ step. IsScoutStep
             (problem_of O.after O.State.eq O.Reply.eq self.old.path.entries.problem)
-            self.new.path.entries.lifted self.new.turns.items self.new.path.config step) }
+            self.new.path.entries.lifted (turns_of O.undone self.new.turns.items
+            self.new.path.config.state) self.new.path.config step) }
         ensures changes { M.changes memo.old memo.new }
         ensures stop { S.follows stop.old stop.new }
     {

@@ -26,9 +26,9 @@ use lin_table::{Hand, SharedMemo, Table};
 use std::alloc::Global;
 
 /// Claims tasks of a cut and searches each over the table, until all are claimed. A task's value is the outcome of its
-/// search, within the limit where one is given; the search is stopped where the board tells of a smaller task that was
+/// search, within the limit where one is given; the search is stopped where the board shows a smaller task that was
 /// found. A task whose search or whose value was refused memory has no value, and the worker goes on. The gate is entered
-/// after each claim, and may wait. What the hand had stored stands in front of what it has stored then, and what the seat had
+/// after each claim, and may wait. What the hand had stored comes in front of what it has stored then, and what the seat had
 /// claimed in front of its claims.
 ///
 /// Conditions: the tasks are a cut of the problem, and the board has as many; the hand came with the table and the seat with

@@ -1,8 +1,6 @@
-use Rattle.std.proofs.Common.{◌≡◌, ap, subst}
+use Rattle.std.proofs.Common.{◌≡◌, ap}
 use Rattle.std.proofs.lemmas.List.Elements.{All-weaker}
 use Rattle.lin_table.specs.Hand.{HandFacts, IsHandOf, new_hand}
-use Rattle.lin_history.specs.Problems.Problem.{problem_of}
-use Rattle.lin_search.specs.Count.{HasReachable}
 use Rattle.lin_workers.proofs.check.check_over_table.Goals as goal
 
 pub verdict_by_hands-verdict-requires-clause-hands : goal.verdict_by_hands-verdict-requires-clause-hands
