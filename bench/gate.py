@@ -1,9 +1,9 @@
 #!/usr/bin/env python3
 """Runs the gate and tells what it took, crate by crate: the seconds of processor time of proofs, edits and tests.
 
-    bench/gate.py
+    bench/gate.py [CRATE]..
 
-Runs `rt ci`, and twice a second reads the processor time of the processes `rattle` below it. The second check of a crate, over which its edits are tried, counts as edits.
+Runs `rt ci`, for these crates alone where any are named, and twice a second reads the processor time of the processes `rattle` below it. The second check of a crate, over which its edits are tried, counts as edits.
 """
 import collections
 import os
@@ -52,7 +52,7 @@ def part_of(pid):
 
 def main():
     began, parts, seconds = time.monotonic(), {}, {}
-    gate = subprocess.Popen(["rt", "ci"])
+    gate = subprocess.Popen(["rt", "ci", *sys.argv[1:]])
     while gate.poll() is None:
         found = parents()
         for pid, (_, used) in found.items():

@@ -365,12 +365,29 @@ def many_keys_refuted(processes, keys, tenths):
     return lambda calls: lines("m", "map", with_impossible_reply(simulated(Map(keys, even), processes, calls), "get", tenths))
 
 
-def own_keys(calls):
-    """A put of a key of its own each, in turn."""
-    yield declared("m", "map")
-    for key in range(calls):
-        yield call(1, "m", "put", (key, key))
-        yield returned(1, "m", OKAY)
+def own_keys(maps):
+    def history(calls):
+        """A put of a key of its own each, in turn, over so many maps."""
+        names = ["m%d" % number for number in range(maps)]
+        for name in names:
+            yield declared(name, "map")
+        for key in range(calls):
+            name = names[key % maps]
+            yield call(1, name, "put", (key, key))
+            yield returned(1, name, OKAY)
+
+    return history
+
+
+def own_items(kind, operation, reply=OKAY):
+    def history(calls):
+        """So many calls of one process in turn, with an item of its own each."""
+        yield declared("x", kind)
+        for item in range(calls):
+            yield call(1, "x", operation, item)
+            yield returned(1, "x", reply)
+
+    return history
 
 
 def maps_refuted(calls):
@@ -558,7 +575,11 @@ FAMILIES = {
         for keys in (10, 100, 1000)
     },
     "map_64_10": Family("a map of 10 keys, 64 processes", "calls", MORE_CALLS[-1:], 0, many_keys(Map, 64, 10)),
-    "own_keys": Family("a map, a put of a key of its own each, in turn", "calls", MORE_CALLS[-1:], 0, own_keys),
+    "own_keys": Family("a map, a put of a key of its own each, in turn", "calls", MORE_CALLS[-1:], 0, own_keys(1)),
+    "own_keys_16": Family("the same on 16 maps", "calls", ALL_CALLS[-1:], 0, own_keys(16)),
+    "own_enqueues": Family("a queue, an enqueue of an item of its own each, in turn", "calls", MORE_CALLS[-1:], 0, own_items("queue", "enq")),
+    "own_pushes": Family("the same of a stack", "calls", MORE_CALLS[-1:], 0, own_items("stack", "push")),
+    "own_additions": Family("the same of a set", "calls", MORE_CALLS[-1:], 0, own_items("set", "add", "true")),
     "backlog_32_no": Family("a queue filled to 32 items and emptied, two results swapped", "calls", BACKLOG_CALLS, 1, backlog_swapped(FilledQueue, 32)),
     "stack_backlog_32_no": Family("the same of a stack", "calls", BACKLOG_CALLS, 1, backlog_swapped(FilledStack, 32)),
     "backlog_32_twice": Family("a queue filled to 32 items and emptied, one item taken twice", "calls", BACKLOG_CALLS, 1, backlog_taken_twice(FilledQueue, 32)),
