@@ -65,6 +65,6 @@ next_lines name calls run lines [] = []
 next_lines name calls run lines (n ∷ ns) = lines_of name calls run lines n ++ next_lines name calls run lines ns
 
 -- The state after the run, of a map with the keys that the next calls ask for alone, and the calls that could come next, where
--- the events stand on these lines.
+-- the events are on these lines.
 abbrev pub explanation_text : List ℕ → List (ProblemCall Op Reply) → List ℕ → List ℕ → ObjState → List NextCall → List ℕ
 explanation_text name calls run lines state next = state_line name (keys_with calls [] next) state ++ next_lines name calls run lines next

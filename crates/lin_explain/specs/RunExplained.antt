@@ -27,7 +27,7 @@ number_in h placed = number_at h placed.call (slice_get h.calls placed.call)
 abbrev pub object_name : RecordedHistory → ℕ → List ℕ
 object_name h object = option_map_or (λ o. o.name) (slice_get h.objects object) []
 
--- These bytes tell why a run of the object's calls ends, where the events of the history stand on these lines: the state after the
+-- These bytes say why a run of the object's calls ends, where the events of the history are on these lines: the state after the
 -- run, and the calls that could come next, each with what it would answer there.
 pub record IsExplainedBy (h : RecordedHistory) (object : ℕ) (run lines bytes : List ℕ) : Type 0 where
   pub state : ObjState

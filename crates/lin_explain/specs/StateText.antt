@@ -7,7 +7,7 @@ use Rattle.lin_object.specs.declared.state.ObjState.TheVariants.{Register, Count
 use Rattle.lin_object.specs.Pairs.{value_at}
 use Rattle.lin_explain.specs.declared.state_text.TheConstants.{MAX_SHOWN}
 
--- Items that stand behind others, a comma before each.
+-- Items that come after others, a comma before each.
 abbrev pub behind : List ℤ → List ℕ
 behind [] = []
 behind (v ∷ vs) = codes ", " ++ signed_decimal v ++ behind vs
@@ -21,7 +21,7 @@ joined (v ∷ vs) = signed_decimal v ++ behind vs
 abbrev pub pair_text : Pair → List ℕ
 pair_text pair = signed_decimal pair.key ++ codes ": " ++ signed_decimal pair.value
 
--- Pairs that stand behind others, a comma before each.
+-- Pairs that come after others, a comma before each.
 abbrev pub behind_pairs : List Pair → List ℕ
 behind_pairs [] = []
 behind_pairs (p ∷ ps) = codes ", " ++ pair_text p ++ behind_pairs ps

@@ -1,5 +1,5 @@
 -- How the calls are shown that put or took what a call asks for, and the call since which a mutex is held, each with the lines of
--- the input on which its events stand (this project's own).
+-- the input on which its events are (this project's own).
 use Rattle.std.specs.Prelude.{ℕ, ℤ, ◌-◌, ◌==◌, ◌++◌, nat_le, Bool, true, false, Option, Some, None, unwrap_or, List, [], ◌∷◌, codes, length, take, slice_get, if◌then◌else◌}
 use Rattle.std.specs.List.{list_any}
 use Rattle.std.specs.Fmt.{decimal, signed_decimal}

@@ -1,4 +1,4 @@
--- What a write of the standard library tells of the piece that it was given (this project's own).
+-- What a write of the standard library says of the piece that it was given (this project's own).
 use Rattle.std.specs.Prelude.{ℕ, zero, suc, List, [], ◌∷◌, Option, Some, None, Result, Ok, Err}
 
 -- How many bytes of the piece were taken: a write that took none of a piece that is not empty has failed.

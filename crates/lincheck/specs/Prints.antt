@@ -67,7 +67,7 @@ pub record PrintsEach (options : Options) (h : RecordedHistory) (status : Status
   pub print : WithStats options.stats h (length h.objects) (status_lines h 0 statuses) printed
 
 -- What a history that a text means prints in this form: its report; its report, with why the longest run ends and on which lines
--- of the text the calls stand; or a line for each object.
+-- of the text the calls are; or a line for each object.
 abbrev pub PrintsHistory : Options → AnswerForm → List ℕ → RecordedHistory → Status → List ℕ → Type 0
 PrintsHistory options Report text h status printed = PrintsWith options None h status printed
 PrintsHistory options Explained text h status printed = (lines : List ℕ) × AreEventLines text h.events lines × PrintsWith options (Some lines) h status printed
@@ -81,7 +81,7 @@ Prints options form text No printed = (h : RecordedHistory) × MeansHistory text
 Prints options form text Undecided printed = (h : RecordedHistory) × MeansHistory text h × PrintsHistory options form text h Undecided printed
 Prints options form text Refused printed = PrintsRefused text printed
 
--- The status that tells a verdict.
+-- The status of a verdict.
 abbrev pub status_of : Verdict → Status
 status_of (verdicts.Yes l) = Yes
 status_of (verdicts.No object run) = No

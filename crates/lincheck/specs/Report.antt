@@ -18,7 +18,7 @@ name_of h object = option_map_or (λ o. o.name) (slice_get h.objects object) []
 abbrev pub call_text : RecordedHistory → Call Op Reply → List ℕ
 call_text h c = decimal c.process ++ codes " " ++ name_of h c.object ++ codes " " ++ op_text c.op
 
--- What tells that a call is pending in the history.
+-- What says that a call is pending in the history.
 abbrev pub mark_of : Option (ℕ × Reply) → List ℕ
 mark_of None = codes " completed"
 mark_of (Some r) = []
@@ -58,7 +58,7 @@ name_line h object = codes "not linearizable: " ++ name_of h object ++ codes "\n
 abbrev pub undecided_report : RecordedHistory → ℕ → List ℕ
 undecided_report h object = codes "undecided: " ++ name_of h object ++ codes "\n"
 
--- The line that tells the length of a run, and how many calls its object has.
+-- The line that gives the length of a run, and how many calls its object has.
 abbrev pub length_line : RecordedHistory → ℕ → List (Placed Reply) → List ℕ
 length_line h object run = codes "longest run: " ++ decimal (length run) ++ codes " of " ++ decimal (length (calls_on h object)) ++ codes " calls\n"
 
@@ -66,7 +66,7 @@ length_line h object run = codes "longest run: " ++ decimal (length run) ++ code
 abbrev pub no_report : RecordedHistory → ℕ → List (Placed Reply) → List ℕ
 no_report h object run = name_line h object ++ length_line h object run ++ call_lines h 1 run
 
--- The line that tells how many configurations were stored.
+-- The line that says how many configurations were stored.
 abbrev pub stored_line : Option ℕ → List ℕ
 stored_line (Some stored) = codes "stored " ++ decimal stored ++ codes "\n"
 stored_line None = codes "stored unknown\n"

@@ -33,7 +33,7 @@ const ENOUGH: usize = MAX_INPUT_BYTES + 1;
 // How many bytes one read asks for.
 const PIECE: usize = 65536;
 
-// Reads the source to its end, or until `ENOUGH` bytes stand, in at most so many reads.
+// Reads the source to its end, or until `ENOUGH` bytes are there, in at most so many reads.
 fn read_text<S: Source>(alloc: Global, source: &mut S) -> Result<Vec<u8>, RunFault>
     requires { S.failed source.old ≡ false }
     ensures text { IfOk result (λ read. IfSome (S.remaining source.old)

@@ -19,7 +19,7 @@ IsAnswerTo p (Found order) = IsLeast (IsLinearization p) order
 IsAnswerTo p Refuted = (l : List ℕ) → IsLinearization p l → ⊥
 IsAnswerTo p Unknown = Unit {0}
 
--- What the outcome of a search from the root tells.
+-- What the outcome of a search from the root shows.
 abbrev pub answer_of : Outcome → PartAnswer
 answer_of (outcomes.Found order) = Found order
 answer_of (outcomes.Refuted longest) = Refuted
