@@ -13,6 +13,7 @@ pub record Options : Type 0 where
   pub limit : Option ℕ
   pub stats : Bool
   pub seconds : Option ℕ
+  pub progress : Bool
 
 -- The number is from 1 to the greatest.
 abbrev pub IsUpTo : ℕ → ℕ → Type 0
@@ -60,6 +61,7 @@ with_seconds seconds o = unless (first_that_holds ((is_time_outside seconds, Sec
   limit = o.limit;
   stats = o.stats;
   seconds = seconds;
+  progress = o.progress;
 })
 
 -- Within which bounds an object is searched.
@@ -74,4 +76,16 @@ with_at_most most o = record {
   limit = o.limit;
   stats = o.stats;
   seconds = o.seconds;
+  progress = o.progress;
+}
+
+-- Options for a check that shows how far it has come, or does not.
+abbrev pub with_progress : Bool → Options → Options
+with_progress progress o = record {
+  workers = o.workers;
+  shards = o.shards;
+  limit = o.limit;
+  stats = o.stats;
+  seconds = o.seconds;
+  progress = progress;
 }

@@ -5,7 +5,8 @@ use lin_search::Stop;
 use std::alloc::AllocError;
 use std::marker::Model;
 
-/// What knows when the time for a search is up. It is asked every few thousand lifts, by each thread that searches.
+/// What knows when the time for a search is up, and is told what was done. It is asked and told every few thousand lifts, by each
+/// thread that searches. What it is told is a hint: it need not do anything with it.
 pub trait Watcher: Sync {
     // After how many seconds a search ends, where that is bounded.
     ghost seconds: { Self → Option ℕ };
@@ -17,6 +18,23 @@ pub trait Watcher: Sync {
     /// Whether the time is up: never, where it is not bounded.
     fn is_up(&self) -> bool
         ensures { IsTrue result → IsSome (seconds self.now) };
+
+    /// Whether what was stored is shown while the search goes on: else `add_stored` need not be called.
+    fn is_shown(&self) -> bool {
+        false
+    }
+
+    /// The object of this index, which has so many calls, is searched from now on, by one thread.
+    fn begin(&self, _object: usize, _calls: usize) {}
+
+    /// So many workers share the search from now on.
+    fn share(&self, _workers: usize) {}
+
+    /// So many more calls were tried.
+    fn add_tried(&self, _more: u64) {}
+
+    /// So many more configurations were stored, and a run of so many calls was looked at.
+    fn add_stored(&self, _more: u64, _run: u64) {}
 }
 
 /// The watcher of a search that may take any time.
@@ -66,7 +84,7 @@ impl<'a, W: Watcher> Bounds<'a, W> {
     }
 
     /// What knows when the time is up.
-    pub(crate) fn watcher(&self) -> &'a W
+    pub fn watcher(&self) -> &'a W
         ensures { W.seconds result.now ≡ self.now.seconds }
     {
         self.watcher

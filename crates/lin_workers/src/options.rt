@@ -1,6 +1,6 @@
 //! How a check is run.
-ghost use Rattle.std.specs.Prelude.{◌≡◌, IfSome, None};
-ghost use Rattle.lin_workers.specs.Options.{IsUpTo, is_outside, is_limit_outside, is_time_outside, options_made, with_at_most, with_seconds};
+ghost use Rattle.std.specs.Prelude.{◌≡◌, false, IfSome, None};
+ghost use Rattle.lin_workers.specs.Options.{IsUpTo, is_outside, is_limit_outside, is_time_outside, options_made, with_at_most, with_progress, with_seconds};
 
 use std::marker::Model;
 
@@ -17,8 +17,8 @@ pub const MAX_LIMIT: u64 = 1_000_000_000_000;
 pub const MAX_SECONDS: u64 = 86_400;
 
 /// How a check is run: by how many workers, with how many shards, with which limit on the lifts of each search,
-/// whether it shows how many configurations were stored, and after how many seconds it ends. The type keeps each within its
-/// range.
+/// whether it shows how many configurations were stored, after how many seconds it ends, and whether it shows how far it has come
+/// while it goes on. The type keeps each within its range.
 #[derive(Clone, Copy, PartialEq, Eq, Debug)]
 pub struct Options {
     workers: u64,
@@ -26,6 +26,7 @@ pub struct Options {
     limit: Option<u64>,
     stats: bool,
     seconds: Option<u64>,
+    progress: bool,
 }
 
 impl Model for Options {
@@ -39,6 +40,7 @@ impl Model for Options {
       limit = o.limit;
       stats = o.stats;
       seconds = o.seconds;
+      progress = o.progress;
     } };
 
     ghost invariant = { λ o. AreWithin (record {
@@ -47,6 +49,7 @@ impl Model for Options {
       limit = o.limit;
       stats = o.stats;
       seconds = o.seconds;
+      progress = o.progress;
     }) };
 
     ghost inverse = { λ o. record {
@@ -55,6 +58,7 @@ impl Model for Options {
       limit = o.limit;
       stats = o.stats;
       seconds = o.seconds;
+      progress = o.progress;
     } };
 }
 
@@ -92,7 +96,7 @@ fn is_time_outside(seconds: Option<u64>) -> bool
 }
 
 impl Options {
-    /// The options, for a check that may take any time. Refusals, in order: `Workers` where they are not 1 to
+    /// The options, for a check that may take any time and does not show how far it has come. Refusals, in order: `Workers` where they are not 1 to
     /// `MAX_WORKERS`, `Shards` where they are not 1 to `MAX_SHARDS`, `Limit` where one is given that is not 1 to `MAX_LIMIT`. It
     /// takes no memory.
     pub fn new(
@@ -107,6 +111,7 @@ impl Options {
           limit = limit;
           stats = stats;
           seconds = None;
+          progress = false;
         }) }
     {
         if !(1..=MAX_WORKERS).contains(&workers) {
@@ -124,6 +129,7 @@ impl Options {
             limit,
             stats,
             seconds: None,
+            progress: false,
         })
     }
 
@@ -136,6 +142,13 @@ impl Options {
             return Err(OptionFault::Seconds);
         }
         Ok(Options { seconds, ..self })
+    }
+
+    /// The same options for a check that shows how far it has come, or does not. It takes no memory.
+    pub fn with_progress(self, progress: bool) -> Options
+        ensures { result ≡ with_progress progress self }
+    {
+        Options { progress, ..self }
     }
 
     /// The same options with at most so many workers, but one at least. It takes no memory.
@@ -186,5 +199,12 @@ impl Options {
         ensures { result ≡ self.now.stats }
     {
         self.stats
+    }
+
+    /// Whether the check shows how far it has come while it goes on.
+    pub fn progress(&self) -> bool
+        ensures { result ≡ self.now.progress }
+    {
+        self.progress
     }
 }

@@ -71,7 +71,8 @@ fn search_until_stalled<O: SeqObject, M: Memo<O>, W: Watcher>(
     ensures memo { M.changes memo.old memo.new }
 {
     let has_stalled = AtomicBool::new(false);
-    let mut memo = WatchedMemo::new(memo, Progress::none(), &has_stalled);
+    let mut progress = Progress::none();
+    let mut memo = WatchedMemo::new(memo, &mut progress, &has_stalled);
     let mut none = NoStop;
     let mut stop = UntilOver::new(&mut none, &has_stalled, &Unwatched);
     search_unless_starved(alloc, problem, &task.config, &mut memo, bounds, &mut stop)

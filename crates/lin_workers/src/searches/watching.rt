@@ -31,15 +31,15 @@ pub(crate) trait Watch {
 /// A memo of a search that is watched. It tells the search's stop, by a flag, where the search is to end. Contracts see the memo
 /// below.
 #[derive(Drop)]
-pub(crate) struct WatchedMemo<'a, M, W: Drop> {
+pub(crate) struct WatchedMemo<'a, M, W> {
     memo: &'a mut M,
-    watch: W,
+    watch: &'a mut W,
     is_over: &'a AtomicBool,
 }
 
-impl<'a, M, W: Watch + Drop> WatchedMemo<'a, M, W> {
+impl<'a, M, W: Watch> WatchedMemo<'a, M, W> {
     // Over this memo, of a search that begins; where it is to end is told there.
-    pub(crate) fn new(memo: &'a mut M, watch: W, is_over: &'a AtomicBool) -> Self
+    pub(crate) fn new(memo: &'a mut M, watch: &'a mut W, is_over: &'a AtomicBool) -> Self
         ensures memo { result.memo.now ≡ memo.old }
         ensures same_reference { result.memo.ghost_name ≡ memo.entry.ghost_name }
     {
@@ -71,7 +71,7 @@ impl<'a, M, W: Watch + Drop> WatchedMemo<'a, M, W> {
     }
 }
 
-impl<'a, O: SeqObject, M: Memo<O>, W: Watch + Drop> Memo<O> for WatchedMemo<'a, M, W> {
+impl<'a, O: SeqObject, M: Memo<O>, W: Watch> Memo<O> for WatchedMemo<'a, M, W> {
     ghost use Rattle.std.specs.Prelude.{refl};
     ghost use Rattle.std.proofs.Common.{◌∙◌};
 
@@ -160,6 +160,12 @@ impl<'a, 'b, 'c, S, W: Watcher> UntilOver<'a, 'b, 'c, S, W> {
             lifts: 0,
         }
     }
+
+    // Tells how many lifts were made since that was last told: the search has ended.
+    pub(crate) fn end(&self) {
+        self.watcher
+            .add_tried(u64::from(self.lifts % LIFTS_TO_CLOCK));
+    }
 }
 
 impl<'a, 'b, 'c, S: Stop, W: Watcher> Stop for UntilOver<'a, 'b, 'c, S, W> {
@@ -175,8 +181,13 @@ impl<'a, 'b, 'c, S: Stop, W: Watcher> Stop for UntilOver<'a, 'b, 'c, S, W> {
     fn ask(&mut self) -> Option<u64> {
         let lifts = self.lifts;
         if lifts % LIFTS_BETWEEN == 0 {
-            let is_up = lifts % LIFTS_TO_CLOCK == 0 && self.watcher.is_up();
-            if is_up || self.is_over.load(SeqCst) {
+            if lifts % LIFTS_TO_CLOCK == 0 {
+                self.watcher.add_tried(made_before(lifts));
+                if self.watcher.is_up() {
+                    return Some(0);
+                }
+            }
+            if self.is_over.load(SeqCst) {
                 return Some(0);
             }
         }
@@ -190,4 +201,13 @@ impl<'a, 'b, 'c, S: Stop, W: Watcher> Stop for UntilOver<'a, 'b, 'c, S, W> {
       second.0 ∙ first.0,
       S.chained a.stop.now b.stop.now c.stop.now first.1 second.1,
     ) };
+}
+
+// How many lifts were made since the clock was last asked, which is asked at the first and after each 4,096 lifts.
+fn made_before(lifts: u32) -> u64 {
+    if lifts == 0 {
+        0
+    } else {
+        u64::from(LIFTS_TO_CLOCK)
+    }
 }

@@ -59,6 +59,7 @@ pub(crate) fn share<O: SharedObject, R: AllocGlobal + Threads + Sync, G: Gate, W
     let mut workers = Vec::with_capacity(alloc, count)?;
     let signals = Signals::new(alloc, count)?;
     make_workers(alloc, &mut workers, hands, seats);
+    bounds.watcher().share(count);
     let job = Job {
         alloc,
         problem: table.problem(),
