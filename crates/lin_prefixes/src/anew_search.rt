@@ -34,6 +34,43 @@ const ROUNDS: usize = 16;
 
 const ROUNDS_FOR_A_BOUND: usize = 2;
 
+// How many lifts a search makes from one time that the stop is asked to the next.
+const LIFTS_BETWEEN: u32 = 4_096;
+
+// A stop that asks another one at the first of each 4,096 lifts.
+#[derive(Drop)]
+struct AtTimes<'a, S> {
+    stop: &'a mut S,
+    lifts: u32,
+}
+
+impl<'a, S: Stop> AtTimes<'a, S> {
+    // Of a search that begins.
+    fn new(stop: &'a mut S) -> Self {
+        AtTimes { stop, lifts: 0 }
+    }
+}
+
+impl<'a, S: Stop> Stop for AtTimes<'a, S> {
+    ghost tells = { λ s told. Unit {0} };
+
+    ghost follows = { λ old new. Unit {0} };
+
+    fn ask(&mut self) -> Option<u64> {
+        let lifts = self.lifts;
+        self.lifts = lifts.wrapping_add(1);
+        if lifts % LIFTS_BETWEEN == 0 {
+            self.stop.ask()
+        } else {
+            None
+        }
+    }
+
+    ghost unchanged = { λ s. tt };
+
+    ghost chained = { λ a b c first second. tt };
+}
+
 // What a first search shows, with what is known ahead.
 fn first_answer(
     alloc: Global,
@@ -75,7 +112,8 @@ fn full_answer<S: Stop>(
     lawful::<AnyObject>();
     let root = Config::root(alloc, part)?;
     let mut memo = OwnMemo::new(alloc, part);
-    let outcome = search(alloc, part, &root, &mut memo, Some(lifts), stop)?;
+    let mut stop = AtTimes::new(stop);
+    let outcome = search(alloc, part, &root, &mut memo, Some(lifts), &mut stop)?;
     Ok(told_by(outcome))
 }
 

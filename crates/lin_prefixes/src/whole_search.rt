@@ -16,7 +16,7 @@ use std::alloc::{AllocError, Global};
 /// The least linearization of the problem; or, where it has none, the first of its longest runs, from searches of smaller
 /// problems for their least linearizations. `None` where all these searches together would have made more lifts than so
 /// many, where the stop answered, or where that is not known: where a pending call of the longest run has no step. The stop is
-/// asked before each search, and before each lift of one that keeps what it refuted. No configuration is kept from one
+/// asked before each search, and before each 4,096th lift of one that keeps what it refuted. No configuration is kept from one
 /// search to the next. `AllocError` where memory was refused.
 ///
 /// It is quick where something is known ahead of the problem (`known_ahead`) and its searches so come to an end soon: a

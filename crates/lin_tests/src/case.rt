@@ -1,8 +1,10 @@
 //! A case: a text, what is printed of it, the exit status, and the options of the run.
 
-use crate::choice::{Form, form_of, options_of};
+use crate::choice::{form_of, options_of};
 use crate::repeat::repeated;
-use lincheck::{Options, StdSink, StdSource, run, run_each, run_explained, status_code};
+use lincheck::{AnswerForm, Listener, Options, SoFar, StdSink, StdSource, run_with, status_code};
+use std::sync::atomic::AtomicU64;
+use std::sync::atomic::Ordering::SeqCst;
 use std::thread::Threads;
 use std::time::Clock;
 use std::{fs, io};
@@ -31,23 +33,36 @@ fn words_of(rt: &HostRuntime, name: &str) -> io::Result<String> {
     Ok(fs::read_to_string(rt, path.as_str()).unwrap_or(String::new(rt.alloc())))
 }
 
-// The status with which the text is answered in this form, where just this answer is printed. Workers are started with `threads`.
+// Counts how often it is shown how far a check has come.
+#[derive(Drop)]
+struct Counted {
+    times: AtomicU64,
+}
+
+impl Listener for Counted {
+    fn show(&self, _so_far: &SoFar<'_>) {
+        self.times.fetch_add(1, SeqCst);
+    }
+}
+
+// The status with which the text is answered in this form, where just this answer is printed, and where it is shown how far the
+// check has come exactly if the options ask for it. Workers are started with `threads`.
 fn gives<R: AllocGlobal + Threads + Clock + Sync>(
     threads: &R,
     text: &[u8],
     options: &Options,
-    form: Form,
+    form: AnswerForm,
     answer: &[u8],
 ) -> Option<u8> {
     let mut written = Vec::new(threads.alloc());
     let mut source = StdSource::new(text);
     let mut sink = StdSink::new(&mut written);
-    let ran = match form {
-        Form::Report => run(threads, &mut source, &mut sink, options),
-        Form::Explained => run_explained(threads, &mut source, &mut sink, options),
-        Form::Each => run_each(threads, &mut source, &mut sink, options),
+    let counted = Counted {
+        times: AtomicU64::new(0),
     };
-    if written.as_slice() == answer {
+    let ran = run_with(threads, &mut source, &mut sink, options, form, &counted);
+    let is_shown = counted.times.load(SeqCst) > 0;
+    if written.as_slice() == answer && is_shown == options.progress() {
         Some(status_code(&ran))
     } else {
         None
@@ -60,7 +75,7 @@ fn is_answered_with<R: AllocGlobal + Threads + Clock + Sync>(
     threads: &R,
     name: &str,
     options: &Options,
-    form: Form,
+    form: AnswerForm,
 ) -> io::Result<bool> {
     let status = status_of(rt, name)?;
     let text = text_of(rt, name, "jsonl")?;

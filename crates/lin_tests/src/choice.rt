@@ -1,6 +1,6 @@
 //! The options of a case, as a user says them: one a line.
 
-use lincheck::Options;
+use lincheck::{AnswerForm, Options};
 
 // What a case asks for.
 #[derive(Clone, Copy)]
@@ -10,6 +10,7 @@ struct Choice {
     limit: Option<u64>,
     seconds: Option<u64>,
     stats: bool,
+    progress: bool,
 }
 
 // What a case without options asks for.
@@ -19,6 +20,7 @@ const USUAL: Choice = Choice {
     limit: None,
     seconds: None,
     stats: false,
+    progress: false,
 };
 
 // What a line says where it is told why a longest run ends, or what each object is.
@@ -26,19 +28,17 @@ const EXPLAIN: &str = "--explain";
 
 const EACH: &str = "--each";
 
-/// In which form a case is answered.
-#[derive(Clone, Copy)]
-pub enum Form {
-    Report,
-    Explained,
-    Each,
-}
-
-// The choice, with what a line says: a name and a number, or that statistics are told. The form of the answer is no part of it.
+// The choice, with what a line says: a name and a number, or that statistics or the progress are told. The form of the answer is no part of it.
 fn with_line(choice: Choice, line: &str) -> Option<Choice> {
     if line == "--stats" {
         return Some(Choice {
             stats: true,
+            ..choice
+        });
+    }
+    if line == "--progress" {
+        return Some(Choice {
+            progress: true,
             ..choice
         });
     }
@@ -75,21 +75,22 @@ pub fn options_of(lines: &str) -> Option<Options> {
         choice = with_line(choice, line)?;
     }
     let options = Options::new(choice.workers, choice.shards, choice.limit, choice.stats).ok()?;
-    options.with_seconds(choice.seconds).ok()
+    let timed = options.with_seconds(choice.seconds).ok()?;
+    Some(timed.with_progress(choice.progress))
 }
 
 // The form, with what a line says of it.
-fn with_form(form: Form, line: &str) -> Form {
+fn with_form(form: AnswerForm, line: &str) -> AnswerForm {
     match line {
-        EXPLAIN => Form::Explained,
-        EACH => Form::Each,
+        EXPLAIN => AnswerForm::Explained,
+        EACH => AnswerForm::Each,
         _ => form,
     }
 }
 
 /// The form that the lines ask for.
-pub fn form_of(lines: &str) -> Form {
-    let mut form = Form::Report;
+pub fn form_of(lines: &str) -> AnswerForm {
+    let mut form = AnswerForm::Report;
     for line in lines.lines() {
         form = with_form(form, line);
     }

@@ -56,6 +56,14 @@ each_is_not_set : one_of (codes "each") (matches_of program (codes "--explain" �
 unfolding program clap_on_literals
 each_is_not_set = refl
 
+progress_is_set : one_of (codes "progress") (matches_of program (codes "--progress" ∷ [])) ≡ Some (codes "true")
+unfolding program clap_on_literals
+progress_is_set = refl
+
+progress_is_not_set : one_of (codes "progress") (matches_of program (codes "--each" ∷ [])) ≡ Some (codes "false")
+unfolding program clap_on_literals
+progress_is_not_set = refl
+
 -- What is usual where nothing is given.
 is_usual : (DEFAULT_WORKERS ≡ 4) × (DEFAULT_SHARDS ≡ 16)
 is_usual = (refl, refl)

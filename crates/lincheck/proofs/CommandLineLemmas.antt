@@ -24,7 +24,7 @@ use Rattle.clap.specs.declared.error.kind.ErrorKind.TheVariants as kinds
 use Rattle.clap.proofs.WalkLemmas.{one_text-rows}
 use Rattle.clap.proofs.OnLiterals.{clap_on_literals}
 use Rattle.clap.proofs.CallerLemmas.{added_plain, entry_by_id}
-use Rattle.lin_workers.specs.Options.{Options, IsUpTo, is_outside, is_limit_outside, is_time_outside, options_made, with_seconds}
+use Rattle.lin_workers.specs.Options.{Options, IsUpTo, is_outside, is_limit_outside, is_time_outside, options_made, with_progress, with_seconds}
 use Rattle.lin_workers.specs.declared.options.TheConstants.{MAX_WORKERS, MAX_SHARDS, MAX_LIMIT, MAX_SECONDS}
 use Rattle.lincheck.specs.CommandLine.{TakesUpTo, flag_rule, no_options, number_rule, program, IsBareLine, IsCommandLine, IsFlagAsked, IsFlagOption, IsNumberOption, GivesUpTo, AreAsked, AreInRange, number_in}
 use Rattle.lincheck.specs.Request.{AnswersKind, AreTaken, IsAnswerTo, IsRequestOf}
@@ -166,9 +166,9 @@ time_is_inside None h = refl
 time_is_inside (Some n) h = is_inside MAX_SECONDS n h
 
 timed_of : (seconds : Option ℕ) (o timed : Options) → IfSome seconds (IsUpTo MAX_SECONDS) → with_seconds seconds o ≡ Ok timed
-    → timed ≡ record { workers = o.workers; shards = o.shards; limit = o.limit; stats = o.stats; seconds = seconds }
+    → timed ≡ record { workers = o.workers; shards = o.shards; limit = o.limit; stats = o.stats; seconds = seconds; progress = o.progress }
 timed_of seconds o timed within is =
-    let same : Ok (record { workers = o.workers; shards = o.shards; limit = o.limit; stats = o.stats; seconds = seconds }) ≡ Ok timed = rw (time_is_inside seconds within) at is in
+    let same : Ok (record { workers = o.workers; shards = o.shards; limit = o.limit; stats = o.stats; seconds = seconds; progress = o.progress }) ≡ Ok timed = rw (time_is_inside seconds within) at is in
     cc
 
 -- A number, or the usual one.
@@ -177,27 +177,30 @@ or_usual greatest usual None given is = is
 or_usual greatest usual (Some n) given is = given
 
 -- The options that are made of what was read.
-pub asked : (found : Found) (w s l d : Option ℕ) (workers shards : ℕ) (stats : Bool) (made timed : Options)
+pub asked : (found : Found) (w s l d : Option ℕ) (workers shards : ℕ) (stats progress : Bool) (made timed given : Options)
     → (w ≡ number_in (one_text found (codes "workers"))) × IfSome w (IsUpTo MAX_WORKERS)
     → (s ≡ number_in (one_text found (codes "shards"))) × IfSome s (IsUpTo MAX_SHARDS)
     → (l ≡ number_in (one_text found (codes "limit"))) × IfSome l (IsUpTo MAX_LIMIT)
     → (d ≡ number_in (one_text found (codes "seconds"))) × IfSome d (IsUpTo MAX_SECONDS)
     → workers ≡ unwrap_or w DEFAULT_WORKERS → shards ≡ unwrap_or s DEFAULT_SHARDS
     → (one_text found (codes "stats") ≡ Some (codes "true") → stats ≡ true) → (one_text found (codes "stats") ≡ Some (codes "false") → stats ≡ false)
-    → options_made (record { workers = workers; shards = shards; limit = l; stats = stats; seconds = None }) ≡ Ok made
-    → with_seconds d made ≡ Ok timed → AreAsked (rows_of found) timed
-asked found w s l d workers shards stats made timed w_is s_is l_is d_is workers_is shards_is on off is then =
+    → (one_text found (codes "progress") ≡ Some (codes "true") → progress ≡ true) → (one_text found (codes "progress") ≡ Some (codes "false") → progress ≡ false)
+    → options_made (record { workers = workers; shards = shards; limit = l; stats = stats; seconds = None; progress = false }) ≡ Ok made
+    → with_seconds d made ≡ Ok timed → given ≡ with_progress progress timed → AreAsked (rows_of found) given
+asked found w s l d workers shards stats progress made timed given w_is s_is l_is d_is workers_is shards_is on off shown unshown is then last =
     let workers_in : IsUpTo MAX_WORKERS workers = subst (IsUpTo MAX_WORKERS) (sym workers_is) (or_usual MAX_WORKERS DEFAULT_WORKERS w w_is.1 (omega arith, omega arith)) in
     let shards_in : IsUpTo MAX_SHARDS shards = subst (IsUpTo MAX_SHARDS) (sym shards_is) (or_usual MAX_SHARDS DEFAULT_SHARDS s s_is.1 (omega arith, omega arith)) in
-    let same = made_of (record { workers = workers; shards = shards; limit = l; stats = stats; seconds = None }) made workers_in shards_in l_is.1 is in
+    let same = made_of (record { workers = workers; shards = shards; limit = l; stats = stats; seconds = None; progress = false }) made workers_in shards_in l_is.1 is in
     let after = timed_of d made timed d_is.1 then in
     record {
-      workers = ap (λ o. o.workers) after ∙ (ap (λ o. o.workers) same ∙ (workers_is ∙ ap (λ r. unwrap_or r DEFAULT_WORKERS) (w_is.0 ∙ ap number_in (one_text-rows found (codes "workers")))));
-      shards = ap (λ o. o.shards) after ∙ (ap (λ o. o.shards) same ∙ (shards_is ∙ ap (λ r. unwrap_or r DEFAULT_SHARDS) (s_is.0 ∙ ap number_in (one_text-rows found (codes "shards")))));
-      limit = ap (λ o. o.limit) after ∙ (ap (λ o. o.limit) same ∙ (l_is.0 ∙ ap number_in (one_text-rows found (codes "limit"))));
-      seconds = ap (λ o. o.seconds) after ∙ (d_is.0 ∙ ap number_in (one_text-rows found (codes "seconds")));
-      stats = λ given. ap (λ o. o.stats) after ∙ (ap (λ o. o.stats) same ∙ on (one_text-rows found (codes "stats") ∙ given));
-      silent = λ given. ap (λ o. o.stats) after ∙ (ap (λ o. o.stats) same ∙ off (one_text-rows found (codes "stats") ∙ given));
+      workers = ap (λ o. o.workers) last ∙ (ap (λ o. o.workers) after ∙ (ap (λ o. o.workers) same ∙ (workers_is ∙ ap (λ r. unwrap_or r DEFAULT_WORKERS) (w_is.0 ∙ ap number_in (one_text-rows found (codes "workers"))))));
+      shards = ap (λ o. o.shards) last ∙ (ap (λ o. o.shards) after ∙ (ap (λ o. o.shards) same ∙ (shards_is ∙ ap (λ r. unwrap_or r DEFAULT_SHARDS) (s_is.0 ∙ ap number_in (one_text-rows found (codes "shards"))))));
+      limit = ap (λ o. o.limit) last ∙ (ap (λ o. o.limit) after ∙ (ap (λ o. o.limit) same ∙ (l_is.0 ∙ ap number_in (one_text-rows found (codes "limit")))));
+      seconds = ap (λ o. o.seconds) last ∙ (ap (λ o. o.seconds) after ∙ (d_is.0 ∙ ap number_in (one_text-rows found (codes "seconds"))));
+      stats = λ text. ap (λ o. o.stats) last ∙ (ap (λ o. o.stats) after ∙ (ap (λ o. o.stats) same ∙ on (one_text-rows found (codes "stats") ∙ text)));
+      silent = λ text. ap (λ o. o.stats) last ∙ (ap (λ o. o.stats) after ∙ (ap (λ o. o.stats) same ∙ off (one_text-rows found (codes "stats") ∙ text)));
+      shown = λ text. ap (λ o. o.progress) last ∙ shown (one_text-rows found (codes "progress") ∙ text);
+      unshown = λ text. ap (λ o. o.progress) last ∙ unshown (one_text-rows found (codes "progress") ∙ text);
     }
 
 -- Texts that differ at a place are not the same.
@@ -221,8 +224,8 @@ named : (a : Arg) (name : List ℕ) (greatest : ℕ) → IsNumberOption name gre
 named a name greatest is = ap (λ (r : Rule). r.id) is.rule
 
 -- What the program's command line is made of.
-program_of : (c : Command) → app_of c ≡ with_rule (with_rule (with_rule (with_rule (with_rule (with_rule (with_rule no_options (number_rule (codes "workers") MAX_WORKERS))
-    (number_rule (codes "shards") MAX_SHARDS)) (number_rule (codes "limit") MAX_LIMIT)) (flag_rule (codes "stats"))) (flag_rule (codes "explain"))) (flag_rule (codes "each"))) (number_rule (codes "seconds") MAX_SECONDS) → app_of c ≡ program
+program_of : (c : Command) → app_of c ≡ with_rule (with_rule (with_rule (with_rule (with_rule (with_rule (with_rule (with_rule no_options (number_rule (codes "workers") MAX_WORKERS))
+    (number_rule (codes "shards") MAX_SHARDS)) (number_rule (codes "limit") MAX_LIMIT)) (flag_rule (codes "stats"))) (flag_rule (codes "explain"))) (flag_rule (codes "each"))) (number_rule (codes "seconds") MAX_SECONDS)) (flag_rule (codes "progress")) → app_of c ≡ program
 unfolding program
 program_of c is = is
 
@@ -279,12 +282,12 @@ other_answers {E} words c e r line fails answers =
     go (Ok (Refused text)) answers (inr among) = inl (kind_of e, answers.0, answers.1, among)
     go (Err fault) answers kind = tt
 
--- A command to which the program's seven options were added, one after another.
-pub line_of : (start first second third fourth fifth sixth last : Command) (w s l t e o d : Arg) → IsBareLine start
-    → AddsArg start w first → AddsArg first s second → AddsArg second l third → AddsArg third t fourth → AddsArg fourth e fifth → AddsArg fifth o sixth → AddsArg sixth d last
+-- A command to which the program's eight options were added, one after another.
+pub line_of : (start first second third fourth fifth sixth seventh last : Command) (w s l t e o d q : Arg) → IsBareLine start
+    → AddsArg start w first → AddsArg first s second → AddsArg second l third → AddsArg third t fourth → AddsArg fourth e fifth → AddsArg fifth o sixth → AddsArg sixth d seventh → AddsArg seventh q last
     → IsNumberOption (codes "workers") MAX_WORKERS w → IsNumberOption (codes "shards") MAX_SHARDS s
-    → IsNumberOption (codes "limit") MAX_LIMIT l → IsFlagOption (codes "stats") t → IsFlagOption (codes "explain") e → IsFlagOption (codes "each") o → IsNumberOption (codes "seconds") MAX_SECONDS d → IsCommandLine last
-line_of start first second third fourth fifth sixth last w s l t e o d bare to_w to_s to_l to_t to_e to_o to_d is_w is_s is_l is_t is_e is_o is_d =
+    → IsNumberOption (codes "limit") MAX_LIMIT l → IsFlagOption (codes "stats") t → IsFlagOption (codes "explain") e → IsFlagOption (codes "each") o → IsNumberOption (codes "seconds") MAX_SECONDS d → IsFlagOption (codes "progress") q → IsCommandLine last
+line_of start first second third fourth fifth sixth seventh last w s l t e o d q bare to_w to_s to_l to_t to_e to_o to_d to_q is_w is_s is_l is_t is_e is_o is_d is_q =
     let plain0 : IsPlain start = (subst (All IsPlainArg) (sym bare.args) (All-nil IsPlainArg), bare.groups) in
     let plain1 = added_plain start first w to_w plain0 is_w.plain in
     let plain2 = added_plain first second s to_s plain1 is_s.plain in
@@ -302,12 +305,16 @@ line_of start first second third fourth fifth sixth last w s l t e o d bare to_w
     let plain6 = added_plain fifth sixth o to_o plain5 is_o.plain in
     let own6 = own_after fifth sixth o to_o own5 is_o.own in
     let id_d = named d (codes "seconds") MAX_SECONDS is_d in
+    let plain7 = added_plain sixth seventh d to_d plain6 is_d.plain in
+    let own7 = own_after sixth seventh d to_d own6 is_d.own in
+    let id_q = ap (λ (r : Rule). r.id) is_q.rule in
     record {
-      app = program_of last (to_d.shape is_d.own ∙ ap₂ with_rule (to_o.shape is_o.own ∙ ap₂ with_rule (to_e.shape is_e.own ∙ ap₂ with_rule (to_t.shape is_t.own ∙ ap₂ with_rule (to_l.shape is_l.own ∙ ap₂ with_rule (to_s.shape is_s.own ∙ ap₂ with_rule
-          (to_w.shape is_w.own ∙ ap₂ with_rule bare.app is_w.rule) is_s.rule) is_l.rule) is_t.rule) is_e.rule) is_o.rule) is_d.rule);
-      plain = added_plain sixth last d to_d plain6 is_d.plain;
-      own = own_after sixth last d to_d own6 is_d.own;
-      workers = takes_push sixth last d (codes "workers") MAX_WORKERS to_d
+      app = program_of last (to_q.shape is_q.own ∙ ap₂ with_rule (to_d.shape is_d.own ∙ ap₂ with_rule (to_o.shape is_o.own ∙ ap₂ with_rule (to_e.shape is_e.own ∙ ap₂ with_rule (to_t.shape is_t.own ∙ ap₂ with_rule (to_l.shape is_l.own ∙ ap₂ with_rule (to_s.shape is_s.own ∙ ap₂ with_rule
+          (to_w.shape is_w.own ∙ ap₂ with_rule bare.app is_w.rule) is_s.rule) is_l.rule) is_t.rule) is_e.rule) is_o.rule) is_d.rule) is_q.rule);
+      plain = added_plain seventh last q to_q plain7 is_q.plain;
+      own = own_after seventh last q to_q own7 is_q.own;
+      workers = takes_push seventh last q (codes "workers") MAX_WORKERS to_q
+          (takes_push sixth seventh d (codes "workers") MAX_WORKERS to_d
           (takes_push fifth sixth o (codes "workers") MAX_WORKERS to_o
           (takes_push fourth fifth e (codes "workers") MAX_WORKERS to_e
           (takes_push third fourth t (codes "workers") MAX_WORKERS to_t
@@ -320,8 +327,10 @@ line_of start first second third fourth fifth sixth last w s l t e o d bare to_w
           (other_name t (codes "workers") MAX_WORKERS 115 119 (ap (λ n. slice_index n 0) id) refl (λ e. absurd (omega arith))))
           (other_name e (codes "workers") MAX_WORKERS 101 119 (ap (λ n. slice_index n 0) id_e) refl (λ q. absurd (omega arith))))
           (other_name o (codes "workers") MAX_WORKERS 101 119 (ap (λ n. slice_index n 0) id_o) refl (λ q. absurd (omega arith))))
-          (other_name d (codes "workers") MAX_WORKERS 115 119 (ap (λ n. slice_index n 0) id_d) refl (λ q. absurd (omega arith)));
-      shards = takes_push sixth last d (codes "shards") MAX_SHARDS to_d
+          (other_name d (codes "workers") MAX_WORKERS 115 119 (ap (λ n. slice_index n 0) id_d) refl (λ q. absurd (omega arith))))
+          (other_name q (codes "workers") MAX_WORKERS 112 119 (ap (λ n. slice_index n 0) id_q) refl (λ z. absurd (omega arith)));
+      shards = takes_push seventh last q (codes "shards") MAX_SHARDS to_q
+          (takes_push sixth seventh d (codes "shards") MAX_SHARDS to_d
           (takes_push fifth sixth o (codes "shards") MAX_SHARDS to_o
           (takes_push fourth fifth e (codes "shards") MAX_SHARDS to_e
           (takes_push third fourth t (codes "shards") MAX_SHARDS to_t
@@ -334,8 +343,10 @@ line_of start first second third fourth fifth sixth last w s l t e o d bare to_w
           (λ is. absurd (stats_is_not_shards (sym id ∙ is))))
           (other_name e (codes "shards") MAX_SHARDS 101 115 (ap (λ n. slice_index n 0) id_e) refl (λ q. absurd (omega arith))))
           (other_name o (codes "shards") MAX_SHARDS 101 115 (ap (λ n. slice_index n 0) id_o) refl (λ q. absurd (omega arith))))
-          (λ is. absurd (seconds_is_not_shards (sym id_d ∙ is)));
-      limit = takes_push sixth last d (codes "limit") MAX_LIMIT to_d
+          (λ is. absurd (seconds_is_not_shards (sym id_d ∙ is))))
+          (other_name q (codes "shards") MAX_SHARDS 112 115 (ap (λ n. slice_index n 0) id_q) refl (λ z. absurd (omega arith)));
+      limit = takes_push seventh last q (codes "limit") MAX_LIMIT to_q
+          (takes_push sixth seventh d (codes "limit") MAX_LIMIT to_d
           (takes_push fifth sixth o (codes "limit") MAX_LIMIT to_o
           (takes_push fourth fifth e (codes "limit") MAX_LIMIT to_e
           (takes_push third fourth t (codes "limit") MAX_LIMIT to_t
@@ -348,8 +359,10 @@ line_of start first second third fourth fifth sixth last w s l t e o d bare to_w
           (other_name t (codes "limit") MAX_LIMIT 115 108 (ap (λ n. slice_index n 0) id) refl (λ e. absurd (omega arith))))
           (other_name e (codes "limit") MAX_LIMIT 101 108 (ap (λ n. slice_index n 0) id_e) refl (λ q. absurd (omega arith))))
           (other_name o (codes "limit") MAX_LIMIT 101 108 (ap (λ n. slice_index n 0) id_o) refl (λ q. absurd (omega arith))))
-          (other_name d (codes "limit") MAX_LIMIT 115 108 (ap (λ n. slice_index n 0) id_d) refl (λ q. absurd (omega arith)));
-      seconds = takes_push sixth last d (codes "seconds") MAX_SECONDS to_d
+          (other_name d (codes "limit") MAX_LIMIT 115 108 (ap (λ n. slice_index n 0) id_d) refl (λ q. absurd (omega arith))))
+          (other_name q (codes "limit") MAX_LIMIT 112 108 (ap (λ n. slice_index n 0) id_q) refl (λ z. absurd (omega arith)));
+      seconds = takes_push seventh last q (codes "seconds") MAX_SECONDS to_q
+          (takes_push sixth seventh d (codes "seconds") MAX_SECONDS to_d
           (takes_push fifth sixth o (codes "seconds") MAX_SECONDS to_o
           (takes_push fourth fifth e (codes "seconds") MAX_SECONDS to_e
           (takes_push third fourth t (codes "seconds") MAX_SECONDS to_t
@@ -362,7 +375,8 @@ line_of start first second third fourth fifth sixth last w s l t e o d bare to_w
           (λ is. absurd (stats_is_not_seconds (sym id ∙ is))))
           (other_name e (codes "seconds") MAX_SECONDS 101 115 (ap (λ n. slice_index n 0) id_e) refl (λ q. absurd (omega arith))))
           (other_name o (codes "seconds") MAX_SECONDS 101 115 (ap (λ n. slice_index n 0) id_o) refl (λ q. absurd (omega arith))))
-          (λ is. takes_it d (codes "seconds") MAX_SECONDS is_d);
+          (λ is. takes_it d (codes "seconds") MAX_SECONDS is_d))
+          (other_name q (codes "seconds") MAX_SECONDS 112 115 (ap (λ n. slice_index n 0) id_q) refl (λ z. absurd (omega arith)));
     }
   where
     own_after : (old new : Command) (a : Arg) → AddsArg old a new → (out-Command old).has_globals ≡ false → a.global ≡ false

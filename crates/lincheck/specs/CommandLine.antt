@@ -33,10 +33,10 @@ no_options = on_top (λ s. record s { no_binary_name = true; has_version = true 
 
 -- The program's command line.
 unfoldable pub program : App
-program = with_rule (with_rule (with_rule (with_rule (with_rule (with_rule (with_rule no_options
+program = with_rule (with_rule (with_rule (with_rule (with_rule (with_rule (with_rule (with_rule no_options
     (number_rule (codes "workers") MAX_WORKERS)) (number_rule (codes "shards") MAX_SHARDS))
     (number_rule (codes "limit") MAX_LIMIT)) (flag_rule (codes "stats"))) (flag_rule (codes "explain")))
-    (flag_rule (codes "each"))) (number_rule (codes "seconds") MAX_SECONDS)
+    (flag_rule (codes "each"))) (number_rule (codes "seconds") MAX_SECONDS)) (flag_rule (codes "progress"))
 
 -- The argument is the option of this name, and excludes no other.
 pub record IsNumberOption (name : List ℕ) (greatest : ℕ) (a : Arg) : Type 0 where
@@ -98,6 +98,8 @@ pub record AreAsked (rows : List Row) (o : Options) : Type 0 where
   pub seconds : o.seconds ≡ number_given rows (codes "seconds")
   pub stats : one_of (codes "stats") rows ≡ Some (codes "true") → o.stats ≡ true
   pub silent : one_of (codes "stats") rows ≡ Some (codes "false") → o.stats ≡ false
+  pub shown : one_of (codes "progress") rows ≡ Some (codes "true") → o.progress ≡ true
+  pub unshown : one_of (codes "progress") rows ≡ Some (codes "false") → o.progress ≡ false
 
 -- Whether this option is asked for, which is given or not, is what the words gave.
 pub record IsFlagAsked (rows : List Row) (name : List ℕ) (is_asked : Bool) : Type 0 where

@@ -2,7 +2,7 @@
 
 /// In which form a history is answered.
 #[derive(Clone, Copy, PartialEq, Eq, Debug)]
-pub(crate) enum AnswerForm {
+pub enum AnswerForm {
     /// The report.
     Report,
     /// The report, and of a history that is not linearizable why its longest run ends.

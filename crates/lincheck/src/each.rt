@@ -11,12 +11,14 @@ ghost use Rattle.lincheck.specs.Each.{is_no, is_undecided, status_lines, status_
 ghost use Rattle.lincheck.specs.Report.{name_of};
 ghost use Rattle.lincheck.specs.Stored.{IsStoredTold};
 
+use crate::check_watcher::CheckWatcher;
 use crate::judgement::{judge_object, options_here, with_more};
+use crate::listener::{Listener, NoListener};
 use crate::setting::Setting;
 use crate::status::Status;
 use crate::verdict::CheckedEach;
 use lin_history::History;
-use lin_workers::{Bounds, CheckFault, Deadline, Gate, ObjectVerdict, Options, Watcher};
+use lin_workers::{Bounds, CheckFault, Gate, ObjectVerdict, Options, Watcher};
 use std::alloc::{AllocError, AllocGlobal, Global};
 use std::thread::Threads;
 use std::time::Clock;
@@ -72,14 +74,32 @@ pub fn check_each<R: AllocGlobal + Threads + Clock + Sync, G: Gate>(
     ensures stored { IfOk result (λ checked. IsStoredTold history.now
         (length history.now.objects) checked.stored) }
 {
-    let deadline = Deadline::new(rt, options.seconds());
+    check_each_with(rt, history, options, gate, &NoListener)
+}
+
+/// Checks each object as `check_each` does, while a listener is told how far that has come.
+pub(crate) fn check_each_with<R: AllocGlobal + Threads + Clock + Sync, G: Gate, L: Listener + Sync>(
+    rt: &R,
+    history: &History,
+    options: &Options,
+    gate: &G,
+    listener: &L,
+) -> Result<CheckedEach, CheckFault>
+    ensures statuses { IfOk result (λ checked. AreStatusesOf history.now (bounds_of options.now)
+        (length history.now.objects) checked.statuses.items) }
+    ensures stored { IfOk result (λ checked. IsStoredTold history.now
+        (length history.now.objects) checked.stored) }
+{
+    let watcher = CheckWatcher::new(rt, history, options, listener);
     let setting = Setting {
         rt,
         options: options_here(rt, options, gate),
-        bounds: Bounds::new(options.limit(), &deadline),
+        bounds: Bounds::new(options.limit(), &watcher),
         gate,
     };
-    Ok(judge_each(&setting, history)?)
+    let checked = judge_each(&setting, history)?;
+    watcher.end();
+    Ok(checked)
 }
 
 // What is printed of an object by itself.

@@ -31,6 +31,11 @@ pub(crate) const SECONDS: &str =
     "End the check after N seconds, 1 to 86400 [default: no end]. An object whose search has
 not ended by then is `undecided`; every other answer is what it is without";
 
+/// What `--progress` is good for.
+pub(crate) const PROGRESS: &str =
+    "Print a line on standard error every two seconds while an object is searched: how many
+calls were tried, and how many calls the furthest run so far has";
+
 /// What `--stats` is good for.
 pub(crate) const STATS: &str =
     "Print a last line `stored N` after the answer: how many refuted configurations (calls

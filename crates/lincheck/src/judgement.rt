@@ -13,13 +13,15 @@ ghost use Rattle.lin_workers.specs.Verdict.{IsNumberStored, IsObjectVerdict};
 ghost use Rattle.lincheck.specs.Stored.{IsStoredTold, judged_of};
 ghost use Rattle.lincheck.specs.Verdict.{AreLeastOf, IsVerdict};
 
+use crate::check_watcher::CheckWatcher;
+use crate::listener::{Listener, NoListener};
 use crate::object_search::verdict_by_searches;
 use crate::setting::Setting;
 use crate::verdict::{Checked, Verdict};
 use crate::verdict_ahead::verdict_ahead;
 use lin_history::{History, Order, Problem, join, place};
 use lin_object::AnyObject;
-use lin_workers::{Bounds, CheckFault, Deadline, Gate, ObjectVerdict, Options, Watcher};
+use lin_workers::{Bounds, CheckFault, Gate, ObjectVerdict, Options, Watcher};
 use std::alloc::{AllocError, Global};
 use std::ops::ControlFlow;
 use std::thread;
@@ -42,6 +44,7 @@ pub(crate) fn judge_object<R: AllocGlobal + Threads + Sync, G: Gate, W: Watcher>
     ensures stored { IfOk result (λ judged. IsSomeAnd judged.1
         (IsNumberStored (part_of history.now object))) }
 {
+    setting.bounds.watcher().begin(object, problem.len());
     if !setting.gate.wants_workers() {
         if let Some(told) = verdict_ahead(setting.rt.alloc(), problem, &setting.bounds)? {
             return Ok((told, Some(0)));
@@ -158,12 +161,30 @@ pub fn check<R: AllocGlobal + Threads + Clock + Sync, G: Gate>(
     ensures stored { IfOk result (λ checked. IsStoredTold history.now
         (judged_of history.now checked.verdict) checked.stored) }
 {
-    let deadline = Deadline::new(rt, options.seconds());
+    check_with(rt, history, options, gate, &NoListener)
+}
+
+/// Checks a history as `check` does, while a listener is told how far it has come.
+pub(crate) fn check_with<R: AllocGlobal + Threads + Clock + Sync, G: Gate, L: Listener + Sync>(
+    rt: &R,
+    history: &History,
+    options: &Options,
+    gate: &G,
+    listener: &L,
+) -> Result<Checked, CheckFault>
+    ensures verdict { IfOk result (λ checked. IsVerdict history.now (bounds_of options.now)
+        checked.verdict) }
+    ensures stored { IfOk result (λ checked. IsStoredTold history.now
+        (judged_of history.now checked.verdict) checked.stored) }
+{
+    let watcher = CheckWatcher::new(rt, history, options, listener);
     let setting = Setting {
         rt,
         options: options_here(rt, options, gate),
-        bounds: Bounds::new(options.limit(), &deadline),
+        bounds: Bounds::new(options.limit(), &watcher),
         gate,
     };
-    Ok(judge(&setting, history)?)
+    let checked = judge(&setting, history)?;
+    watcher.end();
+    Ok(checked)
 }

@@ -3,6 +3,7 @@
 
 mod answer_form;
 mod by_prefixes;
+mod check_watcher;
 mod device;
 mod each;
 mod explanation_lines;
@@ -10,6 +11,7 @@ mod fault;
 mod help;
 mod judgement;
 mod lines;
+mod listener;
 mod object_search;
 mod pipeline;
 mod request;
@@ -18,6 +20,7 @@ mod status;
 mod verdict;
 mod verdict_ahead;
 
+pub use answer_form::AnswerForm;
 pub use device::{DeviceFault, Sink, Source, StdSink, StdSource};
 pub use each::{check_each, report_each};
 pub use fault::RunFault;
@@ -27,7 +30,8 @@ pub use lin_workers::{
     Options,
 };
 pub use lines::report;
-pub use pipeline::{run, run_each, run_explained};
+pub use listener::{Listener, NoListener, SoFar, Spent};
+pub use pipeline::{run, run_each, run_explained, run_with};
 pub use request::{DEFAULT_SHARDS, DEFAULT_WORKERS, Request, options_of};
 pub use status::{Status, status_code};
 pub use verdict::{Checked, CheckedEach, Verdict};

@@ -11,11 +11,12 @@ ghost use Rattle.lincheck.specs.Reading.{IsReadOf, TakesAtMost};
 
 use crate::answer_form::AnswerForm;
 use crate::device::{DeviceFault, Sink, Source};
-use crate::each::{check_each, report_each, status_of_all};
+use crate::each::{check_each_with, report_each, status_of_all};
 use crate::explanation_lines::with_explanation;
 use crate::fault::RunFault;
-use crate::judgement::check;
+use crate::judgement::check_with;
 use crate::lines::{report, with_stats};
+use crate::listener::{Listener, NoListener};
 use crate::status::Status;
 use crate::verdict::Verdict;
 use lin_history::History;
@@ -86,17 +87,18 @@ fn status_of(verdict: &Verdict) -> Status
 
 // What a history is answered: the status, and what is printed, with why the longest run ends where the lines of the events are
 // given.
-fn verdict_printed<R: AllocGlobal + Threads + Clock + Sync>(
+fn verdict_printed<R: AllocGlobal + Threads + Clock + Sync, L: Listener + Sync>(
     rt: &R,
     history: &History,
     options: &Options,
     lines: Option<&[u64]>,
+    listener: &L,
 ) -> Result<(Status, Vec<u8>), AllocError>
     ensures { IfOk result (λ answer. (text : List ℕ) → MeansHistory text history.now
         → PrintsWith options.now (option_map (λ l. l.now) lines.entry) history.now answer.0
         answer.1.items) }
 {
-    let Ok(checked) = check(rt, history, options, &FreeGate) else {
+    let Ok(checked) = check_with(rt, history, options, &FreeGate, listener) else {
         return Err(AllocError);
     };
     let reported = report(rt.alloc(), history, &checked.verdict)?;
@@ -106,45 +108,54 @@ fn verdict_printed<R: AllocGlobal + Threads + Clock + Sync>(
 }
 
 // What a text is answered by a report: the status, and what is printed.
-fn answer_by_report<R: AllocGlobal + Threads + Clock + Sync>(
+fn answer_by_report<R: AllocGlobal + Threads + Clock + Sync, L: Listener + Sync>(
     rt: &R,
     text: &[u8],
     options: &Options,
+    listener: &L,
 ) -> Result<(Status, Vec<u8>), AllocError>
     ensures { IfOk result (λ answer. Prints options.now AnswerForm.Report text.now answer.0
         answer.1.items) }
 {
     match read_history(rt.alloc(), text) {
-        Ok(history) => verdict_printed(rt, &history, options, None),
+        Ok(history) => verdict_printed(rt, &history, options, None, listener),
         Err(fault) => refused(rt.alloc(), &fault),
     }
 }
 
 // The same with why the longest run ends.
-fn answer_explained<R: AllocGlobal + Threads + Clock + Sync>(
+fn answer_explained<R: AllocGlobal + Threads + Clock + Sync, L: Listener + Sync>(
     rt: &R,
     text: &[u8],
     options: &Options,
+    listener: &L,
 ) -> Result<(Status, Vec<u8>), AllocError>
     ensures { IfOk result (λ answer. Prints options.now AnswerForm.Explained text.now answer.0
         answer.1.items) }
 {
     match read_history_and_lines(rt.alloc(), text) {
-        Ok((history, lines)) => verdict_printed(rt, &history, options, Some(lines.as_slice())),
+        Ok((history, lines)) => verdict_printed(
+            rt,
+            &history,
+            options,
+            Some(lines.as_slice()),
+            listener,
+        ),
         Err(fault) => refused(rt.alloc(), &fault),
     }
 }
 
 // What a history is answered with a line for each object: the status, and what is printed.
-fn each_printed<R: AllocGlobal + Threads + Clock + Sync>(
+fn each_printed<R: AllocGlobal + Threads + Clock + Sync, L: Listener + Sync>(
     rt: &R,
     history: &History,
     options: &Options,
+    listener: &L,
 ) -> Result<(Status, Vec<u8>), AllocError>
     ensures { IfOk result (λ answer. (text : List ℕ) → MeansHistory text history.now
         → PrintsEach options.now history.now answer.0 answer.1.items) }
 {
-    let Ok(checked) = check_each(rt, history, options, &FreeGate) else {
+    let Ok(checked) = check_each_with(rt, history, options, &FreeGate, listener) else {
         return Err(AllocError);
     };
     let statuses = checked.statuses.as_slice();
@@ -154,33 +165,35 @@ fn each_printed<R: AllocGlobal + Threads + Clock + Sync>(
 }
 
 // What a text is answered with a line for each object.
-fn answer_each<R: AllocGlobal + Threads + Clock + Sync>(
+fn answer_each<R: AllocGlobal + Threads + Clock + Sync, L: Listener + Sync>(
     rt: &R,
     text: &[u8],
     options: &Options,
+    listener: &L,
 ) -> Result<(Status, Vec<u8>), AllocError>
     ensures { IfOk result (λ answer. Prints options.now AnswerForm.Each text.now answer.0
         answer.1.items) }
 {
     match read_history(rt.alloc(), text) {
-        Ok(history) => each_printed(rt, &history, options),
+        Ok(history) => each_printed(rt, &history, options, listener),
         Err(fault) => refused(rt.alloc(), &fault),
     }
 }
 
 // What a text is answered in this form: the status, and what is printed.
-fn answer<R: AllocGlobal + Threads + Clock + Sync>(
+fn answer<R: AllocGlobal + Threads + Clock + Sync, L: Listener + Sync>(
     rt: &R,
     text: &[u8],
     options: &Options,
     form: AnswerForm,
+    listener: &L,
 ) -> Result<(Status, Vec<u8>), AllocError>
     ensures { IfOk result (λ answer. Prints options.now form text.now answer.0 answer.1.items) }
 {
     match form {
-        AnswerForm::Report => answer_by_report(rt, text, options),
-        AnswerForm::Explained => answer_explained(rt, text, options),
-        AnswerForm::Each => answer_each(rt, text, options),
+        AnswerForm::Report => answer_by_report(rt, text, options, listener),
+        AnswerForm::Explained => answer_explained(rt, text, options, listener),
+        AnswerForm::Each => answer_each(rt, text, options, listener),
     }
 }
 
@@ -209,13 +222,23 @@ fn ended(status: Status, written: Result<(), DeviceFault>) -> Result<Status, Run
     }
 }
 
-// Reads a text from the source, checks it and writes the answer to the sink, in this form.
-fn run_in_form<R: AllocGlobal + Threads + Clock + Sync, S: Source, W: Sink>(
+// Tells the listener which text was refused, if it was, and with which answer.
+fn tell_refusal<L: Listener + Sync>(listener: &L, status: Status, text: &[u8], answer: &[u8]) {
+    if status == Status::Refused {
+        listener.refuse(text, answer);
+    }
+}
+
+/// Does what `run`, `run_explained` or `run_each` does, as this form says, while a listener is told how far the check has come, what
+/// it took, and which text was refused. What is written is the same.
+/// Conditions, faults and what is left after them are those of `run`.
+pub fn run_with<R: AllocGlobal + Threads + Clock + Sync, S: Source, W: Sink, L: Listener + Sync>(
     rt: &R,
     source: &mut S,
     sink: &mut W,
     options: &Options,
     form: AnswerForm,
+    listener: &L,
 ) -> Result<Status, RunFault>
     requires source { S.failed source.old ≡ false }
     requires sink { W.failed sink.old ≡ false }
@@ -229,10 +252,12 @@ fn run_in_form<R: AllocGlobal + Threads + Clock + Sync, S: Source, W: Sink>(
         Ok(text) => text,
         Err(fault) => return Err(fault),
     };
-    let Ok((status, answer)) = answer(rt, text.as_slice(), options, form) else {
+    let Ok((status, answer)) = answer(rt, text.as_slice(), options, form, listener) else {
         return Err(RunFault::Memory);
     };
-    ended(status, write_answer(sink, answer.as_slice()))
+    let written = write_answer(sink, answer.as_slice());
+    tell_refusal(listener, status, text.as_slice(), answer.as_slice());
+    ended(status, written)
 }
 
 /// Reads a text from the source, checks it and writes the report to the sink.
@@ -259,7 +284,7 @@ pub fn run<R: AllocGlobal + Threads + Clock + Sync, S: Source, W: Sink>(
     ensures source { S.failed source.new ≡ is_fault is_read result }
     ensures sink { W.failed sink.new ≡ is_fault is_write result }
 {
-    run_in_form(rt, source, sink, options, AnswerForm::Report)
+    run_with(rt, source, sink, options, AnswerForm::Report, &NoListener)
 }
 
 /// Does what `run` does, and shows behind the report of a history that is not linearizable why the longest run ends: the state
@@ -279,7 +304,14 @@ pub fn run_explained<R: AllocGlobal + Threads + Clock + Sync, S: Source, W: Sink
     ensures source { S.failed source.new ≡ is_fault is_read result }
     ensures sink { W.failed sink.new ≡ is_fault is_write result }
 {
-    run_in_form(rt, source, sink, options, AnswerForm::Explained)
+    run_with(
+        rt,
+        source,
+        sink,
+        options,
+        AnswerForm::Explained,
+        &NoListener,
+    )
 }
 
 /// Does what `run` does, but prints a line for each object in the order of declaration, in place of the report: `x: linearizable`,
@@ -300,5 +332,5 @@ pub fn run_each<R: AllocGlobal + Threads + Clock + Sync, S: Source, W: Sink>(
     ensures source { S.failed source.new ≡ is_fault is_read result }
     ensures sink { W.failed sink.new ≡ is_fault is_write result }
 {
-    run_in_form(rt, source, sink, options, AnswerForm::Each)
+    run_with(rt, source, sink, options, AnswerForm::Each, &NoListener)
 }

@@ -87,7 +87,8 @@ fn command_line<'a>(alloc: Global) -> Result<Command<'a>, AllocError>
         .arg(flag_option(alloc, "stats", help::STATS))?
         .arg(flag_option(alloc, "explain", help::EXPLAIN))?
         .arg(flag_option(alloc, "each", help::EACH))?
-        .arg(number_option(alloc, "seconds", MAX_SECONDS, help::SECONDS))
+        .arg(number_option(alloc, "seconds", MAX_SECONDS, help::SECONDS))?
+        .arg(flag_option(alloc, "progress", help::PROGRESS))
 }
 
 // The options that were asked for.
@@ -99,13 +100,14 @@ fn options_asked(matches: &ArgMatches<'_>) -> Options
     let shards = matches.get_one("shards").unwrap_or(DEFAULT_SHARDS);
     let limit = matches.get_one("limit");
     let seconds = matches.get_one("seconds");
+    let progress = matches.get_flag("progress");
     let Ok(options) = Options::new(workers, shards, limit, matches.get_flag("stats")) else {
         unreachable!()
     };
     let Ok(timed) = options.with_seconds(seconds) else {
         unreachable!()
     };
-    timed
+    timed.with_progress(progress)
 }
 
 // Whether an explanation was asked for.
@@ -154,7 +156,7 @@ fn answer_to(alloc: Global, error: &Error) -> Result<Request, AllocError>
 }
 
 /// What the words after the program's name ask for: `--workers N` (1 to `MAX_WORKERS`, 4 where absent), `--shards N` (1
-/// to `MAX_SHARDS`, 16), `--limit N` (1 to `MAX_LIMIT`, none), `--seconds N` (1 to `MAX_SECONDS`, none), `--stats`, `--explain`, `--each`, each at most once and in any order; or
+/// to `MAX_SHARDS`, 16), `--limit N` (1 to `MAX_LIMIT`, none), `--seconds N` (1 to `MAX_SECONDS`, none), `--stats`, `--explain`, `--each`, `--progress`, each at most once and in any order; or
 /// `--help`, or `--version`. Each number is read as a `u64`. `--explain` and `--each` together are refused, and so are any other words.
 /// The texts are `clap`'s, but for those two. `AllocError` where memory was refused.
 pub fn options_of(alloc: Global, words: &[String]) -> Result<Request, AllocError>

@@ -3,12 +3,13 @@
 #![tactic(auto)]
 
 mod hints;
+mod standard_error;
 
-use hints::{Hint, HintingSink};
 use lincheck::{
-    Options, Request, RunFault, Status, StdSink, StdSource, options_of, run, run_each,
-    run_explained, status_code,
+    AnswerForm, Options, Request, RunFault, Status, StdSink, StdSource, options_of, run_with,
+    status_code,
 };
+use standard_error::OnStandardError;
 use std::process::ExitCode;
 use std::thread::Threads;
 use std::time::Clock;
@@ -28,57 +29,20 @@ fn request(rt: &HostRuntime) -> Result<Request, RunFault> {
     }
 }
 
-// In which form the answer is wanted.
-#[derive(Clone, Copy)]
-enum Form {
-    Report,
-    Explained,
-    Each,
-}
-
-// Says on standard error which option ended a search.
-fn say_why_undecided(rt: &HostRuntime, options: &Options) {
-    let _ = match (options.limit(), options.seconds()) {
-        (Some(limit), None) => eprintln!(rt; "lincheck: the search ended at --limit {limit}"),
-        (None, Some(seconds)) => eprintln!(rt; "lincheck: the search ended at --seconds {seconds}"),
-        (Some(limit), Some(seconds)) => {
-            eprintln!(rt; "lincheck: the search ended at --limit {limit} or --seconds {seconds}")
-        }
-        (None, None) => Ok(()),
-    };
-}
-
-// Says on standard error what helps with an answer, if anything does.
-fn say_hint(
-    rt: &HostRuntime,
-    options: &Options,
-    answer: &Result<Status, RunFault>,
-    hint: Option<Hint>,
-) {
-    if let Some(hint) = hint {
-        let words = hint.words();
-        let _ = eprintln!(rt; "lincheck: {words}");
-    }
-    if let Ok(Status::Undecided) = answer {
-        say_why_undecided(rt, options);
-    }
-}
-
 // The check of standard input, answered on standard output in this form. Workers are started with `threads`.
 fn check<R: AllocGlobal + Threads + Clock + Sync>(
     rt: &HostRuntime,
     threads: &R,
     options: &Options,
-    form: Form,
+    form: AnswerForm,
 ) -> Result<Status, RunFault> {
+    let listener = OnStandardError::new(rt);
     let mut source = StdSource::new(rt.reader());
-    let mut sink = HintingSink::new(StdSink::new(io::writer(rt)));
-    let answer = match form {
-        Form::Report => run(threads, &mut source, &mut sink, options),
-        Form::Explained => run_explained(threads, &mut source, &mut sink, options),
-        Form::Each => run_each(threads, &mut source, &mut sink, options),
-    };
-    say_hint(rt, options, &answer, sink.hint());
+    let mut sink = StdSink::new(io::writer(rt));
+    let answer = run_with(threads, &mut source, &mut sink, options, form, &listener);
+    if let Ok(Status::Undecided) = answer {
+        listener.say_why_undecided(options, form == AnswerForm::Each);
+    }
     answer
 }
 
@@ -97,9 +61,9 @@ fn carry_out<R: AllocGlobal + Threads + Clock + Sync>(
     request: &Request,
 ) -> ExitCode {
     match request {
-        Request::Run(options) => ended(rt, check(rt, threads, options, Form::Report)),
-        Request::Explain(options) => ended(rt, check(rt, threads, options, Form::Explained)),
-        Request::Each(options) => ended(rt, check(rt, threads, options, Form::Each)),
+        Request::Run(options) => ended(rt, check(rt, threads, options, AnswerForm::Report)),
+        Request::Explain(options) => ended(rt, check(rt, threads, options, AnswerForm::Explained)),
+        Request::Each(options) => ended(rt, check(rt, threads, options, AnswerForm::Each)),
         Request::Help(text) | Request::Version(text) => match print!(rt; "{text}") {
             Ok(()) => ExitCode::SUCCESS,
             Err(_) => ended(rt, Err(RunFault::Write)),

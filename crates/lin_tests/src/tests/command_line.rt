@@ -83,6 +83,14 @@ fn seconds_run(alloc: Global) -> Result<bool, AllocError> {
     runs(alloc, &["--seconds", "86400"], &timed)
 }
 
+// Whether it is taken that progress is shown.
+fn progress_run(alloc: Global) -> Result<bool, AllocError> {
+    let Ok(usual) = Options::new(4, 16, None, false) else {
+        return Ok(false);
+    };
+    runs(alloc, &["--progress"], &usual.with_progress(true))
+}
+
 // Whether the greatest numbers are taken.
 fn greatest_run(alloc: Global) -> Result<bool, AllocError> {
     let Ok(greatest) = Options::new(64, 256, Some(1_000_000_000_000), true) else {
@@ -110,6 +118,7 @@ fn words_ask_for_a_run(rt: HostRuntime) {
     assert!(rt; matches!(no_words_run(rt.alloc()), Ok(true)));
     assert!(rt; matches!(greatest_run(rt.alloc()), Ok(true)));
     assert!(rt; matches!(seconds_run(rt.alloc()), Ok(true)));
+    assert!(rt; matches!(progress_run(rt.alloc()), Ok(true)));
 }
 
 #[test]

@@ -1,0 +1,187 @@
+//! What watches a check: when its time is up, and how far it has come. What it counts is a hint: nothing is proved of it, and nothing
+//! that is proved depends on it.
+ghost use Rattle.std.specs.Prelude.{◌≡◌, IsSome, IsTrue};
+
+use crate::listener::{Listener, SoFar, Spent};
+use lin_history::History;
+use lin_workers::{Options, Watcher};
+use std::sync::atomic::Ordering::SeqCst;
+use std::sync::atomic::{AtomicBool, AtomicU64, AtomicUsize};
+use std::time::{Clock, Duration, Instant};
+
+// How many seconds go from one time that it is shown how far a check has come to the next.
+const SECONDS_BETWEEN: u64 = 2;
+
+/// The watcher of a check of a history. A clock that fails ends nothing, and shows nothing.
+#[derive(Drop)]
+pub(crate) struct CheckWatcher<'a, C, L> {
+    seconds: Option<u64>,
+    clock: &'a C,
+    history: &'a History,
+    listener: &'a L,
+    is_shown: bool,
+    is_bounded: bool,
+    begun: Option<Instant>,
+    was_up: AtomicBool,
+    // Which time it was last shown: the first after two seconds, the second after four.
+    turn: AtomicU64,
+    object: AtomicUsize,
+    calls: AtomicUsize,
+    workers: AtomicUsize,
+    tried: AtomicU64,
+    tried_before: AtomicU64,
+    stored: AtomicU64,
+    furthest: AtomicU64,
+}
+
+impl<'a, C: Clock, L: Listener> CheckWatcher<'a, C, L> {
+    // Of a check that begins now by this clock, which is read only where there is a limit or a time, or progress is to be shown.
+    pub(crate) fn new(
+        clock: &'a C,
+        history: &'a History,
+        options: &Options,
+        listener: &'a L,
+    ) -> Self
+        ensures { result.seconds ≡ options.now.seconds }
+    {
+        let seconds = options.seconds();
+        let is_bounded = options.limit().is_some() || seconds.is_some();
+        let is_shown = options.progress();
+        CheckWatcher {
+            seconds,
+            clock,
+            history,
+            listener,
+            is_shown,
+            is_bounded,
+            begun: time_now(clock, is_bounded || is_shown),
+            was_up: AtomicBool::new(false),
+            turn: AtomicU64::new(0),
+            object: AtomicUsize::new(0),
+            calls: AtomicUsize::new(0),
+            workers: AtomicUsize::new(1),
+            tried: AtomicU64::new(0),
+            tried_before: AtomicU64::new(0),
+            stored: AtomicU64::new(0),
+            furthest: AtomicU64::new(0),
+        }
+    }
+
+    // How long the check takes up to now, where the clock says so.
+    fn time(&self) -> Option<Duration> {
+        self.begun?.elapsed(self.clock).ok()
+    }
+
+    // Shows how far the search has come where two seconds have gone since that was last shown. One thread of several shows it.
+    fn show_in_time(&self, time: Option<Duration>) {
+        let Some(time) = time else {
+            return;
+        };
+        let turn = time.as_secs() / SECONDS_BETWEEN;
+        let last = self.turn.load(SeqCst);
+        if turn > last
+            && self
+                .turn
+                .compare_exchange(last, turn, SeqCst, SeqCst)
+                .is_ok()
+        {
+            self.show();
+        }
+    }
+
+    // Shows how far the search of the object has come.
+    fn show(&self) {
+        let object = self.object.load(SeqCst);
+        if object >= self.history.object_count() {
+            return;
+        }
+        let tried = self.tried.load(SeqCst);
+        self.listener.show(&SoFar {
+            object: self.history.object(object).name,
+            tried: tried.saturating_sub(self.tried_before.load(SeqCst)),
+            stored: self.stored.load(SeqCst),
+            furthest: self.furthest.load(SeqCst),
+            calls: self.calls.load(SeqCst) as u64,
+            workers: self.workers.load(SeqCst) as u64,
+        });
+    }
+
+    // Tells what the check took, which has ended.
+    pub(crate) fn end(&self) {
+        if self.is_bounded {
+            self.listener.end(&Spent {
+                tried: self.tried.load(SeqCst),
+                time: self.time(),
+                is_time_up: self.was_up.load(SeqCst),
+            });
+        }
+    }
+}
+
+// Whether so many seconds have gone, where a number is given and the clock says the time.
+fn is_over(seconds: Option<u64>, time: Option<Duration>) -> bool
+    ensures { IsTrue result → IsSome seconds }
+{
+    match (seconds, time) {
+        (Some(seconds), Some(time)) => time.as_secs() >= seconds,
+        _ => false,
+    }
+}
+
+// The time by this clock, where it is wanted.
+fn time_now<C: Clock>(clock: &C, is_wanted: bool) -> Option<Instant> {
+    if is_wanted {
+        Instant::now(clock).ok()
+    } else {
+        None
+    }
+}
+
+impl<'a, C: Clock + Sync, L: Listener + Sync> Watcher for CheckWatcher<'a, C, L> {
+    ghost seconds = { λ w. w.seconds };
+
+    fn seconds(&self) -> Option<u64> {
+        self.seconds
+    }
+
+    fn is_up(&self) -> bool {
+        if !self.is_shown && self.seconds.is_none() {
+            return false;
+        }
+        let time = self.time();
+        if self.is_shown {
+            self.show_in_time(time);
+        }
+        let is_up = is_over(self.seconds, time);
+        if is_up {
+            self.was_up.store(true, SeqCst);
+        }
+        is_up
+    }
+
+    fn is_shown(&self) -> bool {
+        self.is_shown
+    }
+
+    fn begin(&self, object: usize, calls: usize) {
+        self.object.store(object, SeqCst);
+        self.calls.store(calls, SeqCst);
+        self.workers.store(1, SeqCst);
+        self.tried_before.store(self.tried.load(SeqCst), SeqCst);
+        self.stored.store(0, SeqCst);
+        self.furthest.store(0, SeqCst);
+    }
+
+    fn share(&self, workers: usize) {
+        self.workers.store(workers, SeqCst);
+    }
+
+    fn add_tried(&self, more: u64) {
+        self.tried.fetch_add(more, SeqCst);
+    }
+
+    fn add_stored(&self, more: u64, run: u64) {
+        self.stored.fetch_add(more, SeqCst);
+        self.furthest.fetch_max(run, SeqCst);
+    }
+}
