@@ -33,11 +33,11 @@ impl<O: SeqObject> RefutedSet<O> {
         }
     }
 
-    // Whether the configuration is there.
+    // Whether the configuration is there. Where none is, it is not hashed: that takes as long as its state is large.
     pub(crate) fn has(&self, config: &Config<O>) -> bool
         ensures { IsTrue result → Among O.State.eq self.now config.now.lifted config.now.state }
     {
-        self.configs.contains(config)
+        !self.configs.is_empty() && self.configs.contains(config)
     }
 
     // Adds the configuration, where it is not there.
