@@ -4,6 +4,8 @@
 program=${1:-$top/bin/lincheck}
 room=$(mktemp -d) || fail "no folder can be made for what is checked"
 trap 'rm -rf "$room"' EXIT
+# bin/lincheck may build its program first, which takes longer than a check may
+"$program" --version >/dev/null || fail "$program can't be run"
 wrong=0
 
 # Says what differs from what is wanted, and counts it, or so many.

@@ -80,13 +80,19 @@ remove_after() {
 run_in_room() {
     local status
     set -m
-    "$@" </dev/null >"$room/log" 2>&1 {lifeline}>&- &
+    run_announced "$@" </dev/null >"$room/log" 2>&1 &
     set +m
-    echo "$!" >&"$lifeline"
     wait "$!"
     status=$?
     echo >&"$lifeline"
     return "$status"
+}
+
+# Runs a command after its group was told, so that it never runs untold.
+run_announced() {
+    echo "$BASHPID" >&"$lifeline"
+    exec {lifeline}>&-
+    "$@"
 }
 
 # Closes the room.
