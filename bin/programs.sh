@@ -54,10 +54,10 @@ open_room() {
         echo "lincheck: another ${self##*/} is building; waiting for it .." >&2
         flock "$lock" || fail "flock failed"
     fi
-    # what is left of a run with its room, where both were killed
-    rm -rf "$room" && mkdir -p "$room" && : >"$room/started" || fail "$room can't be written"
     # a group of its own, so that what ends this script does not end it
     exec {lifeline}> >(set -m; remove_after <&0 >/dev/null 2>&1 &)
+    # there may be a room where all was killed that could remove it
+    rm -rf "$room" && mkdir -p "$room" && : >"$room/started" || fail "$room can't be written"
 }
 
 # Removes the room once this script, which alone has the other end of standard input, has closed it or is gone. The lines read
