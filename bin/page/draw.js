@@ -1,0 +1,302 @@
+// Draws what is in sight of a view.
+
+const chart = document.getElementById("chart"), space = document.getElementById("space"), canvas = document.getElementById("canvas");
+const pen = canvas.getContext("2d");
+const SIZES = { // of lanes, bars and letters; `gap` is what is left at most between two bars side by side
+  all: { lane: 44, bar: 28, gap: 3, font: 12 },
+  core: { lane: 92, bar: 52, gap: 18, font: 15 },
+};
+const AXIS = 22, NARROWEST_LABEL = 26, LEAST_WIDTH = 1;
+const FONT = "ui-monospace, 'DejaVu Sans Mono', monospace";
+const COLOURS = ["ink", "paper", "faint", "line", "run", "on-run", "next", "on-next", "rest", "put", "order", "chosen"];
+
+/** What is drawn: a view, how many pixels an event is wide, the call that was chosen, and the one under the cursor. */
+const shown = { view: null, scale: 1, width: 0, height: 0, names: 0, chosen: null, hovered: null, needed: [], pairs: [] };
+let colours = {};
+
+function readColours() {
+  const style = getComputedStyle(document.documentElement);
+  colours = Object.fromEntries(COLOURS.map((name) => [name, style.getPropertyValue(`--${name}`).trim()]));
+}
+
+const sizes = () => (shown.view.isCore ? SIZES.core : SIZES.all);
+const gap = () => Math.min(sizes().gap, shown.scale / 6);
+const xOf = (slot) => shown.names + slot * shown.scale - chart.scrollLeft;
+const slotAt = (x) => (x - shown.names + chart.scrollLeft) / shown.scale;
+const topOf = (lane) => AXIS + lane * sizes().lane - chart.scrollTop;
+
+function useFont(size, weight = "") {
+  pen.font = `${weight} ${size}px ${FONT}`;
+}
+
+/** Where the bar of a call is on the canvas, also where that is out of sight. */
+function boxOf(bar) {
+  const { lane, bar: height } = sizes();
+  const left = xOf(bar.start) + gap(), right = xOf(bar.end + 1) - (bar.isOpen ? 0 : gap());
+  const top = topOf(bar.lane) + (lane - height) / 2;
+  return { left, right: Math.max(right, left + LEAST_WIDTH), top, bottom: top + height, middle: top + height / 2 };
+}
+
+/** A pattern of stripes in this colour. */
+function stripes(colour, over) {
+  const tile = document.createElement("canvas"), ratio = window.devicePixelRatio;
+  tile.width = tile.height = 8 * ratio;
+  const brush = tile.getContext("2d");
+  brush.scale(ratio, ratio);
+  brush.fillStyle = over;
+  brush.fillRect(0, 0, 8, 8);
+  brush.strokeStyle = colour;
+  brush.lineWidth = 1.5;
+  brush.stroke(new Path2D("M-2 2 L2 -2 M0 8 L8 0 M6 10 L10 6"));
+  const pattern = pen.createPattern(tile, "repeat");
+  pattern.setTransform(new DOMMatrix().scale(1 / ratio));
+  return pattern;
+}
+
+/** How a bar looks. One that never returned is pale and its edge is broken, whatever the order does with it. */
+function lookOf(call, isOpen) {
+  const looks = {
+    run: { fill: colours.run, ink: colours["on-run"], edge: colours.run, weight: "bold" },
+    next: { fill: colours.next, ink: colours["on-next"], edge: colours.ink, width: 2.5, dash: [6, 3] },
+    dropped: { fill: "hatched", ink: colours.ink, edge: colours.faint },
+    rest: { fill: colours.rest, ink: colours.ink, edge: colours.faint },
+  };
+  const look = looks[call.state];
+  return isOpen ? { ...look, fill: call.state === "dropped" ? "hatched" : "pale", ink: colours.ink, width: 1.5, dash: [4, 3] } : look;
+}
+
+function fillBox(brush, look, left, top, width, height) {
+  if (look.fill === "hatched") brush.fillStyle = stripes(colours.faint, colours.paper);
+  else brush.fillStyle = look.fill === "pale" ? look.edge : look.fill;
+  brush.globalAlpha = look.fill === "pale" ? 0.25 : 1;
+  brush.fillRect(left, top, width, height);
+  brush.globalAlpha = 1;
+}
+
+/** The edge of a box; an open one has none on the right. */
+function edgeBox(brush, look, isOpen, left, top, width, height) {
+  brush.strokeStyle = look.edge;
+  brush.lineWidth = look.width ?? 1;
+  brush.setLineDash(look.dash ?? []);
+  brush.beginPath();
+  brush.moveTo(left + width, top);
+  brush.lineTo(left, top);
+  brush.lineTo(left, top + height);
+  brush.lineTo(left + width, top + height);
+  if (!isOpen) brush.closePath();
+  brush.stroke();
+  brush.setLineDash([]);
+}
+
+/** As much of a text as is not wider than this, with an ellipsis where it is cut. */
+function cut(text, width) {
+  if (pen.measureText(text).width <= width) return text;
+  const letters = Math.floor(width / pen.measureText("m").width) - 1;
+  return letters > 0 ? `${text.slice(0, letters)}…` : "";
+}
+
+/** The lines on a bar. */
+function labelOf(call) {
+  const { view } = shown;
+  const first = `${call.place && !view.isCore ? `${call.place}. ` : ""}${said(call)}`;
+  if (!view.isCore) return [call.state === "next" ? `${first}, ${call.here.replace("it would be ", "")}` : first];
+  return [first, isPending(call) ? `line ${call.line}` : `lines ${call.line} and ${call.returned}`];
+}
+
+/** The text of a bar, in that part of it which is in sight. */
+function drawLabel(bar, look, left, right, box) {
+  if (right - left < NARROWEST_LABEL) return;
+  const { font } = sizes(), label = labelOf(bar.call);
+  pen.fillStyle = look.ink;
+  label.forEach((line, index) => {
+    useFont(index ? font - 2.5 : font, index ? "" : look.weight);
+    const offset = label.length === 1 ? 0 : index ? 0.23 : -0.18;
+    pen.fillText(cut(line, right - left - 12), left + 7, box.middle + offset * (box.bottom - box.top) + 1);
+  });
+}
+
+function drawBar(bar) {
+  const box = boxOf(bar), { call } = bar, look = lookOf(call, bar.isOpen);
+  const left = Math.max(box.left, shown.names - 4), right = Math.min(box.right, shown.width + 4);
+  fillBox(pen, look, left, box.top, right - left, box.bottom - box.top);
+  if (box.right - box.left > 4) edgeBox(pen, look, bar.isOpen, left, box.top, right - left, box.bottom - box.top);
+  drawLabel(bar, look, Math.max(box.left, shown.names), Math.min(box.right, shown.width), box);
+  if (call.core && !shown.view.isCore) ring(box, colours.order, 2);
+  if (call === shown.chosen || call === shown.hovered) ring(box, colours.chosen, call === shown.chosen ? 3.5 : 2);
+}
+
+function ring(box, colour, width) {
+  pen.strokeStyle = colour;
+  pen.lineWidth = width;
+  pen.strokeRect(box.left - 1.5, box.top - 1.5, box.right - box.left + 3, box.bottom - box.top + 3);
+}
+
+/** The bars of a lane that are in sight. Of those in one pixel the first. */
+function drawLane(lane, index) {
+  const top = topOf(index), { lane: height } = sizes();
+  pen.strokeStyle = colours.line;
+  pen.lineWidth = 1;
+  pen.strokeRect(-1, Math.round(top + height) - 0.5, shown.width + 2, 0);
+  if (lane.openFrom !== null) drawOpenEnd(xOf(lane.openFrom), top + height - 4);
+  const end = slotAt(shown.width);
+  for (let at = firstFrom(lane.bars, slotAt(shown.names) - 1); at < lane.bars.length && lane.bars[at].start <= end; ) {
+    drawBar(lane.bars[at]);
+    at = Math.max(at + 1, firstFrom(lane.bars, slotAt(xOf(lane.bars[at].start) + LEAST_WIDTH)));
+  }
+  drawTakeovers(lane, top);
+}
+
+/** A call that never returned goes on below those of the process that took over. */
+function drawOpenEnd(left, y) {
+  pen.strokeStyle = colours.faint;
+  pen.lineWidth = 1.5;
+  pen.setLineDash([4, 3]);
+  pen.beginPath();
+  pen.moveTo(Math.max(left, shown.names), y);
+  pen.lineTo(shown.width, y);
+  pen.stroke();
+  pen.setLineDash([]);
+}
+
+/** Where a process goes on in the lane of another, its number. */
+function drawTakeovers(lane, top) {
+  useFont(10);
+  pen.fillStyle = colours.faint;
+  let free = -Infinity;
+  for (const life of lane.lives.slice(1)) {
+    const x = xOf(life.first) + 4;
+    if (x < free || x > shown.width) continue;
+    const text = `process ${life.process}`;
+    free = x + pen.measureText(text).width + 6;
+    if (free > shown.names) pen.fillText(text, x, top + 5);
+  }
+}
+
+/** The processes of the lanes at the left edge. */
+function drawNames() {
+  const { lane: height } = sizes(), slot = slotAt(shown.names);
+  pen.fillStyle = colours.paper;
+  pen.fillRect(0, 0, shown.names - 6, shown.height);
+  pen.fillStyle = colours.ink;
+  useFont(12);
+  shown.view.lanes.forEach((lane, index) => {
+    const top = topOf(index);
+    if (top > shown.height || top + height < 0) return;
+    const life = lane.lives.findLast((it) => it.first <= slot) ?? lane.lives[0];
+    pen.fillText(nameOf(life.process), 8, top + height / 2);
+  });
+}
+
+const isNarrow = () => chart.clientWidth < 500;
+const nameOf = (process) => (isNarrow() ? `p${process}` : `process ${process}`);
+
+/** The numbers of lines above the events. */
+function drawAxis() {
+  const { lines } = shown.view;
+  pen.fillStyle = colours.paper;
+  pen.fillRect(0, 0, shown.width, AXIS - 2);
+  pen.fillStyle = colours.faint;
+  useFont(11);
+  pen.fillText("line", 8, AXIS / 2);
+  const step = Math.max(1, Math.ceil((pen.measureText(String(lines.at(-1))).width + 14) / shown.scale));
+  const begin = Math.ceil(Math.max(0, slotAt(shown.names)) / step) * step;
+  for (let slot = begin; slot < lines.length && xOf(slot) < shown.width; slot += step) {
+    pen.fillText(lines[slot], xOf(slot) + gap(), AXIS / 2);
+  }
+}
+
+/** The tip of an arrow that comes from this direction. */
+function drawTip(x, y, dx, dy) {
+  const length = Math.hypot(dx, dy) || 1, [ux, uy] = [dx / length, dy / length];
+  pen.beginPath();
+  pen.moveTo(x, y);
+  pen.lineTo(x - 9 * ux - 4.5 * uy, y - 9 * uy + 4.5 * ux);
+  pen.lineTo(x - 9 * ux + 4.5 * uy, y - 9 * uy - 4.5 * ux);
+  pen.fill();
+}
+
+/** Where an arrow from a box to another begins and ends, left and right. */
+function endsOf(from, to) {
+  const inset = 14;
+  if (from.right < to.left) return [Math.max(from.right - inset, (from.left + from.right) / 2), Math.min(to.left + inset, (to.left + to.right) / 2)];
+  if (from.left > to.right) return [Math.min(from.left + inset, (from.left + from.right) / 2), Math.max(to.right - inset, (to.left + to.right) / 2)];
+  const middle = (Math.max(from.left, to.left) + Math.min(from.right, to.right)) / 2;
+  return [middle, middle];
+}
+
+/** A word beside a line or on it, with paper around it. */
+function drawWord(text, x, y, colour) {
+  useFont(sizes().font - 2, "bold");
+  const width = pen.measureText(text).width;
+  pen.fillStyle = colours.paper;
+  pen.fillRect(x - width / 2 - 3, y - 8, width + 6, 16);
+  pen.fillStyle = colour;
+  pen.fillText(text, x - width / 2, y + 1);
+}
+
+/** An arrow from the call that put a value to the one that took it. */
+function drawPair({ putter, taker, isOneOfMany }) {
+  const from = boxOf(shown.view.bars.get(putter)), to = boxOf(shown.view.bars.get(taker));
+  const [x, endX] = endsOf(from, to), isBelow = to.top > from.top, isBeside = to.top === from.top;
+  const y = isBelow ? from.bottom : from.top, endY = isBelow || isBeside ? to.top : to.bottom;
+  const bend = isBeside ? -30 : (endY - y) / 2;
+  pen.strokeStyle = pen.fillStyle = colours.put;
+  pen.lineWidth = 2;
+  pen.setLineDash(isOneOfMany ? [5, 4] : []);
+  pen.beginPath();
+  pen.moveTo(x, y);
+  pen.bezierCurveTo(x, y + bend, endX, endY - (isBeside ? 30 : bend), endX, endY);
+  pen.stroke();
+  pen.setLineDash([]);
+  drawTip(endX, endY, 0, isBeside ? 1 : bend);
+  if (shown.view.isCore) drawWord(takenBy(taker).split(": ").map(valueOf).join(": "), (x + endX) / 2, (y + endY) / 2 + (isBeside ? -22 : 0), colours.put);
+}
+
+/** A line from the return of a call to the call of one that came later. */
+function drawNeeded([before, after], index) {
+  const from = boxOf(shown.view.bars.get(before)), to = boxOf(shown.view.bars.get(after));
+  const x = Math.min(from.right + 5 + (index % 3) * 5, (from.right + to.left) / 2);
+  pen.strokeStyle = pen.fillStyle = colours.order;
+  pen.lineWidth = 2.5;
+  pen.beginPath();
+  pen.moveTo(from.right, from.middle);
+  pen.lineTo(x, from.middle);
+  pen.lineTo(x, to.middle);
+  pen.lineTo(to.left - 6, to.middle);
+  pen.stroke();
+  drawTip(to.left, to.middle, 1, 0);
+}
+
+/** Makes the canvas as large as what is in sight. */
+function fitCanvas() {
+  const ratio = window.devicePixelRatio, { clientWidth: width, clientHeight: height } = chart;
+  if (canvas.width !== Math.round(width * ratio) || canvas.height !== Math.round(height * ratio)) {
+    Object.assign(canvas, { width: Math.round(width * ratio), height: Math.round(height * ratio) });
+    Object.assign(canvas.style, { width: `${width}px`, height: `${height}px` });
+  }
+  Object.assign(shown, { width, height });
+  pen.setTransform(ratio, 0, 0, ratio, 0, 0);
+  pen.textBaseline = "middle";
+}
+
+function draw() {
+  fitCanvas();
+  pen.fillStyle = colours.paper;
+  pen.fillRect(0, 0, shown.width, shown.height);
+  shown.needed.forEach(drawNeeded);
+  const { lanes } = shown.view, { lane: height } = sizes();
+  const begin = Math.max(0, Math.floor((chart.scrollTop - AXIS) / height));
+  for (let index = begin; index < lanes.length && topOf(index) < shown.height; index++) drawLane(lanes[index], index);
+  shown.pairs.forEach(drawPair);
+  drawNames();
+  drawAxis();
+}
+
+let isDue = false;
+
+/** Draws soon, once for all that happens until then. */
+function drawSoon() {
+  if (isDue) return;
+  isDue = true;
+  requestAnimationFrame(() => { isDue = false; draw(); });
+}

@@ -1,0 +1,107 @@
+// Who put the value that a call took, and the real-time order without which the calls of the core would have an order.
+
+const MOST_TRIED = 300_000; // steps; a core for which that is not enough shows its whole real-time order
+const MOST_PUTS = 4, MOST_PAIRS = 16; // arrows to a call, and from and to one on which the cursor is
+const MOST_IN_MASK = 30; // calls whose subsets are numbered by bits
+
+/** What the call put where another could take it, as text: a value, of a map under its key; or null. */
+function putBy(call) {
+  const [first, second] = call.args, did = replyOf(call) === "true";
+  switch (`${call.object.kind} ${call.op}`) {
+    case "register write": case "queue enq": case "stack push": return first;
+    case "register cas": return did ? second : null;
+    case "set add": return did ? first : null;
+    case "map put": return `${first}: ${second}`;
+    default: return null;
+  }
+}
+
+/** What the call saw or took that another must have put, in the same form. */
+function takenBy(call) {
+  const [first] = call.args, reply = replyOf(call);
+  const there = reply === null || reply === "empty" ? null : reply;
+  switch (`${call.object.kind} ${call.op}`) {
+    case "register read": case "queue deq": case "stack pop": return there;
+    case "register cas": return reply === "true" ? first : null;
+    case "set add": return reply === "false" ? first : null;
+    case "set remove": case "set contains": return reply === "true" ? first : null;
+    case "map get": return there === null ? null : `${first}: ${there}`;
+    default: return null;
+  }
+}
+
+/** These calls by what this tells of each, with the object; those of which it tells nothing are left out. */
+function groupsBy(chosen, what) {
+  const groups = new Map();
+  for (const call of chosen) {
+    if (what(call) === null) continue;
+    const key = `${call.object.name} ${what(call)}`;
+    if (groups.has(key)) groups.get(key).push(call);
+    else groups.set(key, [call]);
+  }
+  return groups;
+}
+
+/** The pairs of these calls of which the first put what the second took, as far as one of the two is this call, if one is given.
+ * Of many that put it, those that were called last before it was taken. */
+function pairsByValue(chosen, one = null) {
+  const puts = groupsBy(chosen, putBy);
+  const takers = one ? chosen.filter((taker) => taker === one || `${taker.object.name} ${takenBy(taker)}` === `${one.object.name} ${putBy(one)}`) : chosen;
+  const pairs = takers.filter((taker) => takenBy(taker) !== null).flatMap((taker) => {
+    const all = (puts.get(`${taker.object.name} ${takenBy(taker)}`) ?? []).filter((putter) => putter !== taker);
+    const early = all.filter((putter) => putter.line < taker.returned);
+    const found = early.length ? early.slice(-MOST_PUTS) : all.slice(0, 1);
+    return found.map((putter) => ({ putter, taker, isOneOfMany: found.length > 1 }));
+  });
+  return one ? pairs.filter(({ putter, taker }) => putter === one || taker === one).slice(0, MOST_PAIRS) : pairs;
+}
+
+/** When the call returned, as the core takes it. */
+function returnedInCore(call) {
+  return call.core?.isPending ? Infinity : call.returned;
+}
+
+/** The pairs of calls of the core of which the first returned before the second was called, the farthest apart first. */
+function precedences() {
+  const pairs = core.flatMap((before) => core.filter((after) => returnedInCore(before) < after.line).map((after) => [before, after]));
+  return pairs.sort(([a, b], [c, d]) => d.line - c.returned - (b.line - a.returned));
+}
+
+/** The pairs without those that others imply. */
+function withoutImplied(pairs) {
+  const has = new Set(pairs.map(([a, b]) => `${a.number} ${b.number}`));
+  return pairs.filter(([a, b]) => !core.some((c) => has.has(`${a.number} ${c.number}`) && has.has(`${c.number} ${b.number}`)));
+}
+
+/** Whether the calls of the core have an order that keeps these pairs; undefined where too many steps were taken. */
+function hasOrder(pairs, tried) {
+  const before = core.map((call) => pairs.filter(([, after]) => after === call).reduce((mask, [it]) => mask | (1 << core.indexOf(it)), 0));
+  const returned = core.reduce((mask, call, bit) => (returnedInCore(call) === Infinity ? mask : mask | (1 << bit)), 0);
+  const refuted = new Set();
+  const goesOn = (state, done) => {
+    if ((returned & ~done) === 0) return true;
+    const known = `${done} ${state.text()}`;
+    if (refuted.has(known) || ++tried.steps > MOST_TRIED) return false;
+    refuted.add(known);
+    return core.some((call, bit) => {
+      if (done & (1 << bit) || before[bit] & ~done) return false;
+      const next = state.copy(), reply = next.step(call.process, call.op, call.args);
+      return reply !== null && (returnedInCore(call) === Infinity || reply === call.reply) && goesOn(next, done | (1 << bit));
+    });
+  };
+  return goesOn(startOf(core[0].object), 0);
+}
+
+/** Pairs of the real-time order of the core: none can be left out without an order. Where the page did not find out which, all. */
+function neededOrder() {
+  if (!core.length || core.length > MOST_IN_MASK) return withoutImplied(precedences());
+  const tried = { steps: 0 };
+  let needed = precedences();
+  if (hasOrder(needed, tried)) return withoutImplied(needed);
+  for (const pair of precedences()) {
+    const rest = needed.filter(([a, b]) => a !== pair[0] || b !== pair[1]);
+    if (!hasOrder(rest, tried)) needed = rest;
+    if (tried.steps > MOST_TRIED) return withoutImplied(precedences());
+  }
+  return needed;
+}

@@ -1,0 +1,286 @@
+// What the page does with the mouse, the keys and its buttons.
+
+const told = document.getElementById("told"), legend = document.getElementById("legend"), found = document.getElementById("found");
+const objectChoice = document.getElementById("object"), valueChoice = document.getElementById("value");
+const links = [...document.querySelectorAll("a[data-call]")];
+
+const MOST_WIDE = 16_000_000; // pixels; browsers draw no wider box
+const MOST_SCALE = 240, LEGIBLE = 44, ZOOM = 1.25, STEP = 120, HIGHEST = 0.62;
+
+const zoomRange = () => {
+  const slots = shown.view.lines.length;
+  return { least: Math.min(LEGIBLE, fitting()), most: Math.min(MOST_SCALE, Math.max(fitting(), MOST_WIDE / slots)) };
+};
+
+/** The scale at which all events are in sight. */
+const fitting = () => (chart.clientWidth - shown.names - 2) / shown.view.lines.length;
+
+/** Sets how wide an event is; what is at this place of the canvas stays there. */
+function setScale(scale, x = (shown.names + shown.width) / 2) {
+  const slot = slotAt(x), { least, most } = zoomRange();
+  shown.scale = Math.min(most, Math.max(least, scale));
+  resizeSpace();
+  chart.scrollLeft = shown.names + slot * shown.scale - x;
+  drawSoon();
+}
+
+function resizeSpace() {
+  const width = shown.names + shown.view.lines.length * shown.scale, height = AXIS + shown.view.lanes.length * sizes().lane;
+  const bar = chart.offsetHeight - chart.clientHeight;
+  Object.assign(space.style, { width: `${Math.floor(width)}px`, height: `${height}px` });
+  chart.style.height = `${Math.min(height + Math.max(bar, 2) + (width > chart.clientWidth + 1 ? 16 : 0), Math.max(240, innerHeight * HIGHEST))}px`;
+}
+
+/** How wide the names of the lanes are. */
+function namesWidth() {
+  useFont(12);
+  const widths = shown.view.lanes.flatMap((lane) => lane.lives.map(({ process }) => String(process).length));
+  return pen.measureText(nameOf("0".repeat(Math.max(0, ...widths)))).width + 20;
+}
+
+/** Shows these calls: all in sight where they can be read so. */
+function show(chosen, isCore) {
+  Object.assign(shown, { view: viewOf(chosen, isCore), needed: isCore ? neededOrder() : [], hovered: null });
+  shown.names = namesWidth();
+  shown.pairs = pairsInSight();
+  space.style.width = "0px"; // so that no bar for scrolling is there when all is measured
+  setScale(Math.min(isCore ? MOST_SCALE : 84, Math.max(fitting(), LEGIBLE)));
+  resizeSpace();
+  chart.scrollLeft = chart.scrollTop = 0;
+  found.textContent = chosen.length ? "" : "no call";
+  for (const button of document.querySelectorAll("#views button")) button.setAttribute("aria-pressed", String((button.id === "core") === isCore));
+  tell(null);
+  writeLegend();
+  draw();
+}
+
+function showCore() {
+  objectChoice.value = valueChoice.value = "";
+  show(core, true);
+}
+
+/** Shows the calls of the filter, and of these first one that matters. */
+function showAll() {
+  const object = objectChoice.value, words = valueChoice.value.trim();
+  show(calls.filter((call) => matches(call, object, words)), false);
+  const first = core[0] ?? calls.find(({ state }) => state === "next");
+  if (first && shown.view.bars.has(first)) bringIntoView(first, 0.4);
+}
+
+/** The arrows: all of the core, else those of the calls that were chosen or are under the cursor. */
+function pairsInSight() {
+  const { view, chosen, hovered } = shown;
+  if (view.isCore) return pairsByValue(core);
+  const pairs = [...new Set([chosen, hovered])].flatMap((call) => (call ? pairsByValue(calls, call) : []));
+  return pairs.filter(({ putter, taker }) => view.bars.has(putter) && view.bars.has(taker));
+}
+
+/** Moves to the bar of a call, so that it begins in this part of the width. */
+function bringIntoView(call, part = 0.3) {
+  const bar = shown.view.bars.get(call);
+  if (shown.scale < LEGIBLE) setScale(LEGIBLE);
+  const box = boxOf(bar), { lane } = sizes();
+  const isBeside = box.left < shown.names || Math.min(box.right, box.left + 160) > shown.width;
+  if (isBeside) chart.scrollLeft += box.left - shown.names - (shown.width - shown.names) * part;
+  if (box.top < AXIS) chart.scrollTop += box.top - AXIS - (lane - sizes().bar) / 2;
+  if (box.bottom > shown.height) chart.scrollTop += box.bottom - shown.height + (lane - sizes().bar) / 2;
+  draw();
+}
+
+/** Chooses a call, and brings its bar into view; all calls are shown where the view is without it. */
+function choose(call) {
+  if (!shown.view.bars.has(call)) {
+    objectChoice.value = valueChoice.value = "";
+    show(calls, false);
+  }
+  shown.chosen = call;
+  shown.pairs = pairsInSight();
+  chart.scrollIntoView({ block: "nearest" });
+  bringIntoView(call);
+  for (const link of links) link.classList.toggle("chosen", +link.dataset.call === call.number);
+  const box = boxOf(shown.view.bars.get(call));
+  tell(call, Math.max(box.left, shown.names), box.bottom + 4);
+}
+
+function chooseNone() {
+  shown.chosen = null;
+  shown.pairs = pairsInSight();
+  for (const link of links) link.classList.remove("chosen");
+  tell(null);
+  drawSoon();
+}
+
+/** Shows what is told of a call, by this place of the canvas. */
+function tell(call, x, y) {
+  told.hidden = !call;
+  if (!call) return;
+  told.replaceChildren(...toldOf(call).map((line) => Object.assign(document.createElement("div"), { textContent: line })));
+  told.style.left = `${Math.max(0, Math.min(x, chart.clientWidth - told.offsetWidth - 4))}px`;
+  told.style.top = `${y + 4}px`;
+}
+
+/** The call whose bar is at this place, or beside it by a few pixels where bars are narrow. */
+function callAt(x, y) {
+  if (x < shown.names || y < AXIS) return null;
+  const lane = shown.view.lanes[Math.floor((y + chart.scrollTop - AXIS) / sizes().lane)];
+  if (!lane) return null;
+  const at = firstFrom(lane.bars, Math.floor(slotAt(x - 2)));
+  const bar = lane.bars[at], box = bar && boxOf(bar);
+  return bar && box.left - 2 <= x && x <= box.right + 2 && box.top <= y && y <= box.bottom ? bar.call : null;
+}
+
+function hover(event) {
+  const { left, top } = canvas.getBoundingClientRect(), [x, y] = [event.clientX - left, event.clientY - top];
+  const call = callAt(x, y);
+  if (call !== shown.hovered) {
+    shown.hovered = call;
+    shown.pairs = pairsInSight();
+    drawSoon();
+  }
+  if (call) tell(call, x + 14, y + 14);
+  else if (!shown.chosen) tell(null);
+}
+
+// Moving by the mouse: from where it was pressed, until it is let go.
+let held = null;
+
+chart.addEventListener("pointerdown", (event) => {
+  if (event.pointerType !== "mouse" || event.button !== 0 || event.target !== canvas) return;
+  held = { x: event.clientX, y: event.clientY, left: chart.scrollLeft, top: chart.scrollTop, hasMoved: false };
+});
+
+window.addEventListener("pointermove", (event) => {
+  if (!held) return;
+  const [dx, dy] = [event.clientX - held.x, event.clientY - held.y];
+  held.hasMoved ||= Math.hypot(dx, dy) > 4;
+  if (!held.hasMoved) return;
+  chart.classList.add("moving");
+  Object.assign(chart, { scrollLeft: held.left - dx, scrollTop: held.top - dy });
+});
+
+window.addEventListener("pointerup", () => {
+  if (held && held.hasMoved) window.addEventListener("click", (event) => event.stopPropagation(), { capture: true, once: true });
+  chart.classList.remove("moving");
+  held = null;
+});
+
+canvas.addEventListener("click", (event) => {
+  const { left, top } = canvas.getBoundingClientRect(), call = callAt(event.clientX - left, event.clientY - top);
+  if (call) choose(call);
+  else chooseNone();
+});
+canvas.addEventListener("pointermove", (event) => { if (!held?.hasMoved) hover(event); });
+canvas.addEventListener("pointerleave", () => {
+  shown.hovered = null;
+  shown.pairs = pairsInSight();
+  if (!shown.chosen) tell(null);
+  drawSoon();
+});
+
+chart.addEventListener("scroll", () => { tell(null); drawSoon(); });
+chart.addEventListener("wheel", (event) => {
+  if (event.shiftKey || Math.abs(event.deltaX) > Math.abs(event.deltaY)) return;
+  event.preventDefault();
+  setScale(shown.scale * Math.exp(-event.deltaY / 400), event.clientX - canvas.getBoundingClientRect().left);
+}, { passive: false });
+
+/** The call of the run so many places after the chosen one. */
+function step(places) {
+  const from = shown.chosen?.place || (places > 0 ? 0 : run.length + 1);
+  const call = run[from + places - 1];
+  if (call) choose(call);
+}
+
+const KEYS = {
+  "+": () => setScale(shown.scale * ZOOM),
+  "=": () => setScale(shown.scale * ZOOM),
+  "-": () => setScale(shown.scale / ZOOM),
+  f: () => setScale(0),
+  n: () => step(1),
+  p: () => step(-1),
+  Escape: chooseNone,
+  ArrowLeft: () => { chart.scrollLeft -= STEP; },
+  ArrowRight: () => { chart.scrollLeft += STEP; },
+  Home: () => { chart.scrollLeft = 0; },
+  End: () => { chart.scrollLeft = space.offsetWidth; },
+};
+
+document.addEventListener("keydown", (event) => {
+  const key = KEYS[event.key], isWritten = /^(INPUT|SELECT)$/.test(event.target.tagName);
+  if (!key || isWritten || event.ctrlKey || event.metaKey || event.altKey) return;
+  event.preventDefault();
+  key();
+});
+
+for (const link of links) link.addEventListener("click", (event) => { event.preventDefault(); choose(calls[link.dataset.call]); });
+document.getElementById("in").addEventListener("click", KEYS["+"]);
+document.getElementById("out").addEventListener("click", KEYS["-"]);
+document.getElementById("fit").addEventListener("click", KEYS.f);
+objectChoice.addEventListener("change", showAll);
+valueChoice.addEventListener("input", showAll);
+
+/** The buttons of the two views, where there is a core. */
+function addViews() {
+  const views = { core: [`these ${core.length} calls alone`, showCore], all: [`all ${calls.length.toLocaleString("en")} calls`, showAll] };
+  for (const [id, [textContent, onclick]] of core.length ? Object.entries(views) : []) {
+    document.getElementById("views").append(Object.assign(document.createElement("button"), { type: "button", id, textContent, onclick }));
+  }
+}
+
+/** What the colours and lines mean that the view has. */
+function writeLegend() {
+  const all = [...shown.view.bars.values()];
+  const items = [
+    ["run", false, `in the ${runName}, at this place`],
+    ["next", false, "could come next: no other call that is left precedes it"],
+    ["dropped", true, "never returned, and the order leaves it out"],
+    ["rest", false, run.length ? "any other call" : "a call"],
+  ].filter(([state]) => all.some((bar) => bar.call.state === state && bar.isOpen === (state === "dropped")));
+  if (all.some((bar) => bar.isOpen && bar.call.state !== "dropped")) items.push([run.length ? "run" : "rest", true, "never returned, or taken so"]);
+  legend.replaceChildren(...items.map(([state, isOpen, text]) => legendItem((brush) => drawSwatch(brush, lookOf({ state }, isOpen), isOpen), text)));
+  if (shown.view.isCore && shown.pairs.length) legend.append(legendItem((brush) => drawStroke(brush, colours.put), "put what the other took"));
+  if (shown.needed.length) legend.append(legendItem((brush) => drawStroke(brush, colours.order), "returned before the other was called; without this there would be an order"));
+  if (!shown.view.isCore && core.length) legend.append(legendItem((brush) => drawFrame(brush, colours.order), "one of the calls that alone have no order"));
+}
+
+function legendItem(paint, text) {
+  const item = document.createElement("li"), swatch = document.createElement("canvas"), ratio = window.devicePixelRatio;
+  Object.assign(swatch, { width: 34 * ratio, height: 18 * ratio });
+  Object.assign(swatch.style, { width: "34px", height: "18px" });
+  const brush = swatch.getContext("2d");
+  brush.scale(ratio, ratio);
+  paint(brush);
+  item.append(swatch, text);
+  return item;
+}
+
+function drawSwatch(brush, look, isOpen) {
+  fillBox(brush, look, 2, 2, 30, 14);
+  edgeBox(brush, look, isOpen, 2, 2, 30, 14);
+}
+
+function drawStroke(brush, colour) {
+  brush.strokeStyle = brush.fillStyle = colour;
+  brush.lineWidth = 2.5;
+  brush.stroke(new Path2D("M2 9 H26"));
+  brush.fill(new Path2D("M32 9 L24 4.5 V13.5 Z"));
+}
+
+function drawFrame(brush, colour) {
+  brush.strokeStyle = colour;
+  brush.lineWidth = 2;
+  brush.strokeRect(3, 3, 28, 12);
+}
+
+function begin() {
+  readColours();
+  fitCanvas();
+  addViews();
+  for (const { name } of data.objects) objectChoice.append(new Option(name, name));
+  if (core.length) showCore();
+  else showAll();
+  matchMedia("(prefers-color-scheme: dark)").addEventListener("change", () => { readColours(); writeLegend(); draw(); });
+  new ResizeObserver(() => { shown.names = namesWidth(); setScale(shown.scale, shown.names); }).observe(document.getElementById("frame"));
+}
+
+begin();
