@@ -41,11 +41,15 @@ function replyOf(call) {
   return call.reply ?? call.completed ?? null;
 }
 
-/** The call with its reply, as the text has it; with other words for the values where such are given. */
+/** The operation with its arguments; with other words for the values where such are given. */
+function operation(call, value = valueOf) {
+  return `${call.op}(${call.args.map(value).join(",")})`;
+}
+
+/** The same with its reply, as the text has it. */
 function said(call, value = valueOf) {
   const reply = replyOf(call);
-  const end = reply === null ? "" : ` = ${value(reply)}${isPending(call) ? " completed" : ""}`;
-  return `${call.op}(${call.args.map(value).join(",")})${end}`;
+  return operation(call, value) + (reply === null ? "" : ` = ${value(reply)}${isPending(call) ? " completed" : ""}`);
 }
 
 function linesOf(call) {

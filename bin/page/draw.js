@@ -5,13 +5,19 @@ const pen = canvas.getContext("2d");
 const SIZES = { // of lanes, bars and letters; `gap` is what is left at most between two bars side by side
   all: { lane: 44, bar: 28, gap: 3, font: 12 },
   core: { lane: 92, bar: 52, gap: 18, font: 15 },
+  narrow: { lane: 84, bar: 48, gap: 12, font: 11 },
 };
-const AXIS = 22, NARROWEST_LABEL = 26, LEAST_WIDTH = 1;
+const AXIS = 22, INSET = 6, NARROWEST_LABEL = 26, LEAST_WIDTH = 1, THIN = 4;
 const FONT = "ui-monospace, 'DejaVu Sans Mono', monospace";
 const COLOURS = ["ink", "paper", "faint", "line", "run", "on-run", "next", "on-next", "rest", "put", "order", "chosen"];
 
-/** What is drawn: a view, how many pixels an event is wide, the call that was chosen, and the one under the cursor. */
-const shown = { view: null, scale: 1, width: 0, height: 0, names: 0, chosen: null, hovered: null, needed: [], pairs: [] };
+/** What is drawn: a view, how many pixels an event and the names of the lanes are wide, the lines and arrows, the call that was chosen,
+ * and the one under the cursor. */
+const shown = {
+  view: null, sizes: SIZES.all, scale: 1, names: 0, needed: [], pairs: [], chosen: null, hovered: null,
+  width: 0, height: 0, left: 0, top: 0, // of the canvas, and where it is in the chart
+};
+const patterns = new Map();
 let colours = {};
 
 function readColours() {
@@ -19,11 +25,12 @@ function readColours() {
   colours = Object.fromEntries(COLOURS.map((name) => [name, style.getPropertyValue(`--${name}`).trim()]));
 }
 
-const sizes = () => (shown.view.isCore ? SIZES.core : SIZES.all);
-const gap = () => Math.min(sizes().gap, shown.scale / 6);
-const xOf = (slot) => shown.names + slot * shown.scale - chart.scrollLeft;
-const slotAt = (x) => (x - shown.names + chart.scrollLeft) / shown.scale;
-const topOf = (lane) => AXIS + lane * sizes().lane - chart.scrollTop;
+const isNarrow = () => chart.clientWidth < 500;
+const sizesOf = (view) => (!view.isCore ? SIZES.all : isNarrow() ? SIZES.narrow : SIZES.core);
+const gap = () => Math.min(shown.sizes.gap, shown.scale / 6);
+const xOf = (slot) => shown.names + slot * shown.scale - shown.left;
+const slotAt = (x) => (x - shown.names + shown.left) / shown.scale;
+const topOf = (lane) => AXIS + lane * shown.sizes.lane - shown.top;
 
 function useFont(size, weight = "") {
   pen.font = `${weight} ${size}px ${FONT}`;
@@ -31,20 +38,23 @@ function useFont(size, weight = "") {
 
 /** Where the bar of a call is on the canvas, also where that is out of sight. */
 function boxOf(bar) {
-  const { lane, bar: height } = sizes();
+  const { lane, bar: height } = shown.sizes;
   const left = xOf(bar.start) + gap(), right = xOf(bar.end + 1) - (bar.isOpen ? 0 : gap());
   const top = topOf(bar.lane) + (lane - height) / 2;
   return { left, right: Math.max(right, left + LEAST_WIDTH), top, bottom: top + height, middle: top + height / 2 };
 }
 
-/** A pattern of stripes in this colour. */
-function stripes(colour, over) {
+/** A pattern of stripes in this colour; of each colour it is made once. */
+function stripes(colour) {
+  if (!patterns.has(colour)) patterns.set(colour, newStripes(colour));
+  return patterns.get(colour);
+}
+
+function newStripes(colour) {
   const tile = document.createElement("canvas"), ratio = window.devicePixelRatio;
   tile.width = tile.height = 8 * ratio;
   const brush = tile.getContext("2d");
   brush.scale(ratio, ratio);
-  brush.fillStyle = over;
-  brush.fillRect(0, 0, 8, 8);
   brush.strokeStyle = colour;
   brush.lineWidth = 1.5;
   brush.stroke(new Path2D("M-2 2 L2 -2 M0 8 L8 0 M6 10 L10 6"));
@@ -66,10 +76,12 @@ function lookOf(call, isOpen) {
 }
 
 function fillBox(brush, look, left, top, width, height) {
-  if (look.fill === "hatched") brush.fillStyle = stripes(colours.faint, colours.paper);
-  else brush.fillStyle = look.fill === "pale" ? look.edge : look.fill;
-  brush.globalAlpha = look.fill === "pale" ? 0.25 : 1;
-  brush.fillRect(left, top, width, height);
+  const fills = { hatched: [[stripes(colours.faint), 1]], pale: [[look.edge, 0.25]] };
+  for (const [fill, alpha] of [[colours.paper, 1], ...(fills[look.fill] ?? [[look.fill, 1]])]) {
+    brush.fillStyle = fill;
+    brush.globalAlpha = alpha;
+    brush.fillRect(left, top, width, height);
+  }
   brush.globalAlpha = 1;
 }
 
@@ -95,45 +107,70 @@ function cut(text, width) {
   return letters > 0 ? `${text.slice(0, letters)}…` : "";
 }
 
-/** The lines on a bar. */
-function labelOf(call) {
-  const { view } = shown;
-  const first = `${call.place && !view.isCore ? `${call.place}. ` : ""}${said(call)}`;
-  if (!view.isCore) return [call.state === "next" ? `${first}, ${call.here.replace("it would be ", "")}` : first];
-  return [first, isPending(call) ? `line ${call.line}` : `lines ${call.line} and ${call.returned}`];
+/** The lines on a bar of this width: in the core also those of the input, or the reply on a line of its own where it must be. */
+function labelOf(call, width) {
+  if (!shown.view.isCore) {
+    const here = call.state === "next" ? `, ${call.here.replace("it would be ", "")}` : "";
+    return [`${call.place ? `${call.place}. ` : ""}${said(call)}${here}`];
+  }
+  const [did, reply] = call.core.isPending ? [operation(call)] : said(call).split(/(?== )/);
+  const first = reply ? did + reply : did;
+  if (reply && pen.measureText(first).width > width) return [did, reply];
+  return [first, call.core.isPending ? `line ${call.line}` : linesOf(call)];
 }
 
 /** The text of a bar, in that part of it which is in sight. */
-function drawLabel(bar, look, left, right, box) {
+function drawLabel(bar) {
+  const box = boxOf(bar), left = Math.max(box.left, shown.names), right = Math.min(box.right, shown.width);
   if (right - left < NARROWEST_LABEL) return;
-  const { font } = sizes(), label = labelOf(bar.call);
+  const look = lookOf(bar.call, bar.isOpen);
+  const { font } = shown.sizes, width = right - left - 2 * INSET;
+  useFont(font, look.weight);
+  const label = labelOf(bar.call, width);
   pen.fillStyle = look.ink;
   label.forEach((line, index) => {
-    useFont(index ? font - 2.5 : font, index ? "" : look.weight);
+    if (index && !line.startsWith("=")) useFont(font - 2.5);
     const offset = label.length === 1 ? 0 : index ? 0.23 : -0.18;
-    pen.fillText(cut(line, right - left - 12), left + 7, box.middle + offset * (box.bottom - box.top) + 1);
+    pen.fillText(cut(line, width), left + INSET, box.middle + offset * (box.bottom - box.top) + 1);
   });
 }
 
 function drawBar(bar) {
   const box = boxOf(bar), { call } = bar, look = lookOf(call, bar.isOpen);
+  if (box.right - box.left < THIN) return drawThin(look, box);
   const left = Math.max(box.left, shown.names - 4), right = Math.min(box.right, shown.width + 4);
   fillBox(pen, look, left, box.top, right - left, box.bottom - box.top);
-  if (box.right - box.left > 4) edgeBox(pen, look, bar.isOpen, left, box.top, right - left, box.bottom - box.top);
-  drawLabel(bar, look, Math.max(box.left, shown.names), Math.min(box.right, shown.width), box);
-  if (call.core && !shown.view.isCore) ring(box, colours.order, 2);
-  if (call === shown.chosen || call === shown.hovered) ring(box, colours.chosen, call === shown.chosen ? 3.5 : 2);
+  edgeBox(pen, look, bar.isOpen, left, box.top, right - left, box.bottom - box.top);
+  drawLabel(bar);
 }
 
-function ring(box, colour, width) {
+/** A bar that has no room for more than its colour. */
+function drawThin(look, { left, top, right, bottom }) {
+  pen.fillStyle = look.fill === "hatched" || look.fill === "pale" ? look.edge : look.fill;
+  pen.fillRect(left, top, right - left, bottom - top);
+}
+
+/** The bars that matter most, in front of all others, and the edges of those that were chosen or are of the core. */
+function drawMarked() {
+  const { view, chosen, hovered } = shown, isInSight = (box) => box.right > shown.names && box.left < shown.width;
+  for (const bar of view.marked.filter((it) => isInSight(boxOf(it)))) drawBar(bar);
+  for (const call of view.isCore ? [] : core) drawRing(view.bars.get(call), colours.order, 2);
+  drawRing(view.bars.get(hovered), colours.chosen, 2);
+  drawRing(view.bars.get(chosen), colours.chosen, 3.5);
+}
+
+function drawRing(bar, colour, width) {
+  if (!bar) return;
+  const { left, top, right, bottom } = boxOf(bar), begin = Math.max(left, shown.names - 8), end = Math.min(right, shown.width + 8);
+  if (begin > end) return;
   pen.strokeStyle = colour;
   pen.lineWidth = width;
-  pen.strokeRect(box.left - 1.5, box.top - 1.5, box.right - box.left + 3, box.bottom - box.top + 3);
+  pen.strokeRect(begin - 1.5, top - 1.5, end - begin + 3, bottom - top + 3);
 }
 
 /** The bars of a lane that are in sight. Of those in one pixel the first. */
 function drawLane(lane, index) {
-  const top = topOf(index), { lane: height } = sizes();
+  const top = topOf(index), { lane: height } = shown.sizes;
   pen.strokeStyle = colours.line;
   pen.lineWidth = 1;
   pen.strokeRect(-1, Math.round(top + height) - 0.5, shown.width + 2, 0);
@@ -174,7 +211,7 @@ function drawTakeovers(lane, top) {
 
 /** The processes of the lanes at the left edge. */
 function drawNames() {
-  const { lane: height } = sizes(), slot = slotAt(shown.names);
+  const { lane: height } = shown.sizes, slot = slotAt(shown.names);
   pen.fillStyle = colours.paper;
   pen.fillRect(0, 0, shown.names - 6, shown.height);
   pen.fillStyle = colours.ink;
@@ -187,7 +224,6 @@ function drawNames() {
   });
 }
 
-const isNarrow = () => chart.clientWidth < 500;
 const nameOf = (process) => (isNarrow() ? `p${process}` : `process ${process}`);
 
 /** The numbers of lines above the events. */
@@ -220,18 +256,15 @@ function endsOf(from, to) {
   const inset = 14;
   if (from.right < to.left) return [Math.max(from.right - inset, (from.left + from.right) / 2), Math.min(to.left + inset, (to.left + to.right) / 2)];
   if (from.left > to.right) return [Math.min(from.left + inset, (from.left + from.right) / 2), Math.max(to.right - inset, (to.left + to.right) / 2)];
-  const middle = (Math.max(from.left, to.left) + Math.min(from.right, to.right)) / 2;
-  return [middle, middle];
+  const left = Math.max(from.left, to.left), right = Math.min(from.right, to.right), x = right - Math.min(inset, (right - left) / 2);
+  return [x, x];
 }
 
-/** A word beside a line or on it, with paper around it. */
-function drawWord(text, x, y, colour) {
-  useFont(sizes().font - 2, "bold");
-  const width = pen.measureText(text).width;
-  pen.fillStyle = colours.paper;
-  pen.fillRect(x - width / 2 - 3, y - 8, width + 6, 16);
-  pen.fillStyle = colour;
-  pen.fillText(text, x - width / 2, y + 1);
+/** What an arrow carries, beside its begin. */
+function drawWord(text, x, y) {
+  useFont(shown.sizes.font - 2, "bold");
+  pen.fillStyle = colours.put;
+  pen.fillText(text, x - pen.measureText(text).width - 6, y);
 }
 
 /** An arrow from the call that put a value to the one that took it. */
@@ -249,7 +282,7 @@ function drawPair({ putter, taker, isOneOfMany }) {
   pen.stroke();
   pen.setLineDash([]);
   drawTip(endX, endY, 0, isBeside ? 1 : bend);
-  if (shown.view.isCore) drawWord(takenBy(taker).split(": ").map(valueOf).join(": "), (x + endX) / 2, (y + endY) / 2 + (isBeside ? -22 : 0), colours.put);
+  if (shown.view.isCore) drawWord(takenBy(taker).split(": ").map(valueOf).join(": "), x, y + (isBelow ? 10 : -10));
 }
 
 /** A line from the return of a call to the call of one that came later. */
@@ -267,14 +300,14 @@ function drawNeeded([before, after], index) {
   drawTip(to.left, to.middle, 1, 0);
 }
 
-/** Makes the canvas as large as what is in sight. */
+/** Makes the canvas as large as what is in sight, and notes where that is. */
 function fitCanvas() {
-  const ratio = window.devicePixelRatio, { clientWidth: width, clientHeight: height } = chart;
+  const ratio = window.devicePixelRatio, { clientWidth: width, clientHeight: height, scrollLeft: left, scrollTop: top } = chart;
+  Object.assign(shown, { width, height, left, top });
   if (canvas.width !== Math.round(width * ratio) || canvas.height !== Math.round(height * ratio)) {
     Object.assign(canvas, { width: Math.round(width * ratio), height: Math.round(height * ratio) });
     Object.assign(canvas.style, { width: `${width}px`, height: `${height}px` });
   }
-  Object.assign(shown, { width, height });
   pen.setTransform(ratio, 0, 0, ratio, 0, 0);
   pen.textBaseline = "middle";
 }
@@ -284,10 +317,12 @@ function draw() {
   pen.fillStyle = colours.paper;
   pen.fillRect(0, 0, shown.width, shown.height);
   shown.needed.forEach(drawNeeded);
-  const { lanes } = shown.view, { lane: height } = sizes();
-  const begin = Math.max(0, Math.floor((chart.scrollTop - AXIS) / height));
+  const { lanes } = shown.view, { lane: height } = shown.sizes;
+  const begin = Math.max(0, Math.floor((shown.top - AXIS) / height));
   for (let index = begin; index < lanes.length && topOf(index) < shown.height; index++) drawLane(lanes[index], index);
+  drawMarked();
   shown.pairs.forEach(drawPair);
+  if (shown.view.isCore) shown.view.bars.forEach(drawLabel); // in front of the arrows
   drawNames();
   drawAxis();
 }

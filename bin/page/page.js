@@ -5,30 +5,41 @@ const objectChoice = document.getElementById("object"), valueChoice = document.g
 const links = [...document.querySelectorAll("a[data-call]")];
 
 const MOST_WIDE = 16_000_000; // pixels; browsers draw no wider box
-const MOST_SCALE = 240, LEGIBLE = 44, ZOOM = 1.25, STEP = 120, HIGHEST = 0.62;
-
-const zoomRange = () => {
-  const slots = shown.view.lines.length;
-  return { least: Math.min(LEGIBLE, fitting()), most: Math.min(MOST_SCALE, Math.max(fitting(), MOST_WIDE / slots)) };
-};
+const MOST_SCALE = 240, SCALE = 84, LEGIBLE = 44; // pixels of an event: at most, at first, and where labels can be read
+const LABEL = 160; // pixels of a bar that should be in view at least
+const ZOOM = 1.25, STEP = 120; // of a key
+const HIGHEST = 0.62, LEAST_HEIGHT = 240, BORDERS = 2; // of the chart: a part of the window, and pixels
 
 /** The scale at which all events are in sight. */
 const fitting = () => (chart.clientWidth - shown.names - 2) / shown.view.lines.length;
 
+/** The scale with which a view opens: all in sight, where that can be read. */
+const opening = () => Math.min(shown.view.isCore ? MOST_SCALE : SCALE, Math.max(fitting(), shown.view.isCore ? 0 : LEGIBLE));
+
+function zoomRange() {
+  const most = Math.max(fitting(), Math.min(MOST_SCALE, MOST_WIDE / shown.view.lines.length));
+  return { least: Math.min(LEGIBLE, fitting()), most };
+}
+
 /** Sets how wide an event is; what is at this place of the canvas stays there. */
 function setScale(scale, x = (shown.names + shown.width) / 2) {
+  fitCanvas();
   const slot = slotAt(x), { least, most } = zoomRange();
   shown.scale = Math.min(most, Math.max(least, scale));
   resizeSpace();
   chart.scrollLeft = shown.names + slot * shown.scale - x;
+  fitCanvas();
   drawSoon();
 }
 
+/** Makes room for all lanes and events, as far as the window has it. */
 function resizeSpace() {
-  const width = shown.names + shown.view.lines.length * shown.scale, height = AXIS + shown.view.lanes.length * sizes().lane;
-  const bar = chart.offsetHeight - chart.clientHeight;
-  Object.assign(space.style, { width: `${Math.floor(width)}px`, height: `${height}px` });
-  chart.style.height = `${Math.min(height + Math.max(bar, 2) + (width > chart.clientWidth + 1 ? 16 : 0), Math.max(240, innerHeight * HIGHEST))}px`;
+  const width = Math.floor(shown.names + shown.view.lines.length * shown.scale), height = AXIS + shown.view.lanes.length * shown.sizes.lane;
+  const highest = Math.max(LEAST_HEIGHT, innerHeight * HIGHEST);
+  Object.assign(space.style, { width: `${width}px`, height: `${height}px` });
+  chart.style.height = `${Math.min(height + BORDERS, highest)}px`;
+  const scrollBar = chart.offsetHeight - chart.clientHeight - BORDERS;
+  chart.style.height = `${Math.min(height + BORDERS + scrollBar, highest)}px`;
 }
 
 /** How wide the names of the lanes are. */
@@ -38,20 +49,18 @@ function namesWidth() {
   return pen.measureText(nameOf("0".repeat(Math.max(0, ...widths)))).width + 20;
 }
 
-/** Shows these calls: all in sight where they can be read so. */
+/** Shows these calls. */
 function show(chosen, isCore) {
-  Object.assign(shown, { view: viewOf(chosen, isCore), needed: isCore ? neededOrder() : [], hovered: null });
-  shown.names = namesWidth();
+  const view = viewOf(chosen, isCore);
+  Object.assign(shown, { view, sizes: sizesOf(view), needed: isCore ? neededOrder() : [], hovered: null });
+  if (!view.bars.has(shown.chosen)) choose(null);
   shown.pairs = pairsInSight();
-  space.style.width = "0px"; // so that no bar for scrolling is there when all is measured
-  setScale(Math.min(isCore ? MOST_SCALE : 84, Math.max(fitting(), LEGIBLE)));
-  resizeSpace();
+  shown.names = namesWidth();
   chart.scrollLeft = chart.scrollTop = 0;
+  setScale(opening());
   found.textContent = chosen.length ? "" : "no call";
   for (const button of document.querySelectorAll("#views button")) button.setAttribute("aria-pressed", String((button.id === "core") === isCore));
-  tell(null);
   writeLegend();
-  draw();
 }
 
 function showCore() {
@@ -77,37 +86,39 @@ function pairsInSight() {
 
 /** Moves to the bar of a call, so that it begins in this part of the width. */
 function bringIntoView(call, part = 0.3) {
-  const bar = shown.view.bars.get(call);
-  if (shown.scale < LEGIBLE) setScale(LEGIBLE);
-  const box = boxOf(bar), { lane } = sizes();
-  const isBeside = box.left < shown.names || Math.min(box.right, box.left + 160) > shown.width;
-  if (isBeside) chart.scrollLeft += box.left - shown.names - (shown.width - shown.names) * part;
-  if (box.top < AXIS) chart.scrollTop += box.top - AXIS - (lane - sizes().bar) / 2;
-  if (box.bottom > shown.height) chart.scrollTop += box.bottom - shown.height + (lane - sizes().bar) / 2;
+  if (shown.scale < LEGIBLE && !shown.view.isCore) setScale(LEGIBLE);
+  fitCanvas();
+  const box = boxOf(shown.view.bars.get(call)), margin = (shown.sizes.lane - shown.sizes.bar) / 2;
+  if (box.left < shown.names || Math.min(box.right, box.left + LABEL) > shown.width) {
+    chart.scrollLeft += box.left - shown.names - (shown.width - shown.names) * part;
+  }
+  if (box.top < AXIS) chart.scrollTop += box.top - AXIS - margin;
+  if (box.bottom > shown.height) chart.scrollTop += box.bottom - shown.height + margin;
   draw();
 }
 
-/** Chooses a call, and brings its bar into view; all calls are shown where the view is without it. */
+/** Chooses a call and brings its bar into view, or chooses none. All calls are shown where the view is without it. */
 function choose(call) {
-  if (!shown.view.bars.has(call)) {
+  shown.chosen = call;
+  for (const link of links) link.classList.toggle("chosen", call !== null && +link.dataset.call === call.number);
+  if (call && !shown.view.bars.has(call)) {
     objectChoice.value = valueChoice.value = "";
     show(calls, false);
   }
-  shown.chosen = call;
   shown.pairs = pairsInSight();
-  chart.scrollIntoView({ block: "nearest" });
-  bringIntoView(call);
-  for (const link of links) link.classList.toggle("chosen", +link.dataset.call === call.number);
-  const box = boxOf(shown.view.bars.get(call));
-  tell(call, Math.max(box.left, shown.names), box.bottom + 4);
+  if (call) {
+    chart.scrollIntoView({ block: "nearest" });
+    bringIntoView(call);
+  }
+  tellChosen();
+  drawSoon();
 }
 
-function chooseNone() {
-  shown.chosen = null;
-  shown.pairs = pairsInSight();
-  for (const link of links) link.classList.remove("chosen");
-  tell(null);
-  drawSoon();
+/** Shows what is told of the chosen call, below its bar, where that is in sight. */
+function tellChosen() {
+  const bar = shown.view.bars.get(shown.chosen), box = bar && boxOf(bar);
+  const isInSight = bar && box.right > shown.names && box.left < shown.width && box.bottom > AXIS && box.top < shown.height;
+  tell(isInSight ? shown.chosen : null, isInSight ? Math.max(box.left, shown.names) : 0, isInSight ? box.bottom + 4 : 0);
 }
 
 /** Shows what is told of a call, by this place of the canvas. */
@@ -122,7 +133,7 @@ function tell(call, x, y) {
 /** The call whose bar is at this place, or beside it by a few pixels where bars are narrow. */
 function callAt(x, y) {
   if (x < shown.names || y < AXIS) return null;
-  const lane = shown.view.lanes[Math.floor((y + chart.scrollTop - AXIS) / sizes().lane)];
+  const lane = shown.view.lanes[Math.floor((y + shown.top - AXIS) / shown.sizes.lane)];
   if (!lane) return null;
   const at = firstFrom(lane.bars, Math.floor(slotAt(x - 2)));
   const bar = lane.bars[at], box = bar && boxOf(bar);
@@ -138,7 +149,14 @@ function hover(event) {
     drawSoon();
   }
   if (call) tell(call, x + 14, y + 14);
-  else if (!shown.chosen) tell(null);
+  else tellChosen();
+}
+
+function leave() {
+  shown.hovered = null;
+  shown.pairs = pairsInSight();
+  tellChosen();
+  drawSoon();
 }
 
 // Moving by the mouse: from where it was pressed, until it is let go.
@@ -166,18 +184,11 @@ window.addEventListener("pointerup", () => {
 
 canvas.addEventListener("click", (event) => {
   const { left, top } = canvas.getBoundingClientRect(), call = callAt(event.clientX - left, event.clientY - top);
-  if (call) choose(call);
-  else chooseNone();
+  choose(call);
 });
 canvas.addEventListener("pointermove", (event) => { if (!held?.hasMoved) hover(event); });
-canvas.addEventListener("pointerleave", () => {
-  shown.hovered = null;
-  shown.pairs = pairsInSight();
-  if (!shown.chosen) tell(null);
-  drawSoon();
-});
-
-chart.addEventListener("scroll", () => { tell(null); drawSoon(); });
+canvas.addEventListener("pointerleave", leave);
+chart.addEventListener("scroll", () => { fitCanvas(); leave(); });
 chart.addEventListener("wheel", (event) => {
   if (event.shiftKey || Math.abs(event.deltaX) > Math.abs(event.deltaY)) return;
   event.preventDefault();
@@ -198,7 +209,7 @@ const KEYS = {
   f: () => setScale(0),
   n: () => step(1),
   p: () => step(-1),
-  Escape: chooseNone,
+  Escape: () => choose(null),
   ArrowLeft: () => { chart.scrollLeft -= STEP; },
   ArrowRight: () => { chart.scrollLeft += STEP; },
   Home: () => { chart.scrollLeft = 0; },
@@ -231,7 +242,7 @@ function addViews() {
 function writeLegend() {
   const all = [...shown.view.bars.values()];
   const items = [
-    ["run", false, `in the ${runName}, at this place`],
+    ["run", false, `in the ${runName}${shown.view.isCore ? "" : ", at this place"}`],
     ["next", false, "could come next: no other call that is left precedes it"],
     ["dropped", true, "never returned, and the order leaves it out"],
     ["rest", false, run.length ? "any other call" : "a call"],
@@ -272,6 +283,13 @@ function drawFrame(brush, colour) {
   brush.strokeRect(3, 3, 28, 12);
 }
 
+/** The chart is wider or narrower than before. */
+function resize() {
+  shown.sizes = sizesOf(shown.view);
+  shown.names = namesWidth();
+  setScale(shown.view.isCore ? opening() : shown.scale, shown.names);
+}
+
 function begin() {
   readColours();
   fitCanvas();
@@ -279,8 +297,8 @@ function begin() {
   for (const { name } of data.objects) objectChoice.append(new Option(name, name));
   if (core.length) showCore();
   else showAll();
-  matchMedia("(prefers-color-scheme: dark)").addEventListener("change", () => { readColours(); writeLegend(); draw(); });
-  new ResizeObserver(() => { shown.names = namesWidth(); setScale(shown.scale, shown.names); }).observe(document.getElementById("frame"));
+  matchMedia("(prefers-color-scheme: dark)").addEventListener("change", () => { readColours(); writeLegend(); drawSoon(); });
+  new ResizeObserver(resize).observe(document.getElementById("frame"));
 }
 
 begin();

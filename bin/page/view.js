@@ -75,7 +75,8 @@ function viewOf(chosen, isCore) {
     lane.bars.forEach((bar) => { bar.lane = index; });
     endOpenBars(lane);
   });
-  return { isCore, lines, lanes, bars: new Map(bars.map((bar) => [bar.call, bar])) };
+  const marked = isCore ? [] : bars.filter(({ call }) => call.core || call.state === "next");
+  return { isCore, lines, lanes, marked, bars: new Map(bars.map((bar) => [bar.call, bar])) };
 }
 
 /** The index of the first of these bars that ends at this slot or later. */
