@@ -136,18 +136,46 @@ function drawLabel(bar) {
 }
 
 function drawBar(bar) {
-  const box = boxOf(bar), { call } = bar, look = lookOf(call, bar.isOpen);
-  if (box.right - box.left < THIN) return drawThin(look, box);
+  const box = boxOf(bar), look = lookOf(bar.call, bar.isOpen);
+  if (isThin(box)) return drawThin({ ...box, colour: thinColour(look) });
   const left = Math.max(box.left, shown.names - 4), right = Math.min(box.right, shown.width + 4);
   fillBox(pen, look, left, box.top, right - left, box.bottom - box.top);
   edgeBox(pen, look, bar.isOpen, left, box.top, right - left, box.bottom - box.top);
-  drawLabel(bar);
+  if (!shown.view.isCore) drawLabel(bar);
 }
 
-/** A bar that has no room for more than its colour. */
-function drawThin(look, { left, top, right, bottom }) {
-  pen.fillStyle = look.fill === "hatched" || look.fill === "pale" ? look.edge : look.fill;
+/** Whether a bar has no room for more than its colour. */
+const isThin = ({ left, right }) => right - left < THIN;
+const thinColour = (look) => (look.fill === "hatched" || look.fill === "pale" ? look.edge : look.fill);
+
+function drawThin({ left, top, right, bottom, colour }) {
+  pen.fillStyle = colour;
   pen.fillRect(left, top, right - left, bottom - top);
+}
+
+/** Draws these bars, which are side by side. Thin ones of one colour that touch are drawn as one. */
+function drawBars(bars) {
+  let thin = null;
+  for (const bar of bars) {
+    const box = boxOf(bar), colour = thinColour(lookOf(bar.call, bar.isOpen));
+    if (thin && isThin(box) && thin.colour === colour && box.left <= thin.right + 0.5) {
+      thin.right = box.right;
+      continue;
+    }
+    if (thin) drawThin(thin);
+    thin = isThin(box) ? { ...box, colour } : null;
+    if (!thin) drawBar(bar);
+  }
+  if (thin) drawThin(thin);
+}
+
+/** The bars of a lane that are in sight; of those in one pixel the first. */
+function* barsInSight({ bars }) {
+  const end = slotAt(shown.width);
+  for (let at = firstFrom(bars, slotAt(shown.names) - 1); at < bars.length && bars[at].start <= end; ) {
+    yield bars[at];
+    at = Math.max(at + 1, firstFrom(bars, slotAt(xOf(bars[at].start) + LEAST_WIDTH)));
+  }
 }
 
 /** The bars that matter most, in front of all others, and the edges of those that were chosen or are of the core. */
@@ -168,18 +196,13 @@ function drawRing(bar, colour, width) {
   pen.strokeRect(begin - 1.5, top - 1.5, end - begin + 3, bottom - top + 3);
 }
 
-/** The bars of a lane that are in sight. Of those in one pixel the first. */
 function drawLane(lane, index) {
   const top = topOf(index), { lane: height } = shown.sizes;
   pen.strokeStyle = colours.line;
   pen.lineWidth = 1;
   pen.strokeRect(-1, Math.round(top + height) - 0.5, shown.width + 2, 0);
   if (lane.openFrom !== null) drawOpenEnd(xOf(lane.openFrom), top + height - 4);
-  const end = slotAt(shown.width);
-  for (let at = firstFrom(lane.bars, slotAt(shown.names) - 1); at < lane.bars.length && lane.bars[at].start <= end; ) {
-    drawBar(lane.bars[at]);
-    at = Math.max(at + 1, firstFrom(lane.bars, slotAt(xOf(lane.bars[at].start) + LEAST_WIDTH)));
-  }
+  drawBars(barsInSight(lane));
   drawTakeovers(lane, top);
 }
 
@@ -260,11 +283,15 @@ function endsOf(from, to) {
   return [x, x];
 }
 
-/** What an arrow carries, beside its begin. */
+/** What an arrow carries, beside its begin, with paper around it. */
 function drawWord(text, x, y) {
   useFont(shown.sizes.font - 2, "bold");
+  const left = x - pen.measureText(text).width - 6;
+  pen.strokeStyle = colours.paper;
+  pen.lineWidth = 4;
+  pen.strokeText(text, left, y);
   pen.fillStyle = colours.put;
-  pen.fillText(text, x - pen.measureText(text).width - 6, y);
+  pen.fillText(text, left, y);
 }
 
 /** An arrow from the call that put a value to the one that took it. */
