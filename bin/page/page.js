@@ -232,26 +232,39 @@ valueChoice.addEventListener("input", showAll);
 
 /** The buttons of the two views, where there is a core. */
 function addViews() {
-  const views = { core: [`these ${core.length} calls alone`, showCore], all: [`all ${calls.length.toLocaleString("en")} calls`, showAll] };
+  const views = { core: [core.length === 1 ? "this call alone" : `these ${core.length} calls alone`, showCore], all: [`all ${calls.length.toLocaleString("en")} calls`, showAll] };
   for (const [id, [textContent, onclick]] of core.length ? Object.entries(views) : []) {
     document.getElementById("views").append(Object.assign(document.createElement("button"), { type: "button", id, textContent, onclick }));
   }
 }
 
-/** What the colours and lines mean that the view has. */
+/** What the colours mean that the view has: of each the state, whether the bars are open, and the words. */
+function coloursInView() {
+  const bars = [...shown.view.bars.values()], { isCore } = shown.view;
+  const closed = [
+    ["run", `in the ${runName}${isCore ? "" : ", at this place"}`],
+    ["next", "could come next: no other call that is left precedes it"],
+    ["rest", run.length ? "any other call" : ""],
+  ].filter(([state, text]) => text && bars.some((bar) => !bar.isOpen && bar.call.state === state));
+  const items = closed.map(([state, text]) => [state, false, text]);
+  if (bars.some(({ call }) => call.state === "dropped")) items.push(["dropped", true, "never returned, and the order leaves it out"]);
+  const open = bars.find((bar) => bar.isOpen && bar.call.state !== "dropped");
+  if (open) items.push([open.call.state, true, isCore ? "never returned, or need not have for this" : "never returned"]);
+  return items;
+}
+
+/** What the colours, the arrows and the lines mean that the view has. */
 function writeLegend() {
-  const all = [...shown.view.bars.values()];
-  const items = [
-    ["run", false, `in the ${runName}${shown.view.isCore ? "" : ", at this place"}`],
-    ["next", false, "could come next: no other call that is left precedes it"],
-    ["dropped", true, "never returned, and the order leaves it out"],
-    ["rest", false, run.length ? "any other call" : "a call"],
-  ].filter(([state]) => all.some((bar) => bar.call.state === state && bar.isOpen === (state === "dropped")));
-  if (all.some((bar) => bar.isOpen && bar.call.state !== "dropped")) items.push([run.length ? "run" : "rest", true, "never returned, or taken so"]);
-  legend.replaceChildren(...items.map(([state, isOpen, text]) => legendItem((brush) => drawSwatch(brush, lookOf({ state }, isOpen), isOpen), text)));
-  if (shown.view.isCore && shown.pairs.length) legend.append(legendItem((brush) => drawStroke(brush, colours.put), "put what the other took"));
-  if (shown.needed.length) legend.append(legendItem((brush) => drawStroke(brush, colours.order), "returned before the other was called; without this there would be an order"));
-  if (!shown.view.isCore && core.length) legend.append(legendItem((brush) => drawFrame(brush, colours.order), "one of the calls that alone have no order"));
+  const { isCore } = shown.view;
+  const strokes = [
+    [isCore && shown.pairs.length, drawStroke, "put", "put what the other took"],
+    [shown.needed.length, drawStroke, "order", "returned before the other was called; without this there would be an order"],
+    [!isCore && core.length, drawFrame, "order", "one of the calls that alone have no order"],
+  ].filter(([isThere]) => isThere);
+  legend.replaceChildren(
+    ...coloursInView().map(([state, isOpen, text]) => legendItem((brush) => drawSwatch(brush, lookOf({ state }, isOpen), isOpen), text)),
+    ...strokes.map(([, paint, colour, text]) => legendItem((brush) => paint(brush, colours[colour]), text)),
+  );
 }
 
 function legendItem(paint, text) {
