@@ -7,6 +7,7 @@ const SIZES = { // of lanes, bars and letters; `gap` is what is left at most bet
   core: { lane: 92, bar: 52, gap: 18, font: 15 },
   narrow: { lane: 84, bar: 48, gap: 12, font: 11 },
 };
+const FOLDED = 6; // the height of a lane that has no bar in sight, where not all have room
 const AXIS = 22, INSET = 6, NARROWEST_LABEL = 26, LEAST_WIDTH = 1, THIN = 4;
 const FONT = "ui-monospace, 'DejaVu Sans Mono', monospace";
 const COLOURS = ["ink", "paper", "faint", "line", "run", "on-run", "next", "on-next", "rest", "put", "order", "chosen"];
@@ -16,6 +17,7 @@ const COLOURS = ["ink", "paper", "faint", "line", "run", "on-run", "next", "on-n
 const shown = {
   view: null, sizes: SIZES.all, scale: 1, names: 0, needed: [], pairs: [], chosen: null, hovered: null,
   width: 0, height: 0, left: 0, top: 0, // of the canvas, and where it is in the chart
+  tops: [0], // of the lanes in the chart, and the end of the last one
 };
 const patterns = new Map();
 let colours = {};
@@ -30,7 +32,8 @@ const sizesOf = (view) => (!view.isCore ? SIZES.all : isNarrow() ? SIZES.narrow 
 const gap = () => Math.min(shown.sizes.gap, shown.scale / 6);
 const xOf = (slot) => shown.names + slot * shown.scale - shown.left;
 const slotAt = (x) => (x - shown.names + shown.left) / shown.scale;
-const topOf = (lane) => AXIS + lane * shown.sizes.lane - shown.top;
+const topOf = (lane) => shown.tops[lane] - shown.top;
+const heightOf = (lane) => shown.tops[lane + 1] - shown.tops[lane];
 
 function useFont(size, weight = "") {
   pen.font = `${weight} ${size}px ${FONT}`;
@@ -38,7 +41,7 @@ function useFont(size, weight = "") {
 
 /** Where the bar of a call is on the canvas, also where that is out of sight. */
 function boxOf(bar) {
-  const { lane, bar: height } = shown.sizes;
+  const lane = heightOf(bar.lane), height = Math.min(shown.sizes.bar, lane);
   const left = xOf(bar.start) + gap(), right = xOf(bar.end + 1) - (bar.isOpen ? 0 : gap());
   const top = topOf(bar.lane) + (lane - height) / 2;
   return { left, right: Math.max(right, left + LEAST_WIDTH), top, bottom: top + height, middle: top + height / 2 };
@@ -197,10 +200,11 @@ function drawRing(bar, colour, width) {
 }
 
 function drawLane(lane, index) {
-  const top = topOf(index), { lane: height } = shown.sizes;
+  const top = topOf(index), height = heightOf(index);
   pen.strokeStyle = colours.line;
   pen.lineWidth = 1;
   pen.strokeRect(-1, Math.round(top + height) - 0.5, shown.width + 2, 0);
+  if (height === FOLDED) return;
   if (lane.openFrom !== null) drawOpenEnd(xOf(lane.openFrom), top + height - 4);
   drawBars(barsInSight(lane));
   drawTakeovers(lane, top);
@@ -234,14 +238,14 @@ function drawTakeovers(lane, top) {
 
 /** The processes of the lanes at the left edge. */
 function drawNames() {
-  const { lane: height } = shown.sizes, slot = slotAt(shown.names);
+  const slot = slotAt(shown.names);
   pen.fillStyle = colours.paper;
   pen.fillRect(0, 0, shown.names - 6, shown.height);
   pen.fillStyle = colours.ink;
   useFont(12);
   shown.view.lanes.forEach((lane, index) => {
-    const top = topOf(index);
-    if (top > shown.height || top + height < 0) return;
+    const top = topOf(index), height = heightOf(index);
+    if (height === FOLDED || top > shown.height || top + height < 0) return;
     const life = lane.lives.findLast((it) => it.first <= slot) ?? lane.lives[0];
     pen.fillText(nameOf(life.process), 8, top + height / 2);
   });
@@ -327,8 +331,22 @@ function drawNeeded([before, after], index) {
   drawTip(to.left, to.middle, 1, 0);
 }
 
-/** Makes the canvas as large as what is in sight, and notes where that is. */
-function fitCanvas() {
+/** Whether a lane has a bar in sight or near it. */
+function hasBars({ bars }) {
+  const near = (shown.width - shown.names) / 2, bar = bars[firstFrom(bars, slotAt(shown.names - near))];
+  return bar !== undefined && bar.start <= slotAt(shown.width + near);
+}
+
+/** Where the lanes are. Where not all have room, those that are empty there are folded. */
+function placeLanes() {
+  const { view, sizes } = shown, areFolded = !view.isCore && AXIS + view.lanes.length * sizes.lane > shown.height;
+  shown.tops = [AXIS];
+  for (const lane of view.lanes) shown.tops.push(shown.tops.at(-1) + (areFolded && !hasBars(lane) ? FOLDED : sizes.lane));
+  space.style.height = `${shown.tops.at(-1)}px`;
+}
+
+/** Notes what is in sight, and makes the canvas as large as that. */
+function look() {
   const ratio = window.devicePixelRatio, { clientWidth: width, clientHeight: height, scrollLeft: left, scrollTop: top } = chart;
   Object.assign(shown, { width, height, left, top });
   if (canvas.width !== Math.round(width * ratio) || canvas.height !== Math.round(height * ratio)) {
@@ -337,16 +355,17 @@ function fitCanvas() {
   }
   pen.setTransform(ratio, 0, 0, ratio, 0, 0);
   pen.textBaseline = "middle";
+  placeLanes();
 }
 
 function draw() {
-  fitCanvas();
+  look();
   pen.fillStyle = colours.paper;
   pen.fillRect(0, 0, shown.width, shown.height);
   shown.needed.forEach(drawNeeded);
-  const { lanes } = shown.view, { lane: height } = shown.sizes;
-  const begin = Math.max(0, Math.floor((shown.top - AXIS) / height));
-  for (let index = begin; index < lanes.length && topOf(index) < shown.height; index++) drawLane(lanes[index], index);
+  shown.view.lanes.forEach((lane, index) => {
+    if (topOf(index + 1) > 0 && topOf(index) < shown.height) drawLane(lane, index);
+  });
   drawMarked();
   shown.pairs.forEach(drawPair);
   if (shown.view.isCore) shown.view.bars.forEach(drawLabel); // in front of the arrows

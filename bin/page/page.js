@@ -23,12 +23,12 @@ function zoomRange() {
 
 /** Sets how wide an event is; what is at this place of the canvas stays there. */
 function setScale(scale, x = (shown.names + shown.width) / 2) {
-  fitCanvas();
+  look();
   const slot = slotAt(x), { least, most } = zoomRange();
   shown.scale = Math.min(most, Math.max(least, scale));
   resizeSpace();
   chart.scrollLeft = shown.names + slot * shown.scale - x;
-  fitCanvas();
+  look();
   drawSoon();
 }
 
@@ -57,7 +57,7 @@ function show(chosen, isCore) {
   shown.pairs = pairsInSight();
   shown.names = namesWidth();
   chart.scrollLeft = chart.scrollTop = 0;
-  setScale(opening());
+  setScale(opening(), shown.names);
   found.textContent = chosen.length ? "" : "no call";
   for (const button of document.querySelectorAll("#views button")) button.setAttribute("aria-pressed", String((button.id === "core") === isCore));
   writeLegend();
@@ -87,10 +87,13 @@ function pairsInSight() {
 /** Moves to the bar of a call, so that it begins in this part of the width. */
 function bringIntoView(call, part = 0.3) {
   if (shown.scale < LEGIBLE && !shown.view.isCore) setScale(LEGIBLE);
-  fitCanvas();
-  const box = boxOf(shown.view.bars.get(call)), margin = (shown.sizes.lane - shown.sizes.bar) / 2;
+  look();
+  const margin = (shown.sizes.lane - shown.sizes.bar) / 2;
+  let box = boxOf(shown.view.bars.get(call));
   if (box.left < shown.names || Math.min(box.right, box.left + LABEL) > shown.width) {
     chart.scrollLeft += box.left - shown.names - (shown.width - shown.names) * part;
+    look();
+    box = boxOf(shown.view.bars.get(call));
   }
   if (box.top < AXIS) chart.scrollTop += box.top - AXIS - margin;
   if (box.bottom > shown.height) chart.scrollTop += box.bottom - shown.height + margin;
@@ -133,7 +136,7 @@ function tell(call, x, y) {
 /** The call whose bar is at this place, or beside it by a few pixels where bars are narrow. */
 function callAt(x, y) {
   if (x < shown.names || y < AXIS) return null;
-  const lane = shown.view.lanes[Math.floor((y + shown.top - AXIS) / shown.sizes.lane)];
+  const lane = shown.view.lanes[shown.tops.findLastIndex((top) => top <= y + shown.top)];
   if (!lane) return null;
   const at = firstFrom(lane.bars, Math.floor(slotAt(x - 2)));
   const bar = lane.bars[at], box = bar && boxOf(bar);
@@ -188,7 +191,7 @@ canvas.addEventListener("click", (event) => {
 });
 canvas.addEventListener("pointermove", (event) => { if (!held?.hasMoved) hover(event); });
 canvas.addEventListener("pointerleave", leave);
-chart.addEventListener("scroll", () => { fitCanvas(); leave(); });
+chart.addEventListener("scroll", () => { look(); leave(); });
 chart.addEventListener("wheel", (event) => {
   if (event.shiftKey || Math.abs(event.deltaX) > Math.abs(event.deltaY)) return;
   event.preventDefault();
@@ -305,7 +308,6 @@ function resize() {
 
 function begin() {
   readColours();
-  fitCanvas();
   addViews();
   for (const { name } of data.objects) objectChoice.append(new Option(name, name));
   if (core.length) showCore();
