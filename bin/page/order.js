@@ -1,7 +1,7 @@
 // Who put the value that a call took, and the real-time order without which the calls of the core would have an order.
 
 const MOST_TRIED = 300_000; // steps; a core for which that is not enough shows its whole real-time order
-const MOST_PUTS = 4, MOST_PAIRS = 16; // arrows to a call, and from and to one on which the cursor is
+const MOST_PUTS = 4, MOST_PAIRS = 16; // arrows to a call, and from one
 const MOST_IN_MASK = 30; // calls whose subsets are numbered by bits
 
 /** What the call put where another could take it, as text: a value, of a map under its key; or null. */
@@ -30,30 +30,44 @@ function takenBy(call) {
   }
 }
 
-/** These calls by what this tells of each, with the object; those of which it tells nothing are left out. */
+/** What is told of a call, with its object, so that what is told of calls on others differs. */
+const keyOf = (call, what) => `${call.object.name} ${what}`;
+
+/** These calls by what this tells of each; those of which it tells nothing are left out. */
 function groupsBy(chosen, what) {
   const groups = new Map();
-  for (const call of chosen) {
-    if (what(call) === null) continue;
-    const key = `${call.object.name} ${what(call)}`;
+  for (const call of chosen.filter((it) => what(it) !== null)) {
+    const key = keyOf(call, what(call));
     if (groups.has(key)) groups.get(key).push(call);
     else groups.set(key, [call]);
   }
   return groups;
 }
 
-/** The pairs of these calls of which the first put what the second took, as far as one of the two is this call, if one is given.
- * Of many that put it, those that were called last before it was taken. */
-function pairsByValue(chosen, one = null) {
-  const puts = groupsBy(chosen, putBy);
-  const takers = one ? chosen.filter((taker) => taker === one || `${taker.object.name} ${takenBy(taker)}` === `${one.object.name} ${putBy(one)}`) : chosen;
-  const pairs = takers.filter((taker) => takenBy(taker) !== null).flatMap((taker) => {
-    const all = (puts.get(`${taker.object.name} ${takenBy(taker)}`) ?? []).filter((putter) => putter !== taker);
-    const early = all.filter((putter) => putter.line < taker.returned);
-    const found = early.length ? early.slice(-MOST_PUTS) : all.slice(0, 1);
-    return found.map((putter) => ({ putter, taker, isOneOfMany: found.length > 1 }));
-  });
-  return one ? pairs.filter(({ putter, taker }) => putter === one || taker === one).slice(0, MOST_PAIRS) : pairs;
+/** The pairs of a call that put what this one took, and this one. Of many those that were called last before it was taken. */
+function pairsOfTaker(taker, puts) {
+  const all = takenBy(taker) === null ? [] : (puts.get(keyOf(taker, takenBy(taker))) ?? []).filter((putter) => putter !== taker);
+  const early = all.filter((putter) => putter.line < taker.returned);
+  const found = early.length ? early.slice(-MOST_PUTS) : all.slice(0, 1);
+  return found.map((putter) => ({ putter, taker, isOneOfMany: found.length > 1 }));
+}
+
+/** The pairs of calls of the core. */
+function pairsOfCore() {
+  const puts = groupsBy(core, putBy);
+  return core.flatMap((taker) => pairsOfTaker(taker, puts));
+}
+
+let allPuts = null, allTakers = null; // of all calls, once they are asked for
+
+/** The pairs of all calls that this one is of. */
+function pairsAround(call) {
+  allPuts ??= groupsBy(calls, putBy);
+  allTakers ??= groupsBy(calls, takenBy);
+  const takers = putBy(call) === null ? [] : allTakers.get(keyOf(call, putBy(call))) ?? [];
+  const late = takers.filter((taker) => taker.returned > call.line).slice(0, MOST_PAIRS);
+  const pairs = [call, ...late].flatMap((taker) => pairsOfTaker(taker, allPuts));
+  return pairs.filter(({ putter, taker }) => putter === call || taker === call);
 }
 
 /** When the call returned, as the core takes it. */
@@ -73,14 +87,19 @@ function withoutImplied(pairs) {
   return pairs.filter(([a, b]) => !core.some((c) => has.has(`${a.number} ${c.number}`) && has.has(`${c.number} ${b.number}`)));
 }
 
-/** Whether the calls of the core have an order that keeps these pairs; undefined where too many steps were taken. */
+/** A text that no other state has. */
+function stateKey(state) {
+  return Object.values(state).map((part) => (part instanceof Object ? [...part].join() : String(part))).join("|");
+}
+
+/** Whether the calls of the core have an order that keeps these pairs, unless too many steps were taken to tell. */
 function hasOrder(pairs, tried) {
   const before = core.map((call) => pairs.filter(([, after]) => after === call).reduce((mask, [it]) => mask | (1 << core.indexOf(it)), 0));
   const returned = core.reduce((mask, call, bit) => (returnedInCore(call) === Infinity ? mask : mask | (1 << bit)), 0);
   const refuted = new Set();
   const goesOn = (state, done) => {
     if ((returned & ~done) === 0) return true;
-    const known = `${done} ${state.text()}`;
+    const known = `${done} ${stateKey(state)}`;
     if (refuted.has(known) || ++tried.steps > MOST_TRIED) return false;
     refuted.add(known);
     return core.some((call, bit) => {

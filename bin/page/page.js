@@ -79,8 +79,8 @@ function showAll() {
 /** The arrows: all of the core, else those of the calls that were chosen or are under the cursor. */
 function pairsInSight() {
   const { view, chosen, hovered } = shown;
-  if (view.isCore) return pairsByValue(core);
-  const pairs = [...new Set([chosen, hovered])].flatMap((call) => (call ? pairsByValue(calls, call) : []));
+  if (view.isCore) return pairsOfCore();
+  const pairs = [...new Set([chosen, hovered])].flatMap((call) => (call ? pairsAround(call) : []));
   return pairs.filter(({ putter, taker }) => view.bars.has(putter) && view.bars.has(taker));
 }
 
