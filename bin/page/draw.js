@@ -6,7 +6,10 @@ const SIZES = { // of lanes, bars and letters; `gap` is what is left at most bet
   all: { lane: 44, bar: 28, gap: 3, font: 12 },
   core: { lane: 92, bar: 52, gap: 18, font: 15 },
   narrow: { lane: 84, bar: 48, gap: 12, font: 11 },
+  crowded: { lane: 46, bar: 28, gap: 8, font: 12 },
 };
+const HIGHEST = 0.62, LEAST_HEIGHT = 240; // of the chart: a part of the window, and pixels
+const TWO_LINES = 40; // pixels of a bar that has room for two lines
 const FOLDED = 6; // the height of a lane that has no bar in sight, where not all have room
 const AXIS = 22, INSET = 6, NARROWEST_LABEL = 26, LEAST_WIDTH = 1, THIN = 4;
 const FONT = "ui-monospace, 'DejaVu Sans Mono', monospace";
@@ -28,7 +31,15 @@ function readColours() {
 }
 
 const isNarrow = () => chart.clientWidth < 500;
-const sizesOf = (view) => (!view.isCore ? SIZES.all : isNarrow() ? SIZES.narrow : SIZES.core);
+const highest = () => Math.max(LEAST_HEIGHT, innerHeight * HIGHEST);
+
+/** How large the lanes of a view are drawn: those of the core as large as the window has room for them. */
+function sizesOf({ isCore, lanes }) {
+  if (!isCore) return SIZES.all;
+  const sizes = isNarrow() ? SIZES.narrow : SIZES.core;
+  return AXIS + lanes.length * sizes.lane > highest() ? SIZES.crowded : sizes;
+}
+
 const gap = () => Math.min(shown.sizes.gap, shown.scale / 6);
 const xOf = (slot) => shown.names + slot * shown.scale - shown.left;
 const slotAt = (x) => (x - shown.names + shown.left) / shown.scale;
@@ -118,6 +129,7 @@ function labelOf(call, width) {
   }
   const [did, reply] = call.core.isPending ? [operation(call)] : said(call).split(/(?== )/);
   const first = reply ? did + reply : did;
+  if (shown.sizes.bar < TWO_LINES) return [first];
   if (reply && pen.measureText(first).width > width) return [did, reply];
   return [first, call.core.isPending ? `line ${call.line}` : linesOf(call)];
 }
@@ -301,6 +313,7 @@ function drawWord(text, x, y) {
 /** An arrow from the call that put a value to the one that took it. */
 function drawPair({ putter, taker, isOneOfMany }) {
   const from = boxOf(shown.view.bars.get(putter)), to = boxOf(shown.view.bars.get(taker));
+  if (Math.max(from.right, to.right) < shown.names || Math.min(from.left, to.left) > shown.width) return;
   const [x, endX] = endsOf(from, to), isBelow = to.top > from.top, isBeside = to.top === from.top;
   const y = isBelow ? from.bottom : from.top, endY = isBelow || isBeside ? to.top : to.bottom;
   const bend = isBeside ? -30 : (endY - y) / 2;
@@ -319,6 +332,7 @@ function drawPair({ putter, taker, isOneOfMany }) {
 /** A line from the return of a call to the call of one that came later. */
 function drawNeeded([before, after], index) {
   const from = boxOf(shown.view.bars.get(before)), to = boxOf(shown.view.bars.get(after));
+  if (to.left < shown.names || from.right > shown.width) return;
   const x = Math.min(from.right + 5 + (index % 3) * 5, (from.right + to.left) / 2);
   pen.strokeStyle = pen.fillStyle = colours.order;
   pen.lineWidth = 2.5;

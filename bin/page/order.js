@@ -1,6 +1,6 @@
 // Who put the value that a call took, and the real-time order without which the calls of the core would have an order.
 
-const MOST_TRIED = 300_000; // steps; a core for which that is not enough shows its whole real-time order
+const MOST_TRIED = 300_000; // steps to find which part of the real-time order of a core matters
 const MOST_PUTS = 4, MOST_PAIRS = 16; // arrows to a call, and from one
 const MOST_IN_MASK = 30; // calls whose subsets are numbered by bits
 
@@ -44,11 +44,17 @@ function groupsBy(chosen, what) {
   return groups;
 }
 
-/** The pairs of a call that put what this one took, and this one. Of many those that were called last before it was taken. */
+/** Of calls that come before this line in some order those that may be the last: none of the others came between for sure. */
+function mayBeLast(found, line) {
+  const latest = found.reduce((last, call) => (call.returned < line ? Math.max(last, call.line) : last), -Infinity);
+  return found.filter((call) => call.returned > latest);
+}
+
+/** The pairs of a call that put what this one took, and this one. Of many those that may be the last before it was taken. */
 function pairsOfTaker(taker, puts) {
   const all = takenBy(taker) === null ? [] : (puts.get(keyOf(taker, takenBy(taker))) ?? []).filter((putter) => putter !== taker);
   const early = all.filter((putter) => putter.line < taker.returned);
-  const found = early.length ? early.slice(-MOST_PUTS) : all.slice(0, 1);
+  const found = early.length ? mayBeLast(early, taker.line).slice(-MOST_PUTS) : all.slice(0, 1);
   return found.map((putter) => ({ putter, taker, isOneOfMany: found.length > 1 }));
 }
 
@@ -81,10 +87,12 @@ function precedences() {
   return pairs.sort(([a, b], [c, d]) => d.line - c.returned - (b.line - a.returned));
 }
 
-/** The pairs without those that others imply. */
-function withoutImplied(pairs) {
-  const has = new Set(pairs.map(([a, b]) => `${a.number} ${b.number}`));
-  return pairs.filter(([a, b]) => !core.some((c) => has.has(`${a.number} ${c.number}`) && has.has(`${c.number} ${b.number}`)));
+/** The same without the pairs that others imply. */
+function nearestPrecedences() {
+  return core.flatMap((after) => {
+    const before = core.filter((call) => returnedInCore(call) < after.line);
+    return mayBeLast(before, after.line).map((call) => [call, after]);
+  });
 }
 
 /** A text that no other state has. */
@@ -111,16 +119,16 @@ function hasOrder(pairs, tried) {
   return goesOn(startOf(core[0].object), 0);
 }
 
-/** Pairs of the real-time order of the core: none can be left out without an order. Where the page did not find out which, all. */
-function neededOrder() {
-  if (!core.length || core.length > MOST_IN_MASK) return withoutImplied(precedences());
+/** The part of the real-time order of the core without which it would have an order: none of its pairs can be left out. Null where
+ * too many steps would be needed to find it. */
+function leastOrder() {
+  if (core.length > MOST_IN_MASK) return null;
   const tried = { steps: 0 };
   let needed = precedences();
-  if (hasOrder(needed, tried)) return withoutImplied(needed);
-  for (const pair of precedences()) {
-    const rest = needed.filter(([a, b]) => a !== pair[0] || b !== pair[1]);
+  if (hasOrder(needed, tried)) return null;
+  for (const pair of needed) {
+    const rest = needed.filter((it) => it !== pair);
     if (!hasOrder(rest, tried)) needed = rest;
-    if (tried.steps > MOST_TRIED) return withoutImplied(precedences());
   }
-  return needed;
+  return tried.steps > MOST_TRIED ? null : needed;
 }

@@ -2,19 +2,23 @@
 
 const told = document.getElementById("told"), legend = document.getElementById("legend"), found = document.getElementById("found");
 const objectChoice = document.getElementById("object"), valueChoice = document.getElementById("value");
+const least = core.length ? leastOrder() : null; // the part of the core's real-time order that matters
 const links = [...document.querySelectorAll("a[data-call]")];
 
 const MOST_WIDE = 16_000_000; // pixels; browsers draw no wider box
-const MOST_SCALE = 240, SCALE = 84, LEGIBLE = 44; // pixels of an event: at most, at first, and where labels can be read
+const MOST_SCALE = 240, SCALE = 84, LEGIBLE = 44, LEAST_SCALE = 12; // pixels of an event: at most, at first, so that labels can be read, in the core
 const LABEL = 160; // pixels of a bar that should be in view at least
 const ZOOM = 1.25, STEP = 120; // of a key
-const HIGHEST = 0.62, LEAST_HEIGHT = 240, BORDERS = 2; // of the chart: a part of the window, and pixels
+const BORDERS = 2; // of the chart
 
 /** The scale at which all events are in sight. */
 const fitting = () => (chart.clientWidth - shown.names - 2) / shown.view.lines.length;
 
 /** The scale with which a view opens: all in sight, where that can be read. */
-const opening = () => Math.min(shown.view.isCore ? MOST_SCALE : SCALE, Math.max(fitting(), shown.view.isCore ? 0 : LEGIBLE));
+function opening() {
+  const { isCore } = shown.view, all = fitting();
+  return all < (isCore ? LEAST_SCALE : LEGIBLE) ? LEGIBLE : Math.min(isCore ? MOST_SCALE : SCALE, all);
+}
 
 function zoomRange() {
   const most = Math.max(fitting(), Math.min(MOST_SCALE, MOST_WIDE / shown.view.lines.length));
@@ -35,11 +39,10 @@ function setScale(scale, x = (shown.names + shown.width) / 2) {
 /** Makes room for all lanes and events, as far as the window has it. */
 function resizeSpace() {
   const width = Math.floor(shown.names + shown.view.lines.length * shown.scale), height = AXIS + shown.view.lanes.length * shown.sizes.lane;
-  const highest = Math.max(LEAST_HEIGHT, innerHeight * HIGHEST);
   Object.assign(space.style, { width: `${width}px`, height: `${height}px` });
-  chart.style.height = `${Math.min(height + BORDERS, highest)}px`;
+  chart.style.height = `${Math.min(height + BORDERS, highest())}px`;
   const scrollBar = chart.offsetHeight - chart.clientHeight - BORDERS;
-  chart.style.height = `${Math.min(height + BORDERS + scrollBar, highest)}px`;
+  chart.style.height = `${Math.min(height + BORDERS + scrollBar, highest())}px`;
 }
 
 /** How wide the names of the lanes are. */
@@ -52,7 +55,7 @@ function namesWidth() {
 /** Shows these calls. */
 function show(chosen, isCore) {
   const view = viewOf(chosen, isCore);
-  Object.assign(shown, { view, sizes: sizesOf(view), needed: isCore ? neededOrder() : [], hovered: null });
+  Object.assign(shown, { view, sizes: sizesOf(view), hovered: null, needed: isCore ? least ?? nearestPrecedences() : [] });
   if (!view.bars.has(shown.chosen)) choose(null);
   shown.pairs = pairsInSight();
   shown.names = namesWidth();
@@ -63,9 +66,11 @@ function show(chosen, isCore) {
   writeLegend();
 }
 
+/** Shows the core, and of one that is too large the end. */
 function showCore() {
   objectChoice.value = valueChoice.value = "";
   show(core, true);
+  chart.scrollLeft = space.offsetWidth;
 }
 
 /** Shows the calls of the filter, and of these first one that matters. */
@@ -261,7 +266,7 @@ function writeLegend() {
   const { isCore } = shown.view;
   const strokes = [
     [isCore && shown.pairs.length, drawStroke, "put", "put what the other took"],
-    [shown.needed.length, drawStroke, "order", "returned before the other was called; without this there would be an order"],
+    [shown.needed.length, drawStroke, "order", `returned before the other was called${least ? "; without this there would be an order" : ""}`],
     [!isCore && core.length, drawFrame, "order", "one of the calls that alone have no order"],
   ].filter(([isThere]) => isThere);
   legend.replaceChildren(
