@@ -45,6 +45,7 @@ const xOf = (slot) => shown.names + slot * shown.scale - shown.left;
 const slotAt = (x) => (x - shown.names + shown.left) / shown.scale;
 const topOf = (lane) => shown.tops[lane] - shown.top;
 const heightOf = (lane) => shown.tops[lane + 1] - shown.tops[lane];
+const isFolded = (lane) => heightOf(lane) === FOLDED;
 
 function useFont(size, weight = "") {
   pen.font = `${weight} ${size}px ${FONT}`;
@@ -216,7 +217,7 @@ function drawLane(lane, index) {
   pen.strokeStyle = colours.line;
   pen.lineWidth = 1;
   pen.strokeRect(-1, Math.round(top + height) - 0.5, shown.width + 2, 0);
-  if (height === FOLDED) return;
+  if (isFolded(index)) return;
   if (lane.openFrom !== null) drawOpenEnd(xOf(lane.openFrom), top + height - 4);
   drawBars(barsInSight(lane));
   drawTakeovers(lane, top);
@@ -257,7 +258,7 @@ function drawNames() {
   useFont(12);
   shown.view.lanes.forEach((lane, index) => {
     const top = topOf(index), height = heightOf(index);
-    if (height === FOLDED || top > shown.height || top + height < 0) return;
+    if (isFolded(index) || top > shown.height || top + height < 0) return;
     const life = lane.lives.findLast((it) => it.first <= slot) ?? lane.lives[0];
     pen.fillText(nameOf(life.process), 8, top + height / 2);
   });

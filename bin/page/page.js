@@ -9,6 +9,8 @@ const MOST_WIDE = 16_000_000; // pixels; browsers draw no wider box
 const MOST_SCALE = 240, SCALE = 84, LEGIBLE = 44, LEAST_SCALE = 12; // pixels of an event: at most, at first, so that labels can be read, in the core
 const LABEL = 160; // pixels of a bar that should be in view at least
 const ZOOM = 1.25, STEP = 120; // of a key
+const TURN = 400, LINE = 30; // pixels by which a wheel is turned to zoom by e, and those of a line
+const LEAST_MOVE = 4; // pixels from which a pressed mouse moves the chart
 const BORDERS = 2; // of the chart
 
 /** The scale at which all events are in sight. */
@@ -17,7 +19,8 @@ const fitting = () => (chart.clientWidth - shown.names - 2) / shown.view.lines.l
 /** The scale with which a view opens: all in sight, where that can be read. */
 function opening() {
   const { isCore } = shown.view, all = fitting();
-  return all < (isCore ? LEAST_SCALE : LEGIBLE) ? LEGIBLE : Math.min(isCore ? MOST_SCALE : SCALE, all);
+  if (isCore) return all < LEAST_SCALE ? SCALE : Math.min(MOST_SCALE, all);
+  return Math.min(SCALE, Math.max(all, LEGIBLE));
 }
 
 function zoomRange() {
@@ -47,9 +50,9 @@ function resizeSpace() {
 
 /** How wide the names of the lanes are. */
 function namesWidth() {
+  const longest = shown.view.lanes.reduce((most, { lives }) => lives.reduce((it, { process }) => Math.max(it, process), most), 0);
   useFont(12);
-  const widths = shown.view.lanes.flatMap((lane) => lane.lives.map(({ process }) => String(process).length));
-  return pen.measureText(nameOf("0".repeat(Math.max(0, ...widths)))).width + 20;
+  return pen.measureText(nameOf(String(longest).replace(/./g, "0"))).width + 20;
 }
 
 /** Shows these calls. */
@@ -91,7 +94,7 @@ function pairsInSight() {
 
 /** Moves to the bar of a call, so that it begins in this part of the width. */
 function bringIntoView(call, part = 0.3) {
-  if (shown.scale < LEGIBLE && !shown.view.isCore) setScale(LEGIBLE);
+  if (shown.scale < Math.min(LEGIBLE, opening())) setScale(LEGIBLE);
   look();
   const margin = (shown.sizes.lane - shown.sizes.bar) / 2;
   let box = boxOf(shown.view.bars.get(call));
@@ -122,11 +125,12 @@ function choose(call) {
   drawSoon();
 }
 
-/** Shows what is told of the chosen call, below its bar, where that is in sight. */
+/** Shows what is told of the chosen call, below the chart, where its bar is in sight. */
 function tellChosen() {
   const bar = shown.view.bars.get(shown.chosen), box = bar && boxOf(bar);
   const isInSight = bar && box.right > shown.names && box.left < shown.width && box.bottom > AXIS && box.top < shown.height;
-  tell(isInSight ? shown.chosen : null, isInSight ? Math.max(box.left, shown.names) : 0, isInSight ? box.bottom + 4 : 0);
+  if (isInSight) tell(shown.chosen, Math.max(box.left, shown.names), chart.offsetHeight);
+  else tell(null);
 }
 
 /** Shows what is told of a call, by this place of the canvas. */
@@ -167,40 +171,40 @@ function leave() {
   drawSoon();
 }
 
-// Moving by the mouse: from where it was pressed, until it is let go.
-let held = null;
+// Moving by the mouse: from where it was pressed, until it is let go. The click after that chooses nothing.
+let held = null, wasMoved = false;
 
 chart.addEventListener("pointerdown", (event) => {
+  wasMoved = false;
   if (event.pointerType !== "mouse" || event.button !== 0 || event.target !== canvas) return;
-  held = { x: event.clientX, y: event.clientY, left: chart.scrollLeft, top: chart.scrollTop, hasMoved: false };
+  held = { x: event.clientX, y: event.clientY, left: chart.scrollLeft, top: chart.scrollTop };
 });
 
 window.addEventListener("pointermove", (event) => {
   if (!held) return;
   const [dx, dy] = [event.clientX - held.x, event.clientY - held.y];
-  held.hasMoved ||= Math.hypot(dx, dy) > 4;
-  if (!held.hasMoved) return;
-  chart.classList.add("moving");
-  Object.assign(chart, { scrollLeft: held.left - dx, scrollTop: held.top - dy });
+  wasMoved ||= Math.hypot(dx, dy) > LEAST_MOVE;
+  chart.classList.toggle("moving", wasMoved);
+  if (wasMoved) Object.assign(chart, { scrollLeft: held.left - dx, scrollTop: held.top - dy });
 });
 
 window.addEventListener("pointerup", () => {
-  if (held && held.hasMoved) window.addEventListener("click", (event) => event.stopPropagation(), { capture: true, once: true });
   chart.classList.remove("moving");
   held = null;
 });
 
 canvas.addEventListener("click", (event) => {
-  const { left, top } = canvas.getBoundingClientRect(), call = callAt(event.clientX - left, event.clientY - top);
-  choose(call);
+  const { left, top } = canvas.getBoundingClientRect();
+  if (!wasMoved) choose(callAt(event.clientX - left, event.clientY - top));
 });
-canvas.addEventListener("pointermove", (event) => { if (!held?.hasMoved) hover(event); });
+canvas.addEventListener("pointermove", (event) => { if (!held) hover(event); });
 canvas.addEventListener("pointerleave", leave);
 chart.addEventListener("scroll", () => { look(); leave(); });
 chart.addEventListener("wheel", (event) => {
   if (event.shiftKey || Math.abs(event.deltaX) > Math.abs(event.deltaY)) return;
   event.preventDefault();
-  setScale(shown.scale * Math.exp(-event.deltaY / 400), event.clientX - canvas.getBoundingClientRect().left);
+  const turned = event.deltaY * (event.deltaMode === WheelEvent.DOM_DELTA_LINE ? LINE : 1);
+  setScale(shown.scale * Math.exp(-turned / TURN), event.clientX - canvas.getBoundingClientRect().left);
 }, { passive: false });
 
 /** The call of the run so many places after the chosen one. */
