@@ -51,7 +51,7 @@ function lanesOf(bars, isCore) {
     let lane = freeLane(lanes, life.first, ({ hasEnded }) => areMany || (hasEnded && !isCore));
     if (!lane) lanes.push((lane = { lives: [], bars: [], openFrom: null }));
     lane.lives.push(life);
-    lane.bars = lane.bars.concat(life.bars);
+    for (const bar of life.bars) lane.bars.push(bar);
     Object.assign(lane, { last: life.last, hasEnded: life.hasEnded });
   }
   return lanes.sort((a, b) => a.lives[0].process - b.lives[0].process);
