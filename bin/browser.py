@@ -2,12 +2,13 @@
 import base64
 import json
 import os
+import select
 import shutil
 import subprocess
 import tempfile
 
+SECONDS = 60  # for an answer of the browser
 NAMES = ("chromium", "chromium-browser", "google-chrome", "google-chrome-stable", "chrome")
-SECONDS = 60
 WORDS = ["--headless=new", "--remote-debugging-pipe", "--no-first-run", "--disable-gpu", "--disable-dev-shm-usage", "--disable-extensions"]
 WORDS += ["--disable-background-networking", "--hide-scrollbars=false", "--force-color-profile=srgb"]
 
@@ -32,13 +33,21 @@ class Browser:
         os.close(to_browser)
         os.close(from_browser)
         self.left, self.count, self.session, self.errors, self.happened = b"", 0, None, [], []
+
+    def __enter__(self):
+        try:
+            self.attach()
+        except BaseException:
+            self.__exit__()
+            raise
+        return self
+
+    def attach(self):
+        """Makes the page."""
         target = self.ask("Target.createTarget", url="about:blank")["targetId"]
         self.session = self.ask("Target.attachToTarget", targetId=target, flatten=True)["sessionId"]
         for domain in ("Page", "Runtime", "Log", "Network"):
             self.ask(f"{domain}.enable")
-
-    def __enter__(self):
-        return self
 
     def __exit__(self, *_):
         os.close(self.told)
@@ -50,9 +59,10 @@ class Browser:
     def receive(self):
         """The next message of the browser."""
         while b"\0" not in self.left:
-            more = os.read(self.heard, 1 << 20)
+            ready, _, _ = select.select([self.heard], [], [], SECONDS)
+            more = os.read(self.heard, 1 << 20) if ready else b""
             if not more:
-                raise OSError("the browser ended")
+                raise OSError("it ended" if ready else f"it gave no answer in {SECONDS} seconds")
             self.left += more
         message, _, self.left = self.left.partition(b"\0")
         message = json.loads(message)
