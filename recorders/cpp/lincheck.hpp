@@ -304,7 +304,7 @@ class Recorder {
         const std::string told(name);
         if (!is_name(name)) throw std::invalid_argument("no name of an object: " + told);
         if (of == std::end(detail::kinds)) throw std::invalid_argument("no kind of an object: " + std::string(kind));
-        if (start != 0 && !of->has_start) throw std::invalid_argument("a " + std::string(kind) + " has no start");
+        if (start != 0 && !of->has_start) throw std::invalid_argument(std::string(kind) + " has no start");
         if (processes_.load()) throw std::logic_error("objects are declared before the first process");
         if (find(name) != objects_.size()) throw std::logic_error("object is declared already: " + told);
         if (objects_.size() == 1024) throw std::logic_error("more than 1024 objects");

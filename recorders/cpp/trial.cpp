@@ -23,7 +23,7 @@ void all() {
     recorder.object("x", "register", 7);
     recorder.object("m", "map");
     recorder.object("s", "set");
-    const std::int64_t apple = recorder.value("apple"), red = recorder.value("r\"e\\d\n\u00e9"), pear = recorder.value("pear");
+    const std::int64_t apple = recorder.value("apple"), red = recorder.value("r\"e\\d\x01\u00e9"), pear = recorder.value("pear");
     lincheck::Process &me = recorder.process(5), &other = recorder.process();
     me.record("q", "enq", {1}, [] {});
     me.record("q", "deq", {}, [] { return 1; });
@@ -32,7 +32,7 @@ void all() {
     other.call("x", "write", {9});
     other.fail();
     me.record("m", "put", {apple, red}, [] {});
-    other.record("m", "get", {apple}, [] { return std::string("r\"e\\d\n\u00e9"); });
+    other.record("m", "get", {apple}, [] { return std::string("r\"e\\d\x01\u00e9"); });
     thrown<Unknown>([&] { me.record("x", "write", {3}, [] { throw Unknown(); }); });
     thrown<Refused>([&] { me.record("m", "put", {pear, 4}, [] { throw Refused(); }, lincheck::fails<Refused>); });
     me.call("s", "add", {1});
