@@ -1,5 +1,5 @@
 /* A queue that four threads put into and take from: `right` under one lock, or `wrong`, where the look at the first item and
- * its removal are two steps. The second word is the number of rounds. */
+ * its removal are two steps; `narrow` is as wrong, without a pause between the two. The second word is the number of rounds. */
 #include "lincheck.h"
 #include <pthread.h>
 #include <sched.h>
@@ -7,7 +7,7 @@
 enum { THREADS = 4, ROOM = 100000 };
 
 static struct { pthread_mutex_t lock; size_t first, last; int64_t items[ROOM]; } queue = { PTHREAD_MUTEX_INITIALIZER, 0, 0, { 0 } };
-static int is_right, rounds = 100;
+static int is_right, is_narrow, rounds = 100;
 static atomic_int waiting = THREADS;
 static struct lincheck_recorder *recorder;
 
@@ -25,6 +25,7 @@ static int take(int64_t *item) {
         *item = queue.items[queue.first];
         if (!is_right) {
             pthread_mutex_unlock(&queue.lock);
+            if (!is_narrow) sched_yield();
             pthread_mutex_lock(&queue.lock);
         }
         if (queue.first < queue.last) queue.first++;
@@ -47,7 +48,8 @@ static void *work(void *thread) {
 int main(int count, char **words) {
     pthread_t threads[THREADS];
     int numbers[THREADS];
-    is_right = count > 1 && !strcmp(words[1], "right");
+    is_right = count < 2 || !strcmp(words[1], "right");
+    is_narrow = count > 1 && !strcmp(words[1], "narrow");
     if (count > 2) rounds = atoi(words[2]);
     if (rounds < 1 || rounds > ROOM / THREADS) return 70;
     recorder = lincheck_new();

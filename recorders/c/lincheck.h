@@ -21,6 +21,9 @@
  * be caught, so also after abort and a fault of memory. */
 #ifndef LINCHECK_H
 #define LINCHECK_H
+#if defined(__STRICT_ANSI__) && !defined(_POSIX_C_SOURCE)
+#define _POSIX_C_SOURCE 200809L /* for lincheck_write_at_end under -std=c11, where this file is included first */
+#endif
 #include <inttypes.h>
 #include <signal.h>
 #include <stdatomic.h>
@@ -29,7 +32,7 @@
 #include <stdio.h>
 #include <stdlib.h>
 #include <string.h>
-#if defined(__unix__) || defined(__APPLE__)
+#ifdef SA_SIGINFO
 #include <fcntl.h>
 #include <unistd.h>
 #define LINCHECK_AT_END 1
@@ -488,22 +491,33 @@ static inline int lincheck_write(struct lincheck_recorder *it, FILE *to) {
 }
 
 #ifdef LINCHECK_AT_END
-static _Atomic(struct lincheck_recorder *) lincheck_ending;
+static _Atomic(struct lincheck_recorder *) lincheck_ending; /* the recorder that writes at the end */
+#define LINCHECK_BUSY ((struct lincheck_recorder *)(void *)&lincheck_ending) /* stands there while it writes */
 
-/* Writes the history of the recorder that asked for it, once. */
-static inline void lincheck_write_now(void) {
-    struct lincheck_recorder *it = atomic_exchange(&lincheck_ending, NULL);
-    if (!it) return;
+/* Writes the history of the recorder that asked for it, once. Answers 0 where another thread, or the code that this handler of a
+ * signal interrupts, is writing it. */
+static inline int lincheck_write_now(void) {
+    struct lincheck_recorder *it = atomic_load(&lincheck_ending);
+    while (it && it != LINCHECK_BUSY && !atomic_compare_exchange_weak(&lincheck_ending, &it, LINCHECK_BUSY)) { }
+    if (!it || it == LINCHECK_BUSY) return !it;
     struct lincheck_out out = { .file = open(it->path, O_WRONLY | O_CREAT | O_TRUNC, 0666) };
     lincheck_write_history(it, &out, 1);
     if (close(out.file) != 0 || out.has_failed) {
         static const char told[] = "lincheck: the history was not written\n";
-        if (write(2, told, sizeof told - 1) < 0) return;
+        if (write(2, told, sizeof told - 1) < 0) out.has_failed = 1;
     }
+    atomic_store(&lincheck_ending, NULL);
+    return 1;
 }
 
+static inline void lincheck_write_at_exit(void) {
+    while (!lincheck_write_now()) { }
+}
+
+/* Whoever is writing already ends the program after that. Behind SIGABRT the program would end before. */
 static inline void lincheck_on_signal(int number) {
-    lincheck_write_now();
+    if (number == SIGABRT) lincheck_write_at_exit();
+    else if (!lincheck_write_now()) return;
     signal(number, SIG_DFL);
     raise(number);
 }
@@ -519,10 +533,11 @@ static inline void lincheck_write_at_end(struct lincheck_recorder *it, const cha
     remove(path);
     if (is_set) return;
     is_set = 1;
-    atexit(lincheck_write_now);
+    atexit(lincheck_write_at_exit);
     for (size_t i = 0; i < sizeof numbers / sizeof *numbers; i++) {
-        void (*old)(int) = signal(numbers[i], lincheck_on_signal);
-        if (old != SIG_DFL) signal(numbers[i], old);
+        struct sigaction taken = { .sa_handler = lincheck_on_signal }, old;
+        sigaction(numbers[i], &taken, &old);
+        if (old.sa_handler != SIG_DFL) sigaction(numbers[i], &old, NULL);
     }
 }
 #endif
@@ -530,7 +545,7 @@ static inline void lincheck_write_at_end(struct lincheck_recorder *it, const cha
 /* Ends a recorder and its processes, after all threads have ended. One that writes at the end writes now. */
 static inline void lincheck_free(struct lincheck_recorder *it) {
 #ifdef LINCHECK_AT_END
-    if (atomic_load(&lincheck_ending) == it) lincheck_write_now();
+    if (it->path) lincheck_write_at_exit();
 #endif
     for (struct lincheck_process *p = atomic_load(&it->processes), *next; p; p = next) {
         for (struct lincheck_chunk *chunk = p->first, *after; chunk; chunk = after) {

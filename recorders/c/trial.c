@@ -1,6 +1,5 @@
 /* What bin/check-recorders asks of the recorder itself: `all` records each kind of event, `refused` prints what is said of
  * each mistake, `cost` prints the nanoseconds that a recorded call takes, and `stuck FILE` hangs in a call. */
-#define _POSIX_C_SOURCE 200809L
 #include "lincheck.h"
 #include <pthread.h>
 #include <sys/wait.h>

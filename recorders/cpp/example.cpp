@@ -1,5 +1,5 @@
 // A queue that four threads put into and take from: `right` under one lock, or `wrong`, where the look at the first item and
-// its removal are two steps. The second word is the number of rounds.
+// its removal are two steps; `narrow` is as wrong, without a pause between the two. The second word is the number of rounds.
 #include "lincheck.hpp"
 #include <iostream>
 #include <queue>
@@ -9,7 +9,7 @@ namespace {
 
 class Queue {
   public:
-    explicit Queue(bool is_right) : is_right_(is_right) {}
+    explicit Queue(std::string_view asked) : asked_(asked) {}
 
     void put(int item) {
         const std::lock_guard<std::mutex> guard(lock_);
@@ -20,8 +20,9 @@ class Queue {
         std::unique_lock<std::mutex> guard(lock_);
         if (items_.empty()) return std::nullopt;
         const int first = items_.front();
-        if (!is_right_) {
+        if (asked_ != "right") {
             guard.unlock();
+            if (asked_ == "wrong") std::this_thread::yield();
             guard.lock();
         }
         if (!items_.empty()) items_.pop();
@@ -29,7 +30,7 @@ class Queue {
     }
 
   private:
-    const bool is_right_;
+    const std::string_view asked_;
     std::mutex lock_;
     std::queue<int> items_;
 };
@@ -39,7 +40,7 @@ class Queue {
 int main(int count, char **words) {
     constexpr int threads = 4;
     const int rounds = count > 2 ? std::atoi(words[2]) : 100;
-    Queue items(count > 1 && std::string_view(words[1]) == "right");
+    Queue items(count > 1 ? words[1] : "right");
     lincheck::Recorder recorder;
     recorder.object("q", "queue");
     std::atomic<int> waiting{threads};

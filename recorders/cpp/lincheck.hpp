@@ -291,7 +291,7 @@ class Recorder {
 
     ~Recorder() {
 #ifdef LINCHECK_AT_END
-        if (ending_.load() == this) write_now();
+        if (!path_.empty()) write_at_exit();
 #endif
         for (const Process *process = processes_.load(); process;) delete std::exchange(process, process->next_);
         for (const auto &bucket : by_number_)
@@ -488,7 +488,7 @@ class Recorder {
 
 #ifdef LINCHECK_AT_END
     static bool set_handlers() {
-        std::atexit(write_now);
+        std::atexit(write_at_exit);
         for (const int number : {SIGHUP, SIGINT, SIGQUIT, SIGILL, SIGABRT, SIGBUS, SIGFPE, SIGSEGV, SIGALRM, SIGTERM}) {
             const auto old = std::signal(number, on_signal);
             if (old != SIG_DFL) std::signal(number, old);
@@ -496,16 +496,27 @@ class Recorder {
         return true;
     }
 
+    // Whoever is writing already ends the program after that. Behind SIGABRT the program would end before.
     static void on_signal(int number) {
-        write_now();
+        if (number == SIGABRT) write_at_exit();
+        else if (!write_now()) return;
         std::signal(number, SIG_DFL);
         std::raise(number);
     }
 
-    // Writes the history of the recorder that asked for it, once.
-    static void write_now() {
-        const Recorder *it = ending_.exchange(nullptr);
-        if (!it) return;
+    static void write_at_exit() {
+        while (!write_now()) {
+        }
+    }
+
+    // Writes the history of the recorder that asked for it, once. Answers false where another thread, or the code that this
+    // handler of a signal interrupts, is writing it.
+    static bool write_now() {
+        Recorder *const busy = reinterpret_cast<Recorder *>(&ending_);
+        Recorder *it = ending_.load();
+        while (it && it != busy && !ending_.compare_exchange_weak(it, busy)) {
+        }
+        if (!it || it == busy) return !it;
         int file = ::open(it->path_.c_str(), O_WRONLY | O_CREAT | O_TRUNC, 0666);
         detail::Out out([](void *to, const char *bytes, std::size_t count) {
             while (count) {
@@ -519,11 +530,13 @@ class Recorder {
         it->write_history(out, 1);
         if (::close(file) != 0 || !out.is_whole()) {
             constexpr std::string_view told = "lincheck: the history was not written\n";
-            if (::write(2, told.data(), told.size()) < 0) return;
+            static_cast<void>(::write(2, told.data(), told.size()) < 0);
         }
+        ending_.store(nullptr);
+        return true;
     }
 
-    inline static std::atomic<Recorder *> ending_{nullptr};
+    inline static std::atomic<Recorder *> ending_{nullptr}; // the recorder that writes at the end; itself while it writes
     std::string path_;
 #endif
 

@@ -309,11 +309,13 @@ public final class Recorder {
                 ret(answer);
                 return answer;
             } catch (Throwable thrown) {
-                if (isOneOf(thrown, List.of(fails))) {
-                    fail();
-                } else {
-                    info();
+                for (Class<? extends Exception> it : fails) {
+                    if (it.isInstance(thrown)) {
+                        fail();
+                        throw thrown;
+                    }
                 }
+                info();
                 throw thrown;
             }
         }
@@ -327,10 +329,6 @@ public final class Recorder {
                 return OK;
             };
             record(object, op, args, answering, fails);
-        }
-
-        private boolean isOneOf(Throwable thrown, List<Class<? extends Exception>> fails) {
-            return fails.stream().anyMatch(it -> it.isInstance(thrown));
         }
 
         private long head(int what, int operation) {

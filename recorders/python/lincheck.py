@@ -22,13 +22,14 @@ the program ends, or by SIGHUP, SIGINT or SIGTERM. Python runs nothing when the 
 import atexit
 import itertools
 import json
+import numbers
 import os
 import re
 import signal
 import sys
 import threading
 
-OK = "ok"
+OK = type("Ok", (), {"__repr__": lambda _: "OK"})()
 """The reply of an operation that answers nothing but that it is done."""
 
 KINDS = {  # of each operation the number of arguments, and whether it answers ok
@@ -73,8 +74,8 @@ class Recorder:
 
     def value(self, value):
         """The whole number that stands for a value: a whole number itself, and equal numbers for equal values."""
-        if isinstance(value, int) and not isinstance(value, bool):
-            return value
+        if isinstance(value, numbers.Integral) and not isinstance(value, bool) and -(2**63) <= value < 2**63:
+            return int(value)
         try:
             hash(value)
         except TypeError:  # a list, as it is now
@@ -102,14 +103,16 @@ class Recorder:
         once = threading.Lock()
 
         def write():
-            if once.acquire(blocking=False):
+            is_first = once.acquire(blocking=False)
+            if is_first:
                 with open(path, "w") as to:
                     self.write(to)
+            return is_first
 
         def write_and_end(number, _):
-            write()
-            signal.signal(number, signal.SIG_DFL)
-            os.kill(os.getpid(), number)
+            if write():  # else the code that this handler interrupts is writing, and ends the program
+                signal.signal(number, signal.SIG_DFL)
+                os.kill(os.getpid(), number)
 
         if os.path.exists(path):
             os.remove(path)
@@ -162,7 +165,7 @@ class Process:
         instant = next(self._instants)
         if self._pending:
             _, op, answers_ok = self._pending
-            if answers_ok and reply is not None and reply != OK:
+            if answers_ok and reply is not None and reply is not OK:
                 raise ValueError(f"{op} answers ok alone")
             if answers_ok:
                 return self._end(instant, "return", "ok")

@@ -279,9 +279,10 @@ impl Shared {
         }
     }
 
-    /// Writes the history to the file that was named for the end, once.
+    /// Writes the history to the file that was named for the end, once; who comes second waits.
     fn write_at_end(&self) {
-        let Some(path) = lock(&self.at_end).take() else { return };
+        let mut at_end = lock(&self.at_end);
+        let Some(path) = at_end.take() else { return };
         if let Err(fault) = File::create(&path).and_then(|mut file| self.write(&mut file)) {
             eprintln!("lincheck: the history was not written: {}: {fault}", path.display());
         }
