@@ -43,6 +43,7 @@ KINDS = {  # of each operation the number of arguments, and whether it answers o
 }
 WITH_START = ("register", "counter")
 FIRST_VALUE = 9_000_000_000_000_000_001  # few tests use numbers as large
+MOST = 2**63  # a whole number has 64 bits
 
 
 class Recorder:
@@ -74,7 +75,9 @@ class Recorder:
 
     def value(self, value):
         """The whole number that stands for a value: a whole number itself, and equal numbers for equal values."""
-        if isinstance(value, numbers.Integral) and not isinstance(value, bool) and -(2**63) <= value < 2**63:
+        if type(value) is int and -MOST <= value < MOST:
+            return value
+        if isinstance(value, numbers.Integral) and not isinstance(value, bool) and -MOST <= value < MOST:
             return int(value)
         try:
             hash(value)
