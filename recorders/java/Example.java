@@ -1,56 +1,58 @@
 import java.io.IOException;
-import java.util.ArrayDeque;
 import java.util.ArrayList;
 import java.util.List;
-import java.util.Queue;
 import java.util.concurrent.atomic.AtomicInteger;
 
 /**
  * A queue that four threads put into and take from: `right` under one lock, or `wrong`, where the look at the first item and its
- * removal are two steps; `narrow` is as wrong, without a pause between the two. The second word is the number of rounds.
+ * removal are two steps without the lock; `narrow` is as wrong, without a pause between the two. The second word is the number
+ * of rounds.
  */
 public final class Example {
     private static final int THREADS = 4;
 
     private static final class Items {
         private final String asked;
-        private final Queue<Integer> items = new ArrayDeque<>();
+        private final int[] items;
+        private volatile int first;
+        private volatile int last;
 
-        Items(String asked) {
+        Items(String asked, int room) {
             this.asked = asked;
+            items = new int[room];
         }
 
         synchronized void put(int item) {
-            items.add(item);
-        }
-
-        private synchronized Integer look() {
-            return items.peek();
-        }
-
-        private synchronized Integer remove() {
-            return items.poll();
+            items[last] = item;
+            last++;
         }
 
         /** An item, or null where there is none. */
         Integer take() {
-            if (asked.equals("right")) {
-                return remove();
+            if (!asked.equals("right")) {
+                return takeFirst();
             }
-            Integer first = look();
+            synchronized (this) {
+                return takeFirst();
+            }
+        }
+
+        private Integer takeFirst() {
+            int at = first;
+            if (at == last) {
+                return null;
+            }
             if (asked.equals("wrong")) {
                 Thread.yield();
             }
-            if (first != null) {
-                remove();
-            }
-            return first;
+            first = at + 1;
+            return items[at];
         }
     }
 
     public static void main(String[] words) throws InterruptedException, IOException {
         int rounds = words.length > 1 ? Integer.parseInt(words[1]) : 100;
-        Items items = new Items(words[0]);
+        Items items = new Items(words[0], THREADS * rounds);
         AtomicInteger waiting = new AtomicInteger(THREADS);
         Recorder recorder = new Recorder();
         recorder.object("q", "queue");

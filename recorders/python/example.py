@@ -1,5 +1,7 @@
 """A queue that four threads put into and take from: `right` under one lock, or `wrong`, where the look at the first item and its
-removal are two steps; `narrow` is as wrong, without a pause between the two. The second word is the number of rounds."""
+removal are two steps without the lock; `narrow` is as wrong, without a pause between the two. The second word is the number
+of rounds."""
+import contextlib
 import sys
 import threading
 import time
@@ -11,27 +13,22 @@ THREADS = 4
 
 class Queue:
     def __init__(self, asked):
-        self.asked, self.items, self.lock = asked, [], threading.Lock()
+        self.asked, self.lock, self.first, self.items = asked, threading.Lock(), 0, []
 
     def put(self, item):
         with self.lock:
             self.items.append(item)
 
-    def remove(self):
-        with self.lock:
-            return self.items.pop(0) if self.items else None
-
     def take(self):
         """An item, or None where there is none."""
-        if self.asked == "right":
-            return self.remove()
-        with self.lock:
-            first = self.items[0] if self.items else None
-        if self.asked == "wrong":
-            time.sleep(0)
-        if first is not None:
-            self.remove()
-        return first
+        with self.lock if self.asked == "right" else contextlib.nullcontext():
+            at = self.first
+            if at == len(self.items):
+                return None
+            if self.asked == "wrong":
+                time.sleep(0)
+            self.first = at + 1
+            return self.items[at]
 
 
 def main():

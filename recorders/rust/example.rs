@@ -1,42 +1,52 @@
-//! A queue that four threads put into and take from: `right` under one lock, or `wrong`, where the look at the first item and
-//! its removal are two steps; `narrow` is as wrong, without a pause between the two. The second word is the number of rounds.
+//! A queue that four threads put into and take from: `right` under one lock, or `wrong`, where the look at the first item and its
+//! removal are two steps without the lock; `narrow` is as wrong, without a pause between the two. The second word is the number
+//! of rounds.
 #[path = "lincheck.rs"]
 mod lincheck;
 
 use lincheck::Recorder;
-use std::collections::VecDeque;
-use std::sync::atomic::{AtomicI64, Ordering::SeqCst};
+use std::sync::atomic::{AtomicI64, AtomicUsize, Ordering::SeqCst};
 use std::sync::Mutex;
 
 struct Queue {
     asked: String,
-    items: Mutex<VecDeque<i64>>,
+    lock: Mutex<()>,
+    first: AtomicUsize,
+    last: AtomicUsize,
+    items: Vec<AtomicI64>,
 }
 
 impl Queue {
+    fn new(asked: &str, room: i64) -> Queue {
+        let items = (0..room).map(AtomicI64::new).collect();
+        Queue { asked: asked.to_string(), lock: Mutex::default(), first: AtomicUsize::new(0), last: AtomicUsize::new(0), items }
+    }
+
     fn put(&self, item: i64) {
-        self.items.lock().unwrap().push_back(item);
+        let _guard = self.lock.lock().unwrap();
+        self.items[self.last.load(SeqCst)].store(item, SeqCst);
+        self.last.fetch_add(1, SeqCst);
     }
 
     fn take(&self) -> Option<i64> {
-        if self.asked == "right" {
-            return self.items.lock().unwrap().pop_front();
+        let _guard = (self.asked == "right").then(|| self.lock.lock().unwrap());
+        let at = self.first.load(SeqCst);
+        if at == self.last.load(SeqCst) {
+            return None;
         }
-        let first = self.items.lock().unwrap().front().copied()?;
         if self.asked == "wrong" {
             std::thread::yield_now();
         }
-        self.items.lock().unwrap().pop_front();
-        Some(first)
+        self.first.store(at + 1, SeqCst);
+        Some(self.items[at].load(SeqCst))
     }
 }
 
 fn main() -> std::io::Result<()> {
     const THREADS: i64 = 4;
     let words: Vec<String> = std::env::args().collect();
-    let asked = words.get(1).cloned().unwrap_or("right".to_string());
     let rounds: i64 = words.get(2).map_or(100, |word| word.parse().expect("a number of rounds"));
-    let items = Queue { asked, items: Mutex::default() };
+    let items = Queue::new(words.get(1).map_or("right", String::as_str), THREADS * rounds);
     let waiting = AtomicI64::new(THREADS);
     let mut recorder = Recorder::new();
     recorder.object("q", "queue", 0);

@@ -1,5 +1,6 @@
-// A queue that four goroutines put into and take from: `right` under one lock, or `wrong`, where the look at the first item and
-// its removal are two steps; `narrow` is as wrong, without a pause between the two. The second word is the number of rounds.
+// A queue that four goroutines put into and take from: `right` under one lock, or `wrong`, where the look at the first item and its
+// removal are two steps without the lock; `narrow` is as wrong, without a pause between the two. The second word is the number
+// of rounds.
 package main
 
 import (
@@ -14,44 +15,43 @@ import (
 )
 
 type queue struct {
-	asked string
-	lock  sync.Mutex
-	items []int
+	asked       string
+	lock        sync.Mutex
+	first, last atomic.Int64
+	items       []int
 }
 
 func (q *queue) put(item int) {
 	q.lock.Lock()
 	defer q.lock.Unlock()
-	q.items = append(q.items, item)
+	q.items[q.last.Load()] = item
+	q.last.Add(1)
 }
 
 // take returns an item, or nil where there is none.
 func (q *queue) take() any {
-	q.lock.Lock()
-	defer q.lock.Unlock()
-	if len(q.items) == 0 {
+	if q.asked == "right" {
+		q.lock.Lock()
+		defer q.lock.Unlock()
+	}
+	at := q.first.Load()
+	if at == q.last.Load() {
 		return nil
 	}
-	first := q.items[0]
-	if q.asked != "right" {
-		q.lock.Unlock()
-		if q.asked == "wrong" {
-			runtime.Gosched()
-		}
-		q.lock.Lock()
+	if q.asked == "wrong" {
+		runtime.Gosched()
 	}
-	if len(q.items) > 0 {
-		q.items = q.items[1:]
-	}
-	return first
+	q.first.Store(at + 1)
+	return q.items[at]
 }
 
 func main() {
 	const threads = 4
-	rounds, items := 100, &queue{asked: os.Args[1]}
+	rounds := 100
 	if len(os.Args) > 2 {
 		rounds, _ = strconv.Atoi(os.Args[2])
 	}
+	items := &queue{asked: os.Args[1], items: make([]int, threads*rounds)}
 	recorder := lincheck.New()
 	recorder.Object("q", "queue", 0)
 	var waiting atomic.Int32

@@ -92,9 +92,11 @@ type event struct {
 const room = 512
 
 type chunk struct {
-	events [room]event
+	events *[room]event // by themselves, so that the garbage collector need not look through them
 	next   atomic.Pointer[chunk]
 }
+
+func newChunk() *chunk { return &chunk{events: new([room]event)} }
 
 type object struct {
 	name, kind string
@@ -432,7 +434,7 @@ func (p *Process) now() uint64 { return p.recorder.instants.Add(1) - 1 }
 // The place of the next event, with what all events have.
 func (p *Process) room(it what) *event {
 	if p.at == room {
-		made := &chunk{}
+		made := newChunk()
 		p.last.next.Store(made)
 		p.last, p.at = made, 0
 	}
@@ -483,7 +485,7 @@ func (r *Recorder) takeNumber(number uint32) {
 }
 
 func (r *Recorder) addProcess(number uint32) *Process {
-	first := &chunk{}
+	first := newChunk()
 	made := &Process{recorder: r, number: number, first: first, last: first}
 	r.processes = append(r.processes, made)
 	return made
