@@ -53,7 +53,7 @@ class Recorder:
         if not getattr(sys, "_is_gil_enabled", lambda: True)():
             raise RuntimeError("the instants are taken under the lock of the interpreter, which is off")
         self._instants = itertools.count(1)  # the interpreter takes one step for each number
-        self._objects, self._processes, self._numbers, self._values = {}, [], set(), {}
+        self._objects, self._operations, self._processes, self._numbers, self._values = {}, {}, [], set(), {}
         self._lock = threading.Lock()  # of the numbers and of the values; events are kept without it
 
     def object(self, name, kind, start=0):
@@ -64,7 +64,7 @@ class Recorder:
         _require(not self._processes, "objects are declared before the first process", RuntimeError)
         _require(name not in self._objects, f"object is declared already: {name}")
         _require(len(self._objects) < 1024, "more than 1024 objects", RuntimeError)
-        self._objects[name] = kind, start
+        self._objects[name], self._operations[name] = (kind, start), KINDS[kind]
 
     def process(self, number=None):
         """A process for one thread. Its number, which no process has or had, is one more than the greatest until now, where none
@@ -143,19 +143,19 @@ class Process:
     """What one thread records. No other thread uses it."""
 
     def __init__(self, recorder, number):
-        self._recorder, self._number, self._instants = recorder, number, recorder._instants
+        self._recorder, self._number, self._instants, self._operations = recorder, number, recorder._instants, recorder._operations
         self._pending, self._events = None, []  # each event: its instant, its process, its object, what it is, and its values
 
     def call(self, name, op, *args):
         """A call of this operation begins now."""
         if self._pending:
             raise RuntimeError(f"process {self._number} has a pending call")
-        if name not in self._recorder._objects:
+        operations = self._operations.get(name)
+        if not operations:
             raise ValueError(f"unknown object: {name}")
-        kind = self._recorder._objects[name][0]
-        if op not in KINDS[kind]:
-            raise ValueError(f"{kind} has no operation {op}")
-        count, answers_ok = KINDS[kind][op]
+        if op not in operations:
+            raise ValueError(f"{self._recorder._objects[name][0]} has no operation {op}")
+        count, answers_ok = operations[op]
         if len(args) != count:
             raise ValueError(f"wrong number of arguments: {op}")
         if args:
