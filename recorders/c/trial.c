@@ -1,7 +1,9 @@
-/* What bin/check-recorders asks of the recorder itself: `all` records each kind of event, `refused` prints what is said of
- * each mistake, `cost` prints the nanoseconds that a recorded call takes, and `stuck FILE` hangs in a call. */
+/* What bin/check-recorders asks of the recorder itself: `all` records each kind of event, `refused` prints what is said of each
+ * mistake, `running` writes while threads run, `cost` prints the nanoseconds that a recorded call takes, and `stuck FILE` hangs in a
+ * call. */
 #include "lincheck.h"
 #include <pthread.h>
+#include <sched.h>
 #include <sys/wait.h>
 #include <time.h>
 
@@ -70,6 +72,34 @@ static void refused(void) {
     }
 }
 
+static atomic_int counted;
+
+static struct lincheck_reply add(void) {
+    counted++;
+    return lincheck_ok;
+}
+
+static void *count(void *recorder) {
+    struct lincheck_process *me = lincheck_process(recorder);
+    for (int round = 0; round < 1000; round++) {
+        lincheck_record(me, "n", "add", (1), add());
+        lincheck_record(me, "n", "get", (), lincheck_number(counted));
+    }
+    return NULL;
+}
+
+static void running(void) {
+    struct lincheck_recorder *recorder = lincheck_new();
+    pthread_t threads[3];
+    lincheck_object(recorder, "n", "counter", 0);
+    for (int i = 0; i < 3; i++)
+        if (pthread_create(&threads[i], NULL, count, recorder) != 0) exit(70);
+    while (counted < 300) sched_yield();
+    lincheck_write(recorder, stdout);
+    for (int i = 0; i < 3; i++) pthread_join(threads[i], NULL);
+    lincheck_free(recorder);
+}
+
 static int64_t nanoseconds(void) {
     struct timespec now;
     clock_gettime(CLOCK_MONOTONIC, &now);
@@ -116,6 +146,7 @@ int main(int count, char **words) {
     const char *asked = count > 1 ? words[1] : "";
     if (!strcmp(asked, "all")) all();
     if (!strcmp(asked, "refused")) refused();
+    if (!strcmp(asked, "running")) running();
     if (!strcmp(asked, "cost")) cost();
     if (!strcmp(asked, "stuck") && count > 2) stuck(words[2]);
     return 0;

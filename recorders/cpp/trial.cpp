@@ -1,5 +1,6 @@
-// What bin/check-recorders asks of the recorder itself: `all` records each kind of event, `refused` prints what is said of
-// each mistake, `cost` prints the nanoseconds that a recorded call takes, and `stuck FILE` hangs in a call.
+// What bin/check-recorders asks of the recorder itself: `all` records each kind of event, `refused` prints what is said of each
+// mistake, `running` writes while threads run, `cost` prints the nanoseconds that a recorded call takes, and `stuck FILE` hangs in a
+// call.
 #include "lincheck.hpp"
 #include <chrono>
 #include <iostream>
@@ -76,6 +77,25 @@ void refused() {
     tell([&] { me.ret(); });
 }
 
+void running() {
+    lincheck::Recorder recorder;
+    recorder.object("n", "counter");
+    std::atomic<int> count{0};
+    std::vector<std::thread> threads;
+    for (int thread = 0; thread < 3; thread++) {
+        threads.emplace_back([&] {
+            lincheck::Process &me = recorder.process();
+            for (int round = 0; round < 1000; round++) {
+                me.record("n", "add", {1}, [&] { count++; });
+                me.record("n", "get", {}, [&] { return count.load(); });
+            }
+        });
+    }
+    while (count < 300) std::this_thread::yield();
+    recorder.write(std::cout);
+    for (std::thread &thread : threads) thread.join();
+}
+
 void cost() {
     using Clock = std::chrono::steady_clock;
     constexpr int calls = 10000;
@@ -109,6 +129,7 @@ int main(int count, char **words) {
     const std::string_view asked = count > 1 ? words[1] : "";
     if (asked == "all") all();
     if (asked == "refused") refused();
+    if (asked == "running") running();
     if (asked == "cost") cost();
     if (asked == "stuck" && count > 2) stuck(words[2]);
 }

@@ -1,10 +1,13 @@
 import java.io.IOException;
 import java.nio.file.Path;
 import java.util.List;
+import java.util.concurrent.atomic.AtomicInteger;
+import java.util.concurrent.locks.LockSupport;
 
 /**
  * What bin/check-recorders asks of the recorder itself: `all` records each kind of event, `refused` prints what is said of each
- * mistake, `cost` prints the nanoseconds that a recorded call takes, and `stuck FILE` hangs in a call.
+ * mistake, `running` writes while threads run, `cost` prints the nanoseconds that a recorded call takes, and `stuck FILE` hangs in a
+ * call.
  */
 public final class Trial {
     private static final class Refused extends Exception {
@@ -84,6 +87,25 @@ public final class Trial {
         tell(() -> me.ret(Recorder.OK));
     }
 
+    private static void running() throws IOException {
+        Recorder recorder = new Recorder();
+        recorder.object("n", "counter");
+        AtomicInteger count = new AtomicInteger();
+        for (int thread = 0; thread < 3; thread++) {
+            new Thread(() -> {
+                Recorder.Process me = recorder.process();
+                for (int round = 0; round < 1000; round++) {
+                    me.record("n", "add", List.of(1), () -> { count.incrementAndGet(); });
+                    me.record("n", "get", List.of(), () -> count.get());
+                }
+            }).start();
+        }
+        while (count.get() < 300) {
+            Thread.yield();
+        }
+        recorder.write(System.out);
+    }
+
     private static void cost() {
         int calls = 10000;
         long least = Long.MAX_VALUE;
@@ -107,8 +129,7 @@ public final class Trial {
         Thread thread = new Thread(() -> recorder.process().record("q", "enq", List.of(1), () -> {
             System.out.println("ready");
             while (true) {
-                Thread.onSpinWait();
-                java.util.concurrent.locks.LockSupport.park();
+                LockSupport.park();
             }
         }));
         thread.start();
@@ -119,6 +140,7 @@ public final class Trial {
         switch (words[0]) {
             case "all" -> all();
             case "refused" -> refused();
+            case "running" -> running();
             case "cost" -> cost();
             case "stuck" -> stuck(words[1]);
             default -> throw new IllegalArgumentException(words[0]);

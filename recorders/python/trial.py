@@ -1,5 +1,6 @@
 """What bin/check-recorders asks of the recorder itself: `all` records each kind of event, `refused` prints what is said of each
-mistake, `cost` prints the nanoseconds that a recorded call takes, and `stuck FILE` hangs in a call."""
+mistake, `running` writes while threads run, `cost` prints the nanoseconds that a recorded call takes, and `stuck FILE` hangs in a
+call."""
 import contextlib
 import sys
 import threading
@@ -76,6 +77,30 @@ def refused():
     tell(lambda: me.ret(OK))
 
 
+def running():
+    recorder, lock, counts = Recorder(), threading.Lock(), [0]
+    recorder.object("n", "counter")
+
+    def add():
+        with lock:
+            counts[0] += 1
+
+    def work():
+        me = recorder.process()
+        for _ in range(1000):
+            me.record("n", "add", [1], add)
+            me.record("n", "get", [], lambda: counts[0])
+
+    threads = [threading.Thread(target=work) for _ in range(3)]
+    for thread in threads:
+        thread.start()
+    while counts[0] < 300:
+        time.sleep(0)
+    recorder.write(sys.stdout)
+    for thread in threads:
+        thread.join()
+
+
 def cost():
     calls, least = 2000, float("inf")
     recorder = Recorder()
@@ -103,4 +128,4 @@ def stuck(path):
     thread.join()
 
 
-{"all": all_events, "refused": refused, "cost": cost, "stuck": stuck}[sys.argv[1]](*sys.argv[2:])
+{"all": all_events, "refused": refused, "running": running, "cost": cost, "stuck": stuck}[sys.argv[1]](*sys.argv[2:])

@@ -1,10 +1,12 @@
-//! What bin/check-recorders asks of the recorder itself: `all` records each kind of event, `refused` prints what is said of
-//! each mistake, `cost` prints the nanoseconds that a recorded call takes, and `stuck FILE` hangs in a call.
+//! What bin/check-recorders asks of the recorder itself: `all` records each kind of event, `refused` prints what is said of each
+//! mistake, `running` writes while threads run, `cost` prints the nanoseconds that a recorded call takes, and `stuck FILE` hangs in a
+//! call.
 #[path = "lincheck.rs"]
 mod lincheck;
 
 use lincheck::{Recorder, Reply};
 use std::panic::{catch_unwind, set_hook, AssertUnwindSafe};
+use std::sync::atomic::{AtomicI64, Ordering::SeqCst};
 use std::time::{Duration, Instant};
 
 #[derive(PartialEq)]
@@ -75,6 +77,30 @@ fn refused() {
     tell(|| me.ret(()));
 }
 
+fn running() -> std::io::Result<()> {
+    let count = AtomicI64::new(0);
+    let mut recorder = Recorder::new();
+    recorder.object("n", "counter", 0);
+    std::thread::scope(|scope| {
+        for _ in 0..3 {
+            let mut me = recorder.process();
+            let count = &count;
+            scope.spawn(move || {
+                for _ in 0..1000 {
+                    me.record("n", "add", &[1], || {
+                        count.fetch_add(1, SeqCst);
+                    });
+                    me.record("n", "get", &[], || count.load(SeqCst));
+                }
+            });
+        }
+        while count.load(SeqCst) < 300 {
+            std::thread::yield_now();
+        }
+        recorder.write(&mut std::io::stdout())
+    })
+}
+
 fn cost() {
     const CALLS: i64 = 10_000;
     let mut recorder = Recorder::new();
@@ -112,6 +138,7 @@ fn main() -> std::io::Result<()> {
     match words.iter().map(String::as_str).collect::<Vec<_>>()[..] {
         [_, "all"] => all()?,
         [_, "refused"] => refused(),
+        [_, "running"] => running()?,
         [_, "cost"] => cost(),
         [_, "stuck", file] => stuck(file),
         _ => {}

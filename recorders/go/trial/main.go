@@ -1,11 +1,14 @@
 // What bin/check-recorders asks of the recorder itself: `all` records each kind of event, `refused` prints what is said of each
-// mistake, `cost` prints the nanoseconds that a recorded call takes, and `stuck FILE` hangs in a call.
+// mistake, `running` writes while threads run, `cost` prints the nanoseconds that a recorded call takes, and `stuck FILE` hangs in a
+// call.
 package main
 
 import (
 	"errors"
 	"fmt"
 	"os"
+	"runtime"
+	"sync/atomic"
 	"time"
 
 	"recorders/lincheck"
@@ -78,6 +81,25 @@ func refused() {
 	tell(func() { me.Ret(lincheck.OK) })
 }
 
+func running() error {
+	recorder := lincheck.New()
+	recorder.Object("n", "counter", 0)
+	var count atomic.Int64
+	for i := 0; i < 3; i++ {
+		go func() {
+			me := recorder.Process()
+			for round := 0; round < 1000; round++ {
+				me.Record("n", "add", lincheck.Args{1}, func() (any, error) { count.Add(1); return lincheck.OK, nil })
+				me.Record("n", "get", nil, func() (any, error) { return count.Load(), nil })
+			}
+		}()
+	}
+	for count.Load() < 300 {
+		runtime.Gosched()
+	}
+	return recorder.Write(os.Stdout)
+}
+
 func cost() {
 	const calls = 10000
 	recorder := lincheck.New()
@@ -120,6 +142,10 @@ func main() {
 		}
 	case "refused":
 		refused()
+	case "running":
+		if err := running(); err != nil {
+			os.Exit(70)
+		}
 	case "cost":
 		cost()
 	case "stuck":
