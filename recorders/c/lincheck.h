@@ -527,10 +527,10 @@ static inline void lincheck_on_signal(int number) {
 static inline void lincheck_write_at_end(struct lincheck_recorder *it, const char *path) {
     static const int numbers[] = { SIGHUP, SIGINT, SIGQUIT, SIGILL, SIGABRT, SIGBUS, SIGFPE, SIGSEGV, SIGALRM, SIGTERM };
     static int is_set;
-    struct lincheck_recorder *none = NULL;
+    if (atomic_load(&lincheck_ending)) lincheck_mistake("a recorder writes at the end already", "");
     it->path = path;
-    if (!atomic_compare_exchange_strong(&lincheck_ending, &none, it)) lincheck_mistake("another recorder writes at the end", "");
     remove(path);
+    atomic_store(&lincheck_ending, it);
     if (is_set) return;
     is_set = 1;
     atexit(lincheck_write_at_exit);

@@ -357,10 +357,10 @@ class Recorder {
     // Writes the history to this file when the recorder is destroyed or the program ends: by exit, or by a signal that would
     // end it and has no handler. The file is removed until then. One recorder at a time.
     void write_at_end(const std::string &path) {
+        if (ending_.load()) throw std::logic_error("a recorder writes at the end already");
         path_ = path;
-        Recorder *none = nullptr;
-        if (!ending_.compare_exchange_strong(none, this)) throw std::logic_error("another recorder writes at the end");
         std::remove(path_.c_str());
+        ending_.store(this);
         static const bool is_set = set_handlers();
         static_cast<void>(is_set);
     }

@@ -28,8 +28,10 @@ import (
 	"errors"
 	"fmt"
 	"io"
+	"math"
 	"os"
 	"os/signal"
+	"reflect"
 	"regexp"
 	"sort"
 	"strings"
@@ -169,10 +171,11 @@ func (r *Recorder) Value(value any) int64 {
 		return int64(it)
 	case int64:
 		return it
-	case int32:
-		return int64(it)
-	case uint32:
-		return int64(it)
+	}
+	if it := reflect.ValueOf(value); it.CanInt() {
+		return it.Int()
+	} else if it.CanUint() && it.Uint() <= math.MaxInt64 {
+		return int64(it.Uint())
 	}
 	if known, is := r.values.Load(value); is {
 		return known.(int64)
