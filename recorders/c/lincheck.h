@@ -18,7 +18,7 @@
  *
  * lincheck_write may be called while threads run or hang: calls that have not returned are pending.
  * lincheck_write_at_end(recorder, "history.jsonl") writes the history when the program ends, by exit or by a signal that can
- * be caught, so also after abort and a fault of memory. */
+ * be caught, so also after abort and a fault of memory (on POSIX alone). */
 #ifndef LINCHECK_H
 #define LINCHECK_H
 #if defined(__STRICT_ANSI__) && !defined(_POSIX_C_SOURCE)

@@ -17,7 +17,7 @@
 // std::logic_error.
 //
 // `write` may be called while threads run or hang: calls that have not returned are pending. `write_at_end` writes the
-// history when the program ends, by exit or by a signal that can be caught, so also after std::terminate.
+// history when the program ends, by exit or by a signal that can be caught, so also after std::terminate (on POSIX alone).
 #pragma once
 #include <algorithm>
 #include <atomic>
@@ -39,7 +39,7 @@
 #include <type_traits>
 #include <utility>
 #include <vector>
-#if __has_include(<unistd.h>)
+#if defined(__unix__) || defined(__APPLE__)
 #include <fcntl.h>
 #include <unistd.h>
 #define LINCHECK_AT_END 1

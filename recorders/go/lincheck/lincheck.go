@@ -223,7 +223,9 @@ func (r *Recorder) WriteAtEnd(path string) func() {
 		number := (<-caught).(syscall.Signal)
 		once.Do(write)
 		signal.Reset(number)
-		syscall.Kill(syscall.Getpid(), number)
+		if self, err := os.FindProcess(os.Getpid()); err != nil || self.Signal(number) != nil {
+			os.Exit(128 + int(number))
+		}
 	}()
 	return func() { once.Do(write) }
 }
