@@ -1,4 +1,4 @@
-//! Records what threads call on objects, as a history for lincheck. Copy this file; it needs the standard library alone (Rust 1.70).
+//! Records what threads call on objects, as a history for lincheck. Copy this file; it needs the standard library alone (Rust 1.82).
 //!
 //! ```ignore
 //! let mut recorder = Recorder::new();
@@ -539,7 +539,7 @@ mod signals {
     const DEFAULT: usize = 0;
     const ERROR: usize = usize::MAX;
 
-    extern "C" {
+    unsafe extern "C" {
         fn signal(number: i32, handler: usize) -> usize;
         fn raise(number: i32) -> i32;
     }
