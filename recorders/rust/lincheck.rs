@@ -411,7 +411,7 @@ impl Process {
     pub fn call(&mut self, object: &str, op: &str, args: &[i64]) {
         assert!(self.pending.is_none(), "process {} has a pending call", self.number);
         let objects = &self.shared.objects;
-        if !objects.get(self.object).is_some_and(|last| last.name == object) {
+        if objects.get(self.object).is_none_or(|last| last.name != object) {
             self.object = objects.iter().position(|it| it.name == object).unwrap_or_else(|| panic!("unknown object: {object}"));
         }
         let kind = objects[self.object].kind;
