@@ -314,6 +314,47 @@ def shared_additions(count):
     yield returned(0, "c", 7 * 8**count)
 
 
+def pending_additions(count):
+    """So many clients that stop within an addition of 4, two more within one of 5, and a get of 10."""
+    yield declared("c", "counter")
+    for process, number in enumerate([4] * count + [5, 5]):
+        yield call(process, "c", "add", number)
+    yield call(count + 2, "c", "get")
+    yield returned(count + 2, "c", 10)
+
+
+def pending_gets(count):
+    """So many clients that stop within a get, then two additions of 1 beside one of -1 that never returned, and a get of 3."""
+    yield declared("c", "counter")
+    for process in range(count):
+        yield call(process, "c", "get")
+    for process, number in enumerate([-1, 1, 1], count):
+        yield call(process, "c", "add", number)
+    yield call(count + 3, "c", "get")
+    for process in (count + 2, count + 1):
+        yield returned(process, "c", OKAY)
+    yield returned(count + 3, "c", 3)
+
+
+# Numbers, and a sum of some of them, each at most three times, to which few ways lead.
+SUMS = {3: ([29, 36, 37], 147), 4: ([38, 7, 25, 21], 152), 5: ([8, 35, 5, 26, 31], 286)}
+
+
+def shared_sums(count):
+    """So many numbers, each added at once by two clients and by a third that stops within its add, and a get beside them of a
+    sum of some."""
+    numbers, wanted = SUMS[count]
+    adds = [number for number in numbers for _ in range(3)]
+    yield declared("c", "counter")
+    yield call(0, "c", "get")
+    for process, number in enumerate(adds, 1):
+        yield call(process, "c", "add", number)
+    yield returned(0, "c", wanted)
+    for process in range(1, len(adds) + 1):
+        if process % 3:
+            yield returned(process, "c", OKAY)
+
+
 def tries(count):
     """So many tries at once to take a mutex that is held, and an unlock by one that does not hold it."""
     yield declared("m", "mutex")
@@ -602,6 +643,9 @@ FAMILIES = {
     "shared_additions": Family(
         "numbers that two clients add at once, and a third that stops, and an impossible get", "numbers", [5, 6, 7, 8], 1, shared_additions
     ),
+    "shared_sums": Family("the same, and a get of a sum of some", "numbers", [3, 4, 5], 0, shared_sums),
+    "pending_additions": Family("clients that stopped within an addition, and a get to which two of them led", "clients", [8, 32], 0, pending_additions),
+    "pending_gets_no": Family("clients that stopped within a get, and a get of more than was added", "clients", [8, 32], 1, pending_gets),
     "equal_additions": Family("concurrent additions of 1, and a get of one more", "additions", [16, 40], 1, equal_additions),
     "tries": Family("concurrent tries of a held mutex, and an unlock by another", "tries", [18, 22, 64], 1, tries),
     "concurrent": Family("concurrent writes, and an impossible read", "writes", [8, 10, 12, 14, 16, 18], 1, concurrent),

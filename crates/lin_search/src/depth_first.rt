@@ -80,7 +80,7 @@ pub fn look_at<O: SeqObject, M: Memo<O>>(
 }
 
 /// Hands the memo a refuted configuration with its longest, and returns what the memo did with it. Where `is_for_problem`
-/// holds, no problems are compared.
+/// holds, no problems are compared, and `OwnMemo` and a table never answer `Stranger`.
 ///
 /// Conditions: where `is_for_problem` holds, the memo names the problem; the configuration is refuted, and this is its
 /// longest.

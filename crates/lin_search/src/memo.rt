@@ -116,8 +116,9 @@ pub trait Memo<O: SeqObject> {
         self.look(problem, config)
     }
 
-    /// `note_parts`, for the problem that the memo names; nothing is compared. Conditions: it names this one,
-    /// and the parts are a refutation.
+    /// `note_parts`, for the problem that the memo names; nothing is compared. A memo whose `answers` says that
+    /// `Stranger` means another problem, as that of `OwnMemo` and of a table does, never answers it here.
+    /// Conditions: it names this one, and the parts are a refutation.
     fn note_here(
         &mut self,
         problem: &Problem<O>,

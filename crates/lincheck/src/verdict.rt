@@ -15,7 +15,7 @@ pub enum Verdict {
         /// Its longest run, the first of those of the greatest length.
         run: Vec<Placed>,
     },
-    /// The search of the object of this index met its limit before an answer; each object before it has a linearization.
+    /// The search of the object of this index met its limit, or the time was up; each object before it has a linearization.
     Undecided {
         /// The index of the object.
         object: usize,

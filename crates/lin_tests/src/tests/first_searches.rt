@@ -1,9 +1,10 @@
-//! The search that passes over calls by what is known ahead answers as the search without a memo does.
+//! The search that passes over calls by what is known ahead answers as the search without a memo does, and with few lifts.
 
 use super::random::random_history;
-use super::searches::{Part, plainly_searched};
+use super::searches::Event::{Call, Return};
+use super::searches::{Event, Part, plainly_searched, posed_by};
 use lin_ahead::{FirstAnswer, known_ahead, search_first};
-use lin_object::Kind;
+use lin_object::{Kind, Op, Reply};
 use lin_search::Outcome;
 use std::alloc::{AllocError, Global};
 
@@ -50,4 +51,40 @@ fn first_search_answers_as_the_plain_search(rt: HostRuntime) {
             )
         );
     }
+}
+
+// A get that never returned, three adds, and a get of more than they add up to.
+const GET_OF_MORE_THAN_WAS_ADDED: [Event; 8] = [
+    Call(4, Op::Get),
+    Call(2, Op::Add(-1)),
+    Call(6, Op::Add(1)),
+    Call(3, Op::Get),
+    Call(0, Op::Add(1)),
+    Return(4, Reply::Okay),
+    Return(2, Reply::Okay),
+    Return(3, Reply::Int(3)),
+];
+
+// What a first search of so many lifts answers, where something is known ahead.
+fn first_told(
+    alloc: Global,
+    problem: &Part,
+    lifts: u64,
+) -> Result<Option<FirstAnswer>, AllocError> {
+    match known_ahead(alloc, problem)? {
+        Some(ahead) => Ok(Some(search_first(alloc, problem, &ahead, lifts)?)),
+        None => Ok(None),
+    }
+}
+
+// It would take 12 lifts to try the others too.
+#[test]
+fn after_a_call_that_changes_nothing_no_other_is_tried(rt: HostRuntime) {
+    let problem = posed_by(rt.alloc(), Kind::Counter, &GET_OF_MORE_THAN_WAS_ADDED);
+    assert!(rt;
+        matches!(
+            first_told(rt.alloc(), &problem, 5),
+            Ok(Some(FirstAnswer::Refuted))
+        )
+    );
 }

@@ -1,8 +1,9 @@
-//! Searches of prefixes find the order or the longest run that a full search finds.
+//! Searches of prefixes find the order or the longest run that a full search finds, and need few lifts for that.
 
 use super::random::random_history;
-use super::searches::Part;
-use lin_object::Kind;
+use super::searches::Event::{Call, Return};
+use super::searches::{Event, Part, posed_by};
+use lin_object::{Kind, Op, Reply};
 use lin_prefixes::{WholeAnswer, search_by_prefixes};
 use lin_search::{NoStop, Outcome, OwnMemo, longest_run, search_alone};
 use std::alloc::{AllocError, Global};
@@ -49,4 +50,86 @@ fn searches_of_prefixes_agree_with_the_full_search(rt: HostRuntime) {
             assert!(rt; matches!(prefixes_agree_on(rt.alloc(), *kind, seed), Ok(true)));
         }
     }
+}
+
+// Four items that go in, and a dequeue of one that nobody put in.
+const ITEM_THAT_NOBODY_PUT_IN: [Event; 10] = [
+    Call(8, Op::Dequeue),
+    Call(4, Op::Enqueue(8)),
+    Call(6, Op::Enqueue(9)),
+    Call(0, Op::Enqueue(10)),
+    Call(3, Op::Enqueue(11)),
+    Return(2, Reply::Okay),
+    Return(1, Reply::Okay),
+    Return(0, Reply::Int(1)),
+    Return(3, Reply::Okay),
+    Return(4, Reply::Okay),
+];
+
+// Two dequeues of the one item that went in before they were called, and others that go in beside them.
+const ITEM_TAKEN_TWICE: [Event; 15] = [
+    Call(1, Op::Enqueue(1)),
+    Return(0, Reply::Okay),
+    Call(0, Op::Dequeue),
+    Call(6, Op::Dequeue),
+    Call(5, Op::Enqueue(6)),
+    Call(4, Op::Enqueue(7)),
+    Call(3, Op::Dequeue),
+    Call(7, Op::Enqueue(9)),
+    Return(3, Reply::Okay),
+    Call(5, Op::Enqueue(10)),
+    Return(6, Reply::Okay),
+    Return(1, Reply::Int(1)),
+    Return(4, Reply::Okay),
+    Return(7, Reply::Okay),
+    Return(5, Reply::Int(1)),
+];
+
+// An item that went in before another comes out behind it.
+const ITEMS_TAKEN_IN_ANOTHER_ORDER: [Event; 16] = [
+    Call(1, Op::Enqueue(3)),
+    Call(2, Op::Enqueue(4)),
+    Return(1, Reply::Okay),
+    Call(2, Op::Dequeue),
+    Return(0, Reply::Okay),
+    Call(1, Op::Enqueue(7)),
+    Return(3, Reply::Okay),
+    Call(1, Op::Dequeue),
+    Return(2, Reply::Int(3)),
+    Call(2, Op::Enqueue(9)),
+    Call(0, Op::Enqueue(10)),
+    Return(5, Reply::Okay),
+    Return(4, Reply::Int(7)),
+    Return(6, Reply::Okay),
+    Call(2, Op::Enqueue(12)),
+    Return(7, Reply::Okay),
+];
+
+// Two pops that find a stack empty on which an item lies.
+const FOUND_EMPTY_UNDER_AN_ITEM: [Event; 6] = [
+    Call(1, Op::Push(4)),
+    Return(0, Reply::Okay),
+    Call(2, Op::Pop),
+    Return(1, Reply::Empty),
+    Call(2, Op::Pop),
+    Return(2, Reply::Empty),
+];
+
+// Whether searches of prefixes refute the problem of these events within so many lifts.
+fn are_refuted_within(alloc: Global, kind: Kind, events: &[Event], lifts: u64) -> bool {
+    let problem = posed_by(alloc, kind, events);
+    matches!(
+        search_by_prefixes(alloc, &problem, lifts, &mut NoStop),
+        Ok(Some(WholeAnswer::Refuted(_)))
+    )
+}
+
+// Without the question that is asked before a search, each would take some three times as many lifts or more.
+#[test]
+fn what_shows_that_there_is_none_is_asked_before_a_search(rt: HostRuntime) {
+    let alloc = rt.alloc();
+    assert!(rt; are_refuted_within(alloc, Kind::Queue, &ITEM_THAT_NOBODY_PUT_IN, 100));
+    assert!(rt; are_refuted_within(alloc, Kind::Queue, &ITEM_TAKEN_TWICE, 200));
+    assert!(rt; are_refuted_within(alloc, Kind::Queue, &ITEMS_TAKEN_IN_ANOTHER_ORDER, 50));
+    assert!(rt; are_refuted_within(alloc, Kind::Stack, &FOUND_EMPTY_UNDER_AN_ITEM, 12));
 }

@@ -362,6 +362,15 @@ fn told(
     Ok(memo.look(problem, &root.copy(alloc, problem)?))
 }
 
+// Whether the memo refuses the refuted root of another problem, and keeps nothing of it.
+fn refuses_a_stranger(
+    alloc: Global,
+    memo: &mut OwnMemo<'_, AnyObject>,
+    other: &Part,
+) -> Result<bool, AllocError> {
+    Ok(noted(alloc, memo, other)? == Some(Noted::Stranger) && memo.count() == 0)
+}
+
 // Whether the memo keeps the root of its problem once, and shows it of no other.
 fn keeps_once(
     alloc: Global,
@@ -383,8 +392,10 @@ fn keeps_once(
 // Whether a new memo does so.
 fn a_memo_keeps_once(alloc: Global) -> Result<bool, AllocError> {
     let problem = posed_by(alloc, Kind::Register, &READ_OF_NO_WRITTEN_VALUE);
-    let other = posed_by(alloc, Kind::Register, &READ_OF_THE_LAST_VALUE);
-    keeps_once(alloc, &mut OwnMemo::new(alloc, &problem), &problem, &other)
+    let other = posed_by(alloc, Kind::Register, &READ_OF_ANOTHER_VALUE);
+    let mut memo = OwnMemo::new(alloc, &problem);
+    let refused = refuses_a_stranger(alloc, &mut memo, &other)?;
+    Ok(refused && keeps_once(alloc, &mut memo, &problem, &other)?)
 }
 
 #[test]

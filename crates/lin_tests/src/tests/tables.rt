@@ -285,6 +285,40 @@ fn two_hands_share_what_one_stores(rt: HostRuntime) {
     assert!(rt; matches!(two_hands_share(rt.alloc(), &problem), Ok(true)));
 }
 
+// What the table answers to the refuted root of the problem from one hand, and then from the other.
+fn noted_by_both(
+    alloc: Global,
+    table: &Table<'_, AnyObject>,
+    one: &mut Hand<AnyObject>,
+    other: &mut Hand<AnyObject>,
+    problem: &Part,
+) -> Result<(Option<Noted>, Option<Noted>), AllocError>
+    requires one { IsHandOf table.now one.old }
+    requires other { IsHandOf table.now other.old }
+    ensures one { IsHandOf table.now one.new }
+    ensures other { IsHandOf table.now other.new }
+{
+    let first = noted(alloc, table, one, problem)?;
+    let second = noted(alloc, table, other, problem)?;
+    Ok((first, second))
+}
+
+// Whether the one shard of a table keeps once what both of its hands hand it.
+fn one_shard_keeps_once(alloc: Global, problem: &Part) -> Result<bool, AllocError> {
+    let (table, mut hands) = Table::new(alloc, problem, 1, 2)?;
+    let (Some(mut b), Some(mut a)) = (hands.pop(), hands.pop()) else {
+        return Ok(false);
+    };
+    let told = noted_by_both(alloc, &table, &mut a, &mut b, problem)?;
+    Ok(stored_by_both(alloc, table, a, b, 1)? && told == (Some(Noted::New), Some(Noted::Known)))
+}
+
+#[test]
+fn one_shard_keeps_once_what_two_hands_note(rt: HostRuntime) {
+    let problem = posed_by(rt.alloc(), Kind::Register, &READ_OF_NO_WRITTEN_VALUE);
+    assert!(rt; matches!(one_shard_keeps_once(rt.alloc(), &problem), Ok(true)));
+}
+
 // Whether a hand of a table over the memo knows what the memo has, and the table has no more than that.
 fn knows_all_of(
     alloc: Global,
