@@ -5,9 +5,10 @@ ghost use Rattle.lin_ahead.specs.AnyProblem.{any_problem};
 ghost use Rattle.lin_core.specs.Cores.{IsCore, HasNone};
 
 use crate::call_index::{CallIndex, selection_of, with_sources};
-use crate::item_faults::item_faults;
+use crate::item_faults::{item_faults, list_of};
 use crate::judge::{Judge, lifts_for};
 use crate::lock_faults::two_holders;
+use crate::part_search::PartAnswer;
 use crate::refuted_part::{Core, core_of_calls};
 use crate::selection::Selection;
 use crate::smaller::{make_smaller, rounds_but_for, without_rounds};
@@ -22,8 +23,8 @@ const THE_END: u32 = u32::MAX;
 // How many keys without an order are compared, of which the one with the fewest calls is taken.
 const MOST_KEYS: usize = 8;
 
-// How often the values of an object can be halved.
-const HALVINGS: usize = 32;
+// How many lists of values are tried where no fault is known: as many as 2^15 values have, and all their halves.
+const MOST_FAMILIES: usize = 65_536;
 
 // What a core is looked for with.
 #[derive(Drop)]
@@ -80,23 +81,29 @@ impl<'a> Finder<'a> {
         firsts.iter().map(|one| one.1).collect(alloc)
     }
 
-    // The first of these lists of values that is refuted: all of them, halves, quarters and so on.
+    // A refuted list of values: all of them, and where that is not known halves, quarters and so on. Where the calls on some values
+    // have a linearization, so have those on fewer.
     fn refuted_family(&mut self, alloc: Global) -> Result<Option<Selection>, AllocError> {
         let values = self.values_in_turn(alloc)?;
-        let mut size = values.len();
-        for _ in 0..HALVINGS {
-            if size == 0 || self.judge.is_tired() {
+        let mut families = Vec::new(alloc);
+        families.push(values)?;
+        for _ in 0..MOST_FAMILIES {
+            let Some(values) = families.pop() else {
                 break;
-            }
-            for family in values.as_slice().chunks(size) {
-                if let Some(selection) = self.refuted_on(alloc, family)? {
-                    return Ok(Some(selection));
+            };
+            let selection = self.all_on(alloc, values.as_slice())?;
+            match self
+                .judge
+                .answer(alloc, selection.calls.as_slice(), selection.event)?
+            {
+                PartAnswer::Refuted => return Ok(Some(selection)),
+                PartAnswer::Unknown if values.len() > 1 && !self.judge.is_tired() => {
+                    for half in values.as_slice().chunks(values.len() - values.len() / 2) {
+                        families.push(list_of(alloc, half)?)?;
+                    }
                 }
+                PartAnswer::Unknown | PartAnswer::Found => {}
             }
-            if size == 1 {
-                break;
-            }
-            size -= size / 2;
         }
         Ok(None)
     }

@@ -2,7 +2,7 @@
 //! the whole.
 
 use crate::part_anew::made_anew;
-use crate::part_search::{PartAnswer, answer_within};
+use crate::part_search::{PartAnswer, answer_within, is_refuted};
 use crate::selection::Selection;
 use lin_history::Problem;
 use lin_object::AnyObject;
@@ -40,16 +40,15 @@ impl<'a> Judge<'a> {
         self.work == 0
     }
 
-    /// Whether a search shows that the calls, as they stood after the event, have no linearization. `AllocError` where memory
-    /// was refused.
-    pub(crate) fn refutes(
+    /// What a search shows of the calls, as they stood after the event. `AllocError` where memory was refused.
+    pub(crate) fn answer(
         &mut self,
         alloc: Global,
         calls: &[usize],
         event: u32,
-    ) -> Result<bool, AllocError> {
+    ) -> Result<PartAnswer, AllocError> {
         if self.is_tired() {
-            return Ok(false);
+            return Ok(PartAnswer::Unknown);
         }
         let lifts = lifts_for(calls.len());
         self.work = self
@@ -57,13 +56,23 @@ impl<'a> Judge<'a> {
             .saturating_sub(calls.len() as u64)
             .saturating_sub(1);
         let Some(part) = made_anew(alloc, self.problem, calls, event)? else {
-            return Ok(false);
+            return Ok(PartAnswer::Unknown);
         };
         let answer = answer_within(alloc, &part, lifts)?;
         if answer == PartAnswer::Unknown {
             self.work = self.work.saturating_sub(lifts);
         }
-        Ok(answer == PartAnswer::Refuted)
+        Ok(answer)
+    }
+
+    /// Whether it shows that they have no linearization.
+    pub(crate) fn refutes(
+        &mut self,
+        alloc: Global,
+        calls: &[usize],
+        event: u32,
+    ) -> Result<bool, AllocError> {
+        Ok(is_refuted(self.answer(alloc, calls, event)?))
     }
 
     /// The same of a selection.

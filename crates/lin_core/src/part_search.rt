@@ -1,6 +1,6 @@
 //! Searches of a part, for whether it has a linearization.
 
-ghost use Rattle.std.specs.Prelude.{◌≡◌, IfOk};
+ghost use Rattle.std.specs.Prelude.{◌≡◌, IfOk, IsTrue};
 ghost use Rattle.lin_search.specs.Answer.{IsRefutation};
 ghost use Rattle.lin_ahead.specs.AnyProblem.{any_problem};
 ghost use Rattle.lin_ahead.specs.Behind.{IsRightAhead};
@@ -21,6 +21,17 @@ pub(crate) enum PartAnswer {
     Refuted,
     /// Nothing: it would have taken more lifts than it may make.
     Unknown,
+}
+
+/// Whether the answer is that there is none.
+pub(crate) fn is_refuted(answer: PartAnswer) -> bool
+    ensures { IsTrue result → answer ≡ PartAnswer.Refuted }
+{
+    match answer {
+        PartAnswer::Refuted => true,
+        PartAnswer::Found => false,
+        PartAnswer::Unknown => false,
+    }
 }
 
 // What the outcome of a search shows.
