@@ -2,8 +2,8 @@
 
 const data = JSON.parse(document.getElementById("data").textContent);
 
-/** The texts for which a recorder wrote numbers, by their numbers. */
-const texts = new Map(Object.entries(data.texts));
+/** The values for which a recorder wrote numbers, in quotes, by their numbers. */
+const values = new Map(Object.entries(data.values));
 
 /** A call that never returned has no reply of its own; its return is on no line. */
 const calls = data.calls.map(([process, object, op, args, line, returned, reply], number) => ({
@@ -28,7 +28,7 @@ for (const [number, isPending] of data.core) calls[number].core = { isPending };
 
 /** What a number stands for, or the number itself. */
 function valueOf(number) {
-  return texts.get(number) ?? number;
+  return values.get(number) ?? number;
 }
 
 /** The call returned nothing that anybody saw. */

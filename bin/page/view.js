@@ -94,5 +94,5 @@ function firstFrom(bars, slot) {
 function matches(call, object, words) {
   if (object && call.object.name !== object) return false;
   if (!words) return true;
-  return [...call.args, replyOf(call)].some((value) => value !== null && (value === words || texts.get(value)?.includes(words)));
+  return [...call.args, replyOf(call)].some((value) => value !== null && (value === words || values.get(value)?.includes(words)));
 }
