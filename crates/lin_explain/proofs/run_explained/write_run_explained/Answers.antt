@@ -33,4 +33,4 @@ returns c =
           c.in_ok-order.ensures (rw c.calls.ensures.calls at c.in_ok-replies.ensures) c.in_ok-explanation.ensures,
       written,
     ))
-    ?
+    (rw (c.calls-2.ensures.calls, c.calls-3.ensures, c.as_slice.ensures.value, c.as_slice-2.ensures.value) at c.write_explanation.ensures)
