@@ -1,0 +1,269 @@
+#!/usr/bin/env python3
+"""Checks the cores that `core_of` finds, by the definitions alone.
+
+    bench/cores.py [--program PROGRAM] FILE..
+    bench/cores.py [--program PROGRAM] --random COUNT
+
+Builds `bench/cores.program` by `bin/build_unproved.py` (two minutes), unless it is given, and runs it on each history. All orders of
+a core's calls are tried: there may be none. The calls left out may not be needed: each is none of the core's values, or changes
+nothing. A core can't be smaller: cut at an earlier return, without one of its values or without one call that changes nothing, its
+calls have an order. Of small histories all orders of the whole are tried too: one with an order may have no core. Prints how
+many cores have how many calls, and each object without an order of which no core was found.
+"""
+import argparse
+import collections
+import random
+import subprocess
+import sys
+import tempfile
+from pathlib import Path
+
+BENCH = Path(__file__).resolve().parent
+sys.path[:0] = [str(BENCH), str(BENCH.parent / "bin")]
+from explanations import PENDING, precedes, read, same
+from explanations import step as step_of_any_size
+
+# Histories of which all orders are tried, and cores: those with more calls are counted only.
+SMALL, MOST = 14, 20
+BITS = 63
+CHANGE_NOTHING = {"read", "get", "contains"}
+
+
+def step(kind, state, process, op, args):
+    """The next state and the reply, or None where there is no step: as one beyond 64 bits."""
+    answer = step_of_any_size(kind, state, process, op, args)
+    return None if kind == "counter" and not -(2**BITS) <= answer[0] < 2**BITS else answer
+
+
+def has_order(kind, start, calls):
+    """Whether some order of the calls is a linearization, by all orders, with what was seen kept."""
+    seen, left = set(), [(frozenset(range(len(calls))), start)]
+    while left:
+        rest, state = left.pop()
+        if all(calls[c]["returned"] is PENDING for c in rest):
+            return True
+        for c in rest:
+            call = calls[c]
+            if any(precedes(calls[b], call) for b in rest if b != c):
+                continue
+            answer = step(kind, state, call["process"], call["op"], call["args"])
+            if answer is None or call["returned"] is not PENDING and not same(answer[1], call["returned"][1]):
+                continue
+            after = rest - {c}, answer[0]
+            if after not in seen:
+                seen.add(after)
+                left.append(after)
+    return False
+
+
+def is_idle(kind, call):
+    """Whether the call is known to change nothing."""
+    op, returned = call["op"], call["returned"]
+    if op in CHANGE_NOTHING:
+        return True
+    if op == "cas" and call["args"][0] == call["args"][1]:
+        return True
+    return returned is not PENDING and (returned[1] == "empty" or returned[1] is False)
+
+
+def place(kind, call):
+    """The value that a call is on; `any` where it is on each, and None where it is on none."""
+    op, args, returned = call["op"], call["args"], call["returned"]
+    reply = "any" if returned is PENDING or returned[1] == "empty" else returned[1]
+    if op in ("read", "deq", "pop"):
+        return reply
+    if kind == "counter":
+        return "any"
+    if kind == "mutex":
+        return None if reply is False else call["process"]
+    if op == "cas":
+        return None if reply is False else args[1]
+    return args[0]
+
+
+def cut(call, event):
+    """The call as it stood after the event."""
+    returned = call["returned"]
+    return call | {"returned": returned if returned is not PENDING and returned[0] <= event else PENDING}
+
+
+def is_on(kind, call, values):
+    at = place(kind, call)
+    if at is None or at != "any" and at not in values:
+        return False
+    return call["op"] != "cas" or call["args"][0] == call["args"][1] or call["args"][0] in values
+
+
+def may_go(kind, call, values):
+    """Whether the call may be left out, by what it is on."""
+    at = place(kind, call)
+    return is_idle(kind, call) or at not in ("any", None) and at not in values
+
+
+def smaller(kind, calls, kept, event, values):
+    """The selections next smaller than this one: calls and an event."""
+    returns = sorted(c["returned"][0] for c in (calls[k] for k in kept) if c["returned"] is not PENDING)
+    for earlier in [r for r in returns if r < event][-1:]:
+        yield [k for k in kept if calls[k]["called"] <= earlier], earlier
+    for value in values if len(values) > 1 else []:
+        fewer = values - {value}
+        on = [k for k in kept if is_on(kind, calls[k], fewer)]
+        if all(may_go(kind, calls[k], fewer) for k in kept if k not in on):
+            yield on, event
+    for k in kept:
+        if is_idle(kind, calls[k]):
+            yield [other for other in kept if other != k], event
+
+
+def check(kind, start, calls, core):
+    """What is wrong with a core, if anything is."""
+    event, kept, values = core["event"], [k for k, _ in core["calls"]], set(core["values"])
+    part = [cut(calls[k], event) for k in kept]
+    if [c["returned"] is PENDING for c in part] != [pending for _, pending in core["calls"]]:
+        return "another call is taken as pending"
+    if any(calls[k]["called"] > event for k in kept) or kept != sorted(set(kept)):
+        return "these are not its calls"
+    if len(part) > MOST:
+        return None
+    if has_order(kind, start, part):
+        return "its calls have an order"
+    others = [c for k, c in enumerate(calls) if k not in kept and c["called"] <= event]
+    if kind != "mutex" and not all(may_go(kind, c, values) for c in others):
+        return "a call that it needs is left out"
+    for less, earlier in smaller(kind, calls, kept, event, values):
+        if not has_order(kind, start, [cut(calls[k], earlier) for k in less]):
+            return f"{len(less)} calls are enough"
+    return None
+
+
+def answers(program, files):
+    """What the program says of each object of the files."""
+    said = subprocess.run([program, *files], capture_output=True, text=True, check=True).stdout
+    found = []
+    for what, *words in (line.split() for line in said.splitlines()):
+        if what == "none":
+            found.append(None)
+        elif what == "core":
+            found.append({"event": int(words[0]), "calls": [], "values": []})
+        elif what == "call":
+            found[-1]["calls"].append((int(words[0]), words[1] == "true"))
+        elif what == "value":
+            found[-1]["values"].append(int(words[0]))
+    return found
+
+
+class Tally:
+    """What was found of all objects."""
+
+    def __init__(self):
+        self.sizes, self.wrong, self.missed, self.orders = collections.Counter(), [], [], 0
+
+    def add(self, name, kind, start, calls, core):
+        small = len(calls) <= SMALL
+        if core is None:
+            if small and has_order(kind, start, calls):
+                self.orders += 1
+            elif small:
+                self.missed.append(f"{name} ({kind}, {len(calls)} calls)")
+            return
+        self.sizes[len(core["calls"])] += 1
+        fault = check(kind, start, calls, core)
+        if small and has_order(kind, start, calls):
+            fault = "the whole has an order"
+        if fault:
+            self.wrong.append(f"{name}: {fault}: {core}")
+
+    def print(self):
+        print("cores by their calls:", dict(sorted(self.sizes.items())))
+        print("objects with an order, without a core:", self.orders)
+        print("objects without an order, without a core:", len(self.missed), *self.missed[:20], sep="\n  ")
+        print("wrong:", len(self.wrong), *self.wrong[:20], sep="\n  ")
+        return 1 if self.wrong else 0
+
+
+def random_call(chance, kind):
+    value = chance.randrange(1, 4)
+    ops = {
+        "register": [("write", [value]), ("read", []), ("cas", [chance.randrange(3), value])],
+        "counter": [("add", [1]), ("get", [])],
+        "queue": [("enq", [value]), ("deq", [])],
+        "stack": [("push", [value]), ("pop", [])],
+        "set": [("add", [value]), ("remove", [value]), ("contains", [value])],
+        "mutex": [("lock", []), ("unlock", []), ("try_lock", [])],
+        "map": [("put", [value % 2, chance.randrange(3)]), ("get", [value % 2]), ("delete", [value % 2])],
+    }
+    return chance.choice(ops[kind])
+
+
+def random_reply(chance, op, args):
+    if op in ("write", "enq", "push", "put", "lock", "unlock") or op == "add" and chance.random() < 0.5:
+        return '"ok"' if op != "add" else "true"
+    if op in ("cas", "remove", "contains", "delete", "try_lock", "add"):
+        return chance.choice(["true", "false"])
+    return chance.choice(["1", "2", "3", "null"] if op in ("deq", "pop") else ["0", "1", "2"])
+
+
+def random_history(chance, kind):
+    """The text of a small history whose calls take effect in turn, with a few replies replaced."""
+    lines, open_calls, events = [f'{{"event":"object","object":"x","kind":"{kind}"}}\n'], {}, chance.randrange(8, 2 * SMALL)
+    state = {"register": 0, "counter": 0, "mutex": None}.get(kind, ())
+    for _ in range(events):
+        process = chance.randrange(1, 4)
+        if process in open_calls:
+            op, args, reply = open_calls.pop(process)
+            lines.append(f'{{"event":"return","process":{process},"object":"x","result":{reply}}}\n')
+            continue
+        op, args = random_call(chance, kind)
+        answer = step(kind, state, process, op, args)
+        if answer is None:
+            continue
+        state, reply = answer
+        text = {"ok": '"ok"', "empty": "null", True: "true", False: "false"}.get(reply, str(reply)) if not isinstance(reply, int) or isinstance(reply, bool) else str(reply)
+        if kind == "counter" and op == "get" and chance.random() < 0.1:
+            text = str(reply + 1)
+        elif kind != "counter" and chance.random() < 0.12:
+            text = random_reply(chance, op, args) if kind != "map" or op != "get" else chance.choice(["0", "1", "2", "null"])
+        text = '"ok"' if kind == "counter" and op == "add" else text
+        open_calls[process] = op, args, text
+        shown = f',"args":{args}' if args else ""
+        lines.append(f'{{"event":"call","process":{process},"object":"x","op":"{op}"{shown}}}\n')
+    return "".join(lines)
+
+
+def histories(words, folder):
+    """The files to look at."""
+    if words.random is None:
+        return words.files
+    chance, files = random.Random(words.seed), []
+    kinds = ["register", "counter", "queue", "stack", "set", "mutex", "map"]
+    for number in range(words.random):
+        file = Path(folder) / f"{number}.jsonl"
+        file.write_text(random_history(chance, kinds[number % len(kinds)]))
+        files.append(str(file))
+    return files
+
+
+def main():
+    words = argparse.ArgumentParser(description=__doc__, formatter_class=argparse.RawDescriptionHelpFormatter)
+    words.add_argument("--program")
+    words.add_argument("--random", type=int)
+    words.add_argument("--seed", type=int, default=1)
+    words.add_argument("files", nargs="*")
+    asked = words.parse_args()
+    with tempfile.TemporaryDirectory() as folder:
+        program = asked.program
+        if program is None:
+            import build_unproved
+
+            program = Path(folder) / "cores"
+            build_unproved.build(program, BENCH / "cores.program")
+        tally = Tally()
+        for file in histories(asked, folder):
+            objects = read(Path(file).read_text())
+            for (name, kind, start, calls), core in zip(objects, answers(program, [file])):
+                tally.add(f"{Path(file).name} {name}", kind, start, calls, core)
+    return tally.print()
+
+
+if __name__ == "__main__":
+    sys.exit(main())

@@ -1,0 +1,236 @@
+//! Looking for a core: first where practice has its faults, then wherever a search of some calls finds that they have no order.
+
+ghost use Rattle.std.specs.Prelude.{◌≡◌, IfOk, IfSome};
+ghost use Rattle.lin_ahead.specs.AnyProblem.{any_problem};
+ghost use Rattle.lin_core.specs.Cores.{IsCore, HasNone};
+
+use crate::call_index::{CallIndex, selection_of, with_sources};
+use crate::item_faults::{item_faults, list_of};
+use crate::judge::{Judge, lifts_for};
+use crate::lock_faults::two_holders;
+use crate::part_search::PartAnswer;
+use crate::refuted_part::{Core, core_of_calls};
+use crate::selection::Selection;
+use crate::smaller::{make_smaller, rounds_but_for, without_rounds};
+use crate::value_faults::value_faults;
+use lin_history::Problem;
+use lin_object::{AnyObject, ObjState};
+use std::alloc::{AllocError, Global};
+
+// An event after every other.
+const THE_END: u32 = u32::MAX;
+
+// How many keys without an order are compared, of which the one with the fewest calls is taken.
+const MOST_KEYS: usize = 8;
+
+// How many lists of values are tried where no fault is known: as many as 2^15 values have, and all their halves.
+const MOST_FAMILIES: usize = 65_536;
+
+// What a core is looked for with.
+#[derive(Drop)]
+struct Finder<'a> {
+    problem: &'a Problem<AnyObject>,
+    index: CallIndex,
+    judge: Judge<'a>,
+}
+
+impl<'a> Finder<'a> {
+    // The selection of all calls on these values, and on what the calls of `cas` on them expect.
+    fn all_on(&self, alloc: Global, values: &[i64]) -> Result<Selection, AllocError> {
+        let values = with_sources(alloc, self.problem, &self.index, values)?;
+        selection_of(alloc, self.problem, &self.index, values, THE_END)
+    }
+
+    // That selection, if it is refuted.
+    fn refuted_on(
+        &mut self,
+        alloc: Global,
+        values: &[i64],
+    ) -> Result<Option<Selection>, AllocError> {
+        let selection = self.all_on(alloc, values)?;
+        if self.judge.refutes_selection(alloc, &selection)? {
+            Ok(Some(selection))
+        } else {
+            Ok(None)
+        }
+    }
+
+    // The first of these lists of values on which the calls are refuted.
+    fn first_refuted(
+        &mut self,
+        alloc: Global,
+        lists: &[Vec<i64>],
+    ) -> Result<Option<Selection>, AllocError> {
+        for values in lists {
+            if let Some(selection) = self.refuted_on(alloc, values.as_slice())? {
+                return Ok(Some(selection));
+            }
+        }
+        Ok(None)
+    }
+
+    // All values with a call, by the first call on each.
+    fn values_in_turn(&self, alloc: Global) -> Result<Vec<i64>, AllocError> {
+        let mut firsts = Vec::with_capacity(alloc, self.index.values.len())?;
+        for on_value in &self.index.values {
+            if let Some(first) = on_value.calls.first() {
+                firsts.push((*first, on_value.value))?;
+            }
+        }
+        firsts.sort_by_key(|one| one.0)?;
+        firsts.iter().map(|one| one.1).collect(alloc)
+    }
+
+    // A refuted list of values: all of them, and where that is not known halves, quarters and so on. Where the calls on some values
+    // have a linearization, so have those on fewer.
+    fn refuted_family(&mut self, alloc: Global) -> Result<Option<Selection>, AllocError> {
+        let values = self.values_in_turn(alloc)?;
+        let mut families = Vec::new(alloc);
+        families.push(values)?;
+        for _ in 0..MOST_FAMILIES {
+            let Some(values) = families.pop() else {
+                break;
+            };
+            let selection = self.all_on(alloc, values.as_slice())?;
+            match self
+                .judge
+                .answer(alloc, selection.calls.as_slice(), selection.event)?
+            {
+                PartAnswer::Refuted => return Ok(Some(selection)),
+                PartAnswer::Unknown if values.len() > 1 && !self.judge.is_tired() => {
+                    for half in values.as_slice().chunks(values.len() - values.len() / 2) {
+                        families.push(list_of(alloc, half)?)?;
+                    }
+                }
+                PartAnswer::Unknown | PartAnswer::Found => {}
+            }
+        }
+        Ok(None)
+    }
+
+    // Of the first keys whose calls are refuted the one with the fewest calls, each cut and made as small as can be.
+    fn refuted_key(&mut self, alloc: Global) -> Result<Option<Selection>, AllocError> {
+        let keys = self.values_in_turn(alloc)?;
+        let mut best: Option<Selection> = None;
+        let mut tried = 0;
+        for key in &keys {
+            if tried >= MOST_KEYS {
+                break;
+            }
+            if let Some(selection) = self.refuted_on(alloc, &[*key])? {
+                tried += 1;
+                best = Some(self.smaller_one(alloc, best, selection)?);
+            }
+        }
+        Ok(best)
+    }
+
+    // The one of both with fewer calls, the second made as small as can be first.
+    fn smaller_one(
+        &mut self,
+        alloc: Global,
+        best: Option<Selection>,
+        selection: Selection,
+    ) -> Result<Selection, AllocError> {
+        let mut selection = selection;
+        make_smaller(alloc, self.problem, &mut self.judge, &mut selection)?;
+        match best {
+            Some(best) if best.calls.len() <= selection.calls.len() => Ok(best),
+            _ => Ok(selection),
+        }
+    }
+
+    // The calls of two processes that held a mutex at one moment, without all their other rounds.
+    fn refuted_holders(&mut self, alloc: Global) -> Result<Option<Selection>, AllocError> {
+        let Some(two) = two_holders(alloc, self.problem)? else {
+            return Ok(None);
+        };
+        let calls = self.problem.calls();
+        let (Some(first), Some(second)) = (calls.get(two.first), calls.get(two.second)) else {
+            return Ok(None);
+        };
+        let values = [i64::from(first.process), i64::from(second.process)];
+        let Some(selection) = self.refuted_on(alloc, &values)? else {
+            return Ok(None);
+        };
+        let rounds = rounds_but_for(alloc, self.problem, &selection, &[two.first, two.second])?;
+        let less = without_rounds(alloc, self.problem, &selection, rounds.as_slice())?;
+        if self.judge.refutes_selection(alloc, &less)? {
+            Ok(Some(less))
+        } else {
+            Ok(Some(selection))
+        }
+    }
+
+    // Values with a fault as practice has it, on which the calls are refuted.
+    fn refuted_by_fault(&mut self, alloc: Global) -> Result<Option<Selection>, AllocError> {
+        let lists = match self.problem.start() {
+            ObjState::Queue(_) => item_faults(alloc, self.problem, &self.index, true)?,
+            ObjState::Stack(_) => item_faults(alloc, self.problem, &self.index, false)?,
+            ObjState::Register(start) => value_faults(alloc, self.problem, &self.index, *start)?,
+            ObjState::Mutex(_) => return self.refuted_holders(alloc),
+            _ => return Ok(None),
+        };
+        self.first_refuted(alloc, lists.as_slice())
+    }
+
+    // Some calls that are refuted, by whatever way finds them first.
+    fn refuted(&mut self, alloc: Global) -> Result<Option<Selection>, AllocError> {
+        match self.problem.start() {
+            ObjState::Map(_) | ObjState::Set(_) => self.refuted_key(alloc),
+            ObjState::Counter(_) => self.refuted_on(alloc, &[]),
+            _ => match self.refuted_by_fault(alloc)? {
+                Some(selection) => Ok(Some(selection)),
+                None => self.refuted_family(alloc),
+            },
+        }
+    }
+
+    // The same, made as small as can be.
+    fn smallest(&mut self, alloc: Global) -> Result<Option<Selection>, AllocError> {
+        let Some(mut selection) = self.refuted(alloc)? else {
+            return Ok(None);
+        };
+        make_smaller(alloc, self.problem, &mut self.judge, &mut selection)?;
+        Ok(Some(selection))
+    }
+}
+
+// Some calls that a search finds to have no linearization, made as few as can be.
+fn selection_found(
+    alloc: Global,
+    problem: &Problem<AnyObject>,
+    work: u64,
+) -> Result<Option<Selection>, AllocError> {
+    let index = CallIndex::new(alloc, problem)?;
+    let judge = Judge::new(problem, work);
+    let mut finder = Finder {
+        problem,
+        index,
+        judge,
+    };
+    finder.smallest(alloc)
+}
+
+/// A core of the problem; `None` where none is found: where the problem has a linearization, and else where all that is tried with so
+/// much work finds none. For each part that is tried one is taken for each of its calls, and one for each lift that a search
+/// makes in vain. `AllocError` where memory was refused.
+///
+/// It looks first for faults as practice has them, which takes O(n log n) for n calls, and then for any.
+pub fn core_of(
+    alloc: Global,
+    problem: &Problem<AnyObject>,
+    work: u64,
+) -> Result<Option<Core>, AllocError>
+    ensures core { IfOk result (λ answer. IfSome answer (λ core.
+        IsCore (any_problem problem.now) core.event core.values.items core.calls.items core.firsts.items)) }
+    ensures none { IfOk result (λ answer. IfSome answer (λ core. HasNone (any_problem problem.now))) }
+{
+    match selection_found(alloc, problem, work)? {
+        Some(selection) => {
+            let lifts = lifts_for(selection.calls.len());
+            core_of_calls(alloc, problem, selection, lifts)
+        }
+        None => Ok(None),
+    }
+}

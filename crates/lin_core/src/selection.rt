@@ -1,0 +1,43 @@
+//! Some calls of a problem, to be looked at by themselves.
+
+use std::alloc::{AllocError, Global};
+
+/// Some calls of a problem, as they stood after one of its events, and on which values they are. That the other calls may be
+/// left out has to be shown: those that are neither on the values nor change anything, and rounds of a mutex.
+#[derive(Debug, Drop)]
+pub struct Selection {
+    /// The number of the event.
+    pub event: u32,
+    /// The values: items of a queue, a stack or a set, values of a register, keys of a map, processes of a mutex.
+    pub values: Vec<i64>,
+    /// The numbers of the calls, in increasing order.
+    pub calls: Vec<usize>,
+    /// The first calls of the rounds of a mutex that are left out.
+    pub firsts: Vec<usize>,
+    /// The last calls of these rounds, in the same order.
+    pub lasts: Vec<usize>,
+}
+
+impl Selection {
+    /// The selection that leaves no round out.
+    pub fn new(alloc: Global, event: u32, values: Vec<i64>, calls: Vec<usize>) -> Self {
+        Selection {
+            event,
+            values,
+            calls,
+            firsts: Vec::new(alloc),
+            lasts: Vec::new(alloc),
+        }
+    }
+
+    /// A copy of it. `AllocError` where memory was refused.
+    pub(crate) fn copied(&self, alloc: Global) -> Result<Self, AllocError> {
+        Ok(Selection {
+            event: self.event,
+            values: Vec::from_slice(alloc, self.values.as_slice())?,
+            calls: Vec::from_slice(alloc, self.calls.as_slice())?,
+            firsts: Vec::from_slice(alloc, self.firsts.as_slice())?,
+            lasts: Vec::from_slice(alloc, self.lasts.as_slice())?,
+        })
+    }
+}
