@@ -28,7 +28,7 @@ use Rattle.lincheck.specs.declared.fault.RunFault.TheVariants.{Read, Write, Memo
 use Rattle.lincheck.proofs.Bytes.{kept}
 use Rattle.lin_history.specs.declared.limits.TheConstants.{MAX_OBJECTS}
 use Rattle.lincheck.specs.Report.{with_stats}
-use Rattle.lincheck.specs.Explained.{WithExplanation, IsExplained}
+use Rattle.lincheck.specs.Explained.{IsExplained}
 use Rattle.std.specs.List.{list_any}
 use Rattle.std.specs.Prelude.{if◌then◌else◌}
 use Rattle.lincheck.specs.Each.{is_no, is_undecided}
@@ -84,16 +84,16 @@ verdict_of h bounds (verdicts.No object run) v = (v.0.0.declared, placed_known h
 verdict_of h bounds (verdicts.Undecided object) v = v.declared
 
 -- the report of a right verdict, with what is told after it, is the report of the history
-report_of_verdict : (lines : Option (List ℕ)) (h : RecordedHistory) (bounds : Bounds) (v : Verdict) (report printed : List ℕ) → IsVerdict h bounds v → report ≡ report_of h v → IsExplained lines h v report printed → IsReport lines bounds h (status_of v) (judged_of h v) printed
-report_of_verdict lines h bounds (verdicts.Yes l) report printed v p e = ((v.0.0, l, v.0.1, v.0.2, v.1, e ∙ p), refl)
-report_of_verdict lines h bounds (verdicts.No object run) report printed v p e = (object, (run.items, v.0.0, v.0.1, subst (λ (r : List ℕ). WithExplanation lines h object v.0.1.order r printed) p (e v.0.1)), v.1, refl)
-report_of_verdict lines h bounds (verdicts.Undecided object) report printed v p e = (object, (v, e ∙ p), refl)
+report_of_verdict : (lines : Option (List ℕ)) (h : RecordedHistory) (bounds : Bounds) (v : Verdict) (printed : List ℕ) → IsVerdict h bounds v → IsExplained lines h v printed → IsReport lines bounds h (status_of v) (judged_of h v) printed
+report_of_verdict lines h bounds (verdicts.Yes l) printed v e = ((v.0.0, l, v.0.1, v.0.2, v.1, e), refl)
+report_of_verdict lines h bounds (verdicts.No object run) printed v e = (object, (run.items, v.0.0, v.0.1, e), v.1, refl)
+report_of_verdict lines h bounds (verdicts.Undecided object) printed v e = (object, (v, e), refl)
 
--- where no lines are given, the report stays as it is
-pub explained_not : (h : RecordedHistory) (v : Verdict) (report : List ℕ) → IsExplained None h v report report
-explained_not h (verdicts.Yes l) report = refl
-explained_not h (verdicts.No object run) report = λ longest. refl
-explained_not h (verdicts.Undecided object) report = refl
+-- where no lines are given, it is the report
+pub explained_not : (h : RecordedHistory) (v : Verdict) (printed : List ℕ) → printed ≡ report_of h v → IsExplained None h v printed
+explained_not h (verdicts.Yes l) printed e = e
+explained_not h (verdicts.No object run) printed e = e
+explained_not h (verdicts.Undecided object) printed e = e
 
 -- no more objects are judged than there are
 pub judged_few : (h : RecordedHistory) (bounds : Bounds) (v : Verdict) (most : ℕ) → IsVerdict h bounds v → length h.objects ≤ most → judged_of h v ≤ most
@@ -108,8 +108,8 @@ stats_told true h n (Some stored) report printed e told few = (stored, told.is_s
 stats_told true h n None report printed e told few = absurd (let q = told.is_told few in cc)
 
 -- and the history prints it, with the statistics after it
-pub prints_verdict : (h : RecordedHistory) (options : Options) (lines : Option (List ℕ)) (v : Verdict) (report told printed : List ℕ) → IsVerdict h (bounds_of options) v → report ≡ report_of h v → IsExplained lines h v report told → WithStats options.stats h (judged_of h v) told printed → PrintsWith options lines h (status_of v) printed
-prints_verdict h options lines v report told printed right is why stats = (judged_of h v, told, report_of_verdict lines h (bounds_of options) v report told right is why, stats)
+pub prints_verdict : (h : RecordedHistory) (options : Options) (lines : Option (List ℕ)) (v : Verdict) (told printed : List ℕ) → IsVerdict h (bounds_of options) v → IsExplained lines h v told → WithStats options.stats h (judged_of h v) told printed → PrintsWith options lines h (status_of v) printed
+prints_verdict h options lines v told printed right why stats = (judged_of h v, told, report_of_verdict lines h (bounds_of options) v told right why, stats)
 
 -- what the history prints is what the text prints that means it
 pub prints_report : (text : List ℕ) (h : RecordedHistory) (options : Options) (status : Status) (printed : List ℕ) → MeansHistory text h → PrintsWith options None h status printed → Prints options Report text status printed

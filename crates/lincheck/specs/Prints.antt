@@ -22,7 +22,7 @@ use Rattle.lincheck.specs.Verdict.{AreLeast, IsFirstWithout, IsLongestRunOf, IsU
 use Rattle.lincheck.specs.Explained.{WithExplanation}
 use Rattle.lincheck.specs.Stored.{IsStoredSum}
 use Rattle.lincheck.specs.Each.{AreStatusesOf, status_lines, status_of_all}
-use Rattle.lincheck.specs.Report.{yes_report, no_report, undecided_report, stored_line}
+use Rattle.lincheck.specs.Report.{yes_report, undecided_report, stored_line}
 
 -- A text that means a fault prints the line of the fault.
 abbrev pub PrintsRefused : List ℕ → List ℕ → Type 0
@@ -33,10 +33,10 @@ PrintsRefused text printed = (fault : TextFault) × MeansFault text fault.line f
 abbrev pub PrintsYes : RecordedHistory → List ℕ → Type 0
 PrintsYes h printed = (orders : List (List ℕ)) × (l : List (Placed Reply)) × AreLeast h orders × IsJoined (whole_of h) orders l × IsLinearizationOfWhole (whole_of h) l × (printed ≡ yes_report h l)
 
--- Otherwise it prints the first object that has none, with its longest run, and where the lines of the events are given why the
--- run ends.
+-- Otherwise it prints the first object that has none, with its longest run; where the lines of the events are given, the last calls
+-- of that run, why it ends, and a core or nothing of one.
 abbrev pub PrintsNo : Option (List ℕ) → RecordedHistory → ℕ → List ℕ → Type 0
-PrintsNo lines h object printed = (run : List (Placed Reply)) × IsFirstWithout h object × (longest : IsLongestRunOf h object run) × WithExplanation lines h object longest.order (no_report h object run) printed
+PrintsNo lines h object printed = (run : List (Placed Reply)) × IsFirstWithout h object × IsLongestRunOf h object run × WithExplanation lines h object run printed
 
 -- Within bounds it may print an object that is not decided.
 abbrev pub PrintsUndecided : RecordedHistory → Bounds → ℕ → List ℕ → Type 0

@@ -4,6 +4,7 @@
 mod answer_form;
 mod by_prefixes;
 mod check_watcher;
+mod core_lines;
 mod device;
 mod each;
 mod explanation_lines;

@@ -12,10 +12,10 @@ ghost use Rattle.lincheck.specs.Reading.{IsReadOf, TakesAtMost};
 use crate::answer_form::AnswerForm;
 use crate::device::{DeviceFault, Sink, Source};
 use crate::each::{check_each_with, report_each, status_of_all};
-use crate::explanation_lines::with_explanation;
+use crate::explanation_lines::report_explained;
 use crate::fault::RunFault;
 use crate::judgement::check_with;
-use crate::lines::{report, with_stats};
+use crate::lines::with_stats;
 use crate::listener::{Listener, NoListener};
 use crate::status::Status;
 use crate::verdict::Verdict;
@@ -85,8 +85,7 @@ fn status_of(verdict: &Verdict) -> Status
     }
 }
 
-// What a history is answered: the status, and what is printed, with why the longest run ends where the lines of the events are
-// given.
+// What a history is answered: the status, and what is printed, with what explains it where the lines of the events are given.
 fn verdict_printed<R: AllocGlobal + Threads + Clock + Sync, L: Listener + Sync>(
     rt: &R,
     history: &History,
@@ -101,8 +100,7 @@ fn verdict_printed<R: AllocGlobal + Threads + Clock + Sync, L: Listener + Sync>(
     let Ok(checked) = check_with(rt, history, options, &FreeGate, listener) else {
         return Err(AllocError);
     };
-    let reported = report(rt.alloc(), history, &checked.verdict)?;
-    let explained = with_explanation(rt.alloc(), history, &checked.verdict, lines, reported)?;
+    let explained = report_explained(rt.alloc(), history, &checked.verdict, lines)?;
     let printed = with_stats(rt.alloc(), explained, options.stats(), checked.stored)?;
     Ok((status_of(&checked.verdict), printed))
 }
@@ -287,8 +285,9 @@ pub fn run<R: AllocGlobal + Threads + Clock + Sync, S: Source, W: Sink>(
     run_with(rt, source, sink, options, AnswerForm::Report, &NoListener)
 }
 
-/// Does what `run` does, and shows behind the report of a history that is not linearizable why the longest run ends: the state
-/// after it, each call that could come next with what it would answer there, and on which lines of the text the calls are.
+/// Does what `run` does, and shows of a history that is not linearizable a few calls that alone have no order, where such are found,
+/// and why the longest run ends: its last calls, the state after it, and each call that could come next with what it would answer
+/// there. Each call is shown with the lines of the text on which it is.
 /// Conditions, faults and what is left after them are those of `run`.
 pub fn run_explained<R: AllocGlobal + Threads + Clock + Sync, S: Source, W: Sink>(
     rt: &R,
