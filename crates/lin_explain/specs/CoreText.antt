@@ -9,11 +9,8 @@ use Rattle.lin_object.specs.declared.op.Op.TheVariants as ops
 use Rattle.lin_object.specs.declared.reply.Reply.{Reply}
 use Rattle.lin_object.specs.PrintedForms.{op_text}
 use Rattle.lin_history.specs.declared.problems.problem.ProblemCall.{ProblemCall}
-use Rattle.lin_history.specs.Recorder.RecordedHistory.{RecordedHistory}
-use Rattle.lin_history.specs.Recorder.Parts.{part_calls}
 use Rattle.lin_explain.specs.declared.core_text.CoreCall.{CoreCall}
 use Rattle.lin_explain.specs.ExplanationText.{key_of}
-use Rattle.lin_explain.specs.RunExplained.{object_name}
 use Rattle.lin_explain.specs.TouchingText.{recorded_text}
 
 -- The key of a map, or the member of a set, that an operation is on; none of another kind's operations.
@@ -74,7 +71,3 @@ core_lines name calls lines (c ∷ cs) = core_line_of name lines c.is_pending (s
 -- The calls with the line above them; nothing where there are none.
 abbrev pub core_text : List ℕ → List (ProblemCall Op Reply) → List ℕ → List CoreCall → List ℕ
 core_text name calls lines core = if length core == 0 then [] else core_head (length core) (core_key calls core) ++ core_lines name calls lines core
-
--- The same of calls on this object of a history.
-abbrev pub core_text_of : RecordedHistory → ℕ → List ℕ → List CoreCall → List ℕ
-core_text_of h object lines core = core_text (object_name h object) (part_calls h object) lines core

@@ -1,14 +1,14 @@
 //! How calls are shown that alone have no order.
-ghost use Rattle.std.specs.Prelude.{◌≡◌, ◌++◌, ◌<◌, length, string_bytes, slice_get, OnOk};
+ghost use Rattle.std.specs.Prelude.{◌≡◌, ◌++◌, string_bytes, slice_get, OnOk};
 ghost use Rattle.std.specs.List.{list_all};
 ghost use Rattle.std.specs.Option.{option_and_then};
-ghost use Rattle.lin_explain.specs.CoreText.{key_on, key_at, is_key, is_on_key, core_key, on_key_text, core_head, unless_pending, core_line, core_line_of, core_lines, core_text, core_text_of};
+ghost use Rattle.lin_explain.specs.CoreText.{key_on, key_at, is_key, is_on_key, core_key, on_key_text, core_head, unless_pending, core_line, core_line_of, core_lines, core_text};
 
 use crate::explanation_text::key_of;
 use crate::touching_text::write_recorded;
-use lin_history::{History, ProblemCall};
+use lin_history::ProblemCall;
 use lin_object::{Op, Reply};
-use std::alloc::{AllocError, Global};
+use std::alloc::AllocError;
 
 /// A call of a core, as it is shown.
 #[derive(Clone, Copy, PartialEq, Eq, Debug)]
@@ -162,8 +162,10 @@ fn write_calls(
     Ok(())
 }
 
-// Appends these calls on the object of this name, with the line above them; nothing where there are none.
-fn write_core_calls(
+/// Appends the lines of a core of these calls on the object of this name: how many calls it has, and of a map or a set which key they
+/// are on; and below that each call, with the lines of the input on which its events are. `lines` has the line of each event of the
+/// input, that of the event of number n at n - 1. Appends nothing where the core has no calls. `AllocError` where memory was refused.
+pub fn write_core(
     out: &mut String,
     name: &str,
     calls: &[ProblemCall<Op, Reply>],
@@ -178,26 +180,4 @@ fn write_core_calls(
     }
     write_head(out, core.len(), core_key(calls, core))?;
     write_calls(out, name, calls, lines, core)
-}
-
-/// Appends the calls of a core of the object of this index, each with the lines of the input on which its events are, and above
-/// them a line that says how many they are, and of a map or a set which key they are on; nothing where there are none. `lines` has
-/// the line of each event of the input, that of the event of number n at n - 1. `AllocError` where memory was refused.
-///
-/// Condition: the object is declared.
-pub fn write_core(
-    alloc: Global,
-    out: &mut String,
-    history: &History,
-    object: usize,
-    core: &[CoreCall],
-    lines: &[u64],
-) -> Result<(), AllocError>
-    requires { object < length history.now.objects }
-    ensures { OnOk result (string_bytes out.new
-        ≡ string_bytes out.old ++ core_text_of history.now object lines.now core.now) }
-{
-    let problem = history.problem(alloc, object)?;
-    let name = history.object(object).name;
-    write_core_calls(out, name, problem.calls(), lines, core)
 }

@@ -7,15 +7,16 @@ use Rattle.lin_object.specs.declared.state.ObjState.{ObjState}
 use Rattle.lin_history.specs.declared.locality.placed.Placed.{Placed}
 use Rattle.lin_history.specs.Problems.Problem.{Problem}
 use Rattle.lin_history.specs.Recorder.RecordedHistory.{RecordedHistory}
+use Rattle.lin_history.specs.Recorder.Parts.{part_calls}
 use Rattle.lin_history.specs.Locality.RecordedWhole.{part_of}
 use Rattle.lin_core.specs.Cores.{IsCore}
 use Rattle.lin_core.specs.Cuts.{returned_by}
 use Rattle.lin_explain.specs.declared.core_text.CoreCall.{CoreCall}
-use Rattle.lin_explain.specs.CoreText.{core_text_of}
+use Rattle.lin_explain.specs.CoreText.{core_text}
 use Rattle.lin_explain.specs.RunExplained.{IsExplainedBy}
 use Rattle.lincheck.specs.declared.verdict.Verdict.{Verdict}
 use Rattle.lincheck.specs.declared.verdict.Verdict.TheVariants.{Yes, No, Undecided}
-use Rattle.lincheck.specs.Report.{name_line, length_line, last_lines, yes_report, no_report, undecided_report}
+use Rattle.lincheck.specs.Report.{name_of, name_line, length_line, last_lines, yes_report, no_report, undecided_report}
 
 -- The call of this number as it stood after the event: pending, if it returned later.
 abbrev pub told_in : Problem ObjState Op Reply → ℕ → ℕ → CoreCall
@@ -29,6 +30,10 @@ AreOfCore h object told =
 -- The calls of a core, or none: where none was found nothing is said of it.
 abbrev pub TellsCore : RecordedHistory → ℕ → List CoreCall → Type 0
 TellsCore h object told = (told ≡ []) ⊎ AreOfCore h object told
+
+-- The lines of these calls on the object, where the events are on these lines.
+abbrev pub core_text_of : RecordedHistory → ℕ → List ℕ → List CoreCall → List ℕ
+core_text_of h object lines told = core_text (name_of h object) (part_calls h object) lines told
 
 -- What comes before the longest run, with the calls of a core: the line that names the object, and these calls with their lines.
 abbrev pub head_text : RecordedHistory → ℕ → List ℕ → List CoreCall → List ℕ

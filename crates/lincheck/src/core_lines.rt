@@ -1,6 +1,7 @@
 //! The calls of a core of an object, as they are shown.
 
-ghost use Rattle.std.specs.Prelude.{◌≡◌, ◌<◌, length, map, IfOk};
+ghost use Rattle.std.specs.Prelude.{◌≡◌, Some, map, option_map, slice_get, IfOk};
+ghost use Rattle.lin_history.specs.Recorder.Parts.{start_of, part_calls};
 ghost use Rattle.lin_ahead.specs.AnyProblem.{any_problem};
 ghost use Rattle.lincheck.specs.Explained.{told_in, TellsCore};
 
@@ -53,20 +54,21 @@ fn calls_of(
     Ok(calls)
 }
 
-/// The calls of a core of the object of this index, where one is found; none where none is. `AllocError` where memory was refused.
-///
-/// Condition: the object is declared.
+/// The calls of a core of the object of this index, of which the problem is the part of the history on it, where one is found; none
+/// where none is. `AllocError` where memory was refused.
 pub(crate) fn core_calls(
     alloc: Global,
     history: &History,
     object: usize,
+    problem: &Problem<AnyObject>,
 ) -> Result<Vec<CoreCall>, AllocError>
-    requires { object < length history.now.objects }
+    requires start { option_map start_of (slice_get history.now.objects object)
+        ≡ Some problem.now.start }
+    requires calls { problem.now.calls ≡ part_calls history.now object }
     ensures { IfOk result (λ calls. TellsCore history.now object calls.items) }
 {
-    let problem = history.problem(alloc, object)?;
-    match core_of(alloc, &problem, work_for(problem.len()))? {
-        Some(core) => calls_of(alloc, &problem, &core),
+    match core_of(alloc, problem, work_for(problem.len()))? {
+        Some(core) => calls_of(alloc, problem, &core),
         None => Ok(Vec::new(alloc)),
     }
 }

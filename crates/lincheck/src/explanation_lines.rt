@@ -3,6 +3,7 @@ ghost use Rattle.std.specs.Prelude.{◌≡◌, ◌++◌, ◌<◌, ℕ, List, Som
 ghost use Rattle.lin_object.specs.declared.state.ObjState.{ObjState as State};
 ghost use Rattle.lin_history.specs.Problems.LegalLists.{Legal};
 ghost use Rattle.lin_history.specs.Locality.JoinedOrder.{Places};
+ghost use Rattle.lin_history.specs.Recorder.Parts.{part_calls};
 ghost use Rattle.lin_history.specs.Locality.RecordedWhole.{whole_of, start_at, part_of};
 ghost use Rattle.lin_history.specs.Verifier.Flags.{AreKnown};
 ghost use Rattle.lin_explain.specs.RunExplained.{IsExplainedBy};
@@ -14,24 +15,27 @@ use crate::core_lines::core_calls;
 use crate::lines::{report, write_last_calls, write_length, write_name};
 use crate::verdict::Verdict;
 use lin_explain::{CoreCall, write_core, write_run_explained};
-use lin_history::{History, Placed};
+use lin_history::{History, Placed, ProblemCall};
+use lin_object::{Op, Reply};
 use std::alloc::{AllocError, Global};
 
-// Appends the line that names an object without a linearization, and below it the calls of a core.
+// Appends the line that names an object without a linearization, and below it the calls of a core of the calls on it.
 fn write_head(
-    alloc: Global,
     out: &mut String,
     history: &History,
     object: usize,
-    core: &[CoreCall],
+    calls: &[ProblemCall<Op, Reply>],
     lines: &[u64],
+    core: &[CoreCall],
 ) -> Result<(), AllocError>
-    requires { object < length history.now.objects }
+    requires declared { object < length history.now.objects }
+    requires calls { calls.now ≡ part_calls history.now object }
     ensures { OnOk result (string_bytes out.new
         ≡ string_bytes out.old ++ head_text history.now object lines.now core.now) }
 {
     write_name(out, history, object)?;
-    write_core(alloc, out, history, object, core, lines)
+    let name = history.object(object).name;
+    write_core(out, name, calls, lines, core)
 }
 
 // Appends the length of this run of the object, its last calls, and why it ends.
@@ -73,9 +77,17 @@ fn no_explained(
     ensures { IfOk result (λ printed. WithExplanation (Some lines.now) history.now object run.now
         printed.items) }
 {
-    let core = core_calls(alloc, history, object)?;
+    let problem = history.problem(alloc, object)?;
+    let core = core_calls(alloc, history, object, &problem)?;
     let mut out = String::new(alloc);
-    write_head(alloc, &mut out, history, object, core.as_slice(), lines)?;
+    write_head(
+        &mut out,
+        history,
+        object,
+        problem.calls(),
+        lines,
+        core.as_slice(),
+    )?;
     write_end(alloc, &mut out, history, object, run, lines)?;
     Ok(out.into_bytes())
 }
