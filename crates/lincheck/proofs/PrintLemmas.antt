@@ -14,7 +14,7 @@ use Rattle.lin_text.specs.Text.{MeansHistory, MeansFault}
 use Rattle.lin_workers.specs.Bounds.{Bounds}
 use Rattle.lin_workers.specs.Options.{Options, bounds_of}
 use Rattle.lincheck.specs.declared.answer_form.AnswerForm.{AnswerForm}
-use Rattle.lincheck.specs.declared.answer_form.AnswerForm.TheVariants.{Report, Explained, Each}
+use Rattle.lincheck.specs.declared.answer_form.AnswerForm.TheVariants.{Report, Explained, Each, EachExplained}
 use Rattle.lincheck.specs.declared.status.Status.{Status}
 use Rattle.lincheck.specs.declared.status.Status.TheVariants.{Yes, No, Undecided, Refused}
 use Rattle.lincheck.specs.declared.verdict.Verdict.{Verdict}
@@ -130,11 +130,17 @@ some_status true undecided e = cc
 some_status false true e = cc
 some_status false false e = cc
 
-pub prints_each : (text : List ℕ) (h : RecordedHistory) (options : Options) (status : Status) (printed : List ℕ) → MeansHistory text h → PrintsEach options h status printed → Prints options Each text status printed
+pub prints_each : (text : List ℕ) (h : RecordedHistory) (options : Options) (status : Status) (printed : List ℕ) → MeansHistory text h → PrintsEach options None h status printed → Prints options Each text status printed
 prints_each text h options Yes printed m p = (h, m, p)
 prints_each text h options No printed m p = (h, m, p)
 prints_each text h options Undecided printed m p = (h, m, p)
 prints_each text h options Refused printed m p = absurd (some_status (list_any is_no p.statuses) (list_any is_undecided p.statuses) p.together)
+
+pub prints_each_explained : (text : List ℕ) (h : RecordedHistory) (lines : List ℕ) (options : Options) (status : Status) (printed : List ℕ) → MeansHistory text h → AreEventLines text h.events lines → PrintsEach options (Some lines) h status printed → Prints options EachExplained text status printed
+prints_each_explained text h lines options Yes printed m are p = (h, m, (lines, are, p))
+prints_each_explained text h lines options No printed m are p = (h, m, (lines, are, p))
+prints_each_explained text h lines options Undecided printed m are p = (h, m, (lines, are, p))
+prints_each_explained text h lines options Refused printed m are p = absurd (some_status (list_any is_no p.statuses) (list_any is_undecided p.statuses) p.together)
 
 -- ---- a run on what was read
 

@@ -13,7 +13,7 @@ use Rattle.lin_text.specs.Words.{fault_line}
 use Rattle.lin_workers.specs.Bounds.{Bounds}
 use Rattle.lin_workers.specs.Options.{Options, bounds_of}
 use Rattle.lincheck.specs.declared.answer_form.AnswerForm.{AnswerForm}
-use Rattle.lincheck.specs.declared.answer_form.AnswerForm.TheVariants.{Report, Explained, Each}
+use Rattle.lincheck.specs.declared.answer_form.AnswerForm.TheVariants.{Report, Explained, Each, EachExplained}
 use Rattle.lincheck.specs.declared.status.Status.{Status}
 use Rattle.lincheck.specs.declared.status.Status.TheVariants.{Yes, No, Undecided, Refused}
 use Rattle.lincheck.specs.declared.verdict.Verdict.{Verdict}
@@ -21,7 +21,7 @@ use Rattle.lincheck.specs.declared.verdict.Verdict.TheVariants as verdicts
 use Rattle.lincheck.specs.Verdict.{AreLeast, IsFirstWithout, IsLongestRunOf, IsUndecidedAt}
 use Rattle.lincheck.specs.Explained.{WithExplanation}
 use Rattle.lincheck.specs.Stored.{IsStoredSum}
-use Rattle.lincheck.specs.Each.{AreStatusesOf, status_lines, status_of_all}
+use Rattle.lincheck.specs.Each.{AreStatusesOf, AreStatusLines, status_of_all}
 use Rattle.lincheck.specs.Report.{yes_report, undecided_report, stored_line}
 
 -- A text that means a fault prints the line of the fault.
@@ -59,19 +59,23 @@ WithStats true h judged report printed = (stored : ℕ) × IsStoredSum h judged 
 abbrev pub PrintsWith : Options → Option (List ℕ) → RecordedHistory → Status → List ℕ → Type 0
 PrintsWith options lines h status printed = (judged : ℕ) × (report : List ℕ) × IsReport lines (bounds_of options) h status judged report × WithStats options.stats h judged report printed
 
--- With a line for each object, a history prints the status of each object by itself, and has the status of all together.
-pub record PrintsEach (options : Options) (h : RecordedHistory) (status : Status) (printed : List ℕ) : Type 0 where
+-- With a line for each object, a history prints the status of each object by itself, and has the status of all together. Where the
+-- lines of the events are given, it prints a core or nothing of one behind each object that is not linearizable.
+pub record PrintsEach (options : Options) (events : Option (List ℕ)) (h : RecordedHistory) (status : Status) (printed : List ℕ) : Type 0 where
   pub statuses : List Status
   pub are : AreStatusesOf h (bounds_of options) (length h.objects) statuses
   pub together : status ≡ status_of_all statuses
-  pub print : WithStats options.stats h (length h.objects) (status_lines h 0 statuses) printed
+  pub lines : List ℕ
+  pub tell : AreStatusLines events h statuses lines
+  pub print : WithStats options.stats h (length h.objects) lines printed
 
 -- What a history that a text means prints in this form: its report; its report, with why the longest run ends and on which lines
--- of the text the calls are; or a line for each object.
+-- of the text the calls are; or a line for each object, without or with cores.
 abbrev pub PrintsHistory : Options → AnswerForm → List ℕ → RecordedHistory → Status → List ℕ → Type 0
 PrintsHistory options Report text h status printed = PrintsWith options None h status printed
 PrintsHistory options Explained text h status printed = (lines : List ℕ) × AreEventLines text h.events lines × PrintsWith options (Some lines) h status printed
-PrintsHistory options Each text h status printed = PrintsEach options h status printed
+PrintsHistory options Each text h status printed = PrintsEach options None h status printed
+PrintsHistory options EachExplained text h status printed = (lines : List ℕ) × AreEventLines text h.events lines × PrintsEach options (Some lines) h status printed
 
 -- What a text prints with these options in this form, with each status: what the history prints that it means, or the line of its
 -- fault, which no statistics follow.

@@ -114,8 +114,8 @@ fn status_text(status: Status) -> &'static str
     }
 }
 
-// Appends the line of the object of this index.
-fn write_status(
+/// Appends the line of the object of this index.
+pub(crate) fn write_status(
     out: &mut String,
     history: &History,
     object: usize,

@@ -7,6 +7,7 @@ mod check_watcher;
 mod core_lines;
 mod device;
 mod each;
+mod each_explained;
 mod explanation_lines;
 mod fault;
 mod help;

@@ -11,7 +11,8 @@ ghost use Rattle.lincheck.specs.Reading.{IsReadOf, TakesAtMost};
 
 use crate::answer_form::AnswerForm;
 use crate::device::{DeviceFault, Sink, Source};
-use crate::each::{check_each_with, report_each, status_of_all};
+use crate::each::{check_each_with, status_of_all};
+use crate::each_explained::report_each_explained;
 use crate::explanation_lines::report_explained;
 use crate::fault::RunFault;
 use crate::judgement::check_with;
@@ -143,22 +144,25 @@ fn answer_explained<R: AllocGlobal + Threads + Clock + Sync, L: Listener + Sync>
     }
 }
 
-// What a history is answered with a line for each object: the status, and what is printed.
+// What a history is answered with a line for each object: the status, and what is printed, with cores where the lines of the events
+// are given.
 fn each_printed<R: AllocGlobal + Threads + Clock + Sync, L: Listener + Sync>(
     rt: &R,
     history: &History,
     options: &Options,
+    lines: Option<&[u64]>,
     listener: &L,
 ) -> Result<(Status, Vec<u8>), AllocError>
     ensures { IfOk result (λ answer. (text : List ℕ) → MeansHistory text history.now
-        → PrintsEach options.now history.now answer.0 answer.1.items) }
+        → PrintsEach options.now (option_map (λ l. l.now) lines.entry) history.now answer.0
+        answer.1.items) }
 {
     let Ok(checked) = check_each_with(rt, history, options, &FreeGate, listener) else {
         return Err(AllocError);
     };
     let statuses = checked.statuses.as_slice();
-    let lines = report_each(rt.alloc(), history, statuses)?;
-    let printed = with_stats(rt.alloc(), lines, options.stats(), checked.stored)?;
+    let told = report_each_explained(rt.alloc(), history, statuses, lines)?;
+    let printed = with_stats(rt.alloc(), told, options.stats(), checked.stored)?;
     Ok((status_of_all(statuses), printed))
 }
 
@@ -173,7 +177,29 @@ fn answer_each<R: AllocGlobal + Threads + Clock + Sync, L: Listener + Sync>(
         answer.1.items) }
 {
     match read_history(rt.alloc(), text) {
-        Ok(history) => each_printed(rt, &history, options, listener),
+        Ok(history) => each_printed(rt, &history, options, None, listener),
+        Err(fault) => refused(rt.alloc(), &fault),
+    }
+}
+
+// The same with cores.
+fn answer_each_explained<R: AllocGlobal + Threads + Clock + Sync, L: Listener + Sync>(
+    rt: &R,
+    text: &[u8],
+    options: &Options,
+    listener: &L,
+) -> Result<(Status, Vec<u8>), AllocError>
+    ensures { IfOk result (λ answer. Prints options.now AnswerForm.EachExplained text.now answer.0
+        answer.1.items) }
+{
+    match read_history_and_lines(rt.alloc(), text) {
+        Ok((history, lines)) => each_printed(
+            rt,
+            &history,
+            options,
+            Some(lines.as_slice()),
+            listener,
+        ),
         Err(fault) => refused(rt.alloc(), &fault),
     }
 }
@@ -192,6 +218,7 @@ fn answer<R: AllocGlobal + Threads + Clock + Sync, L: Listener + Sync>(
         AnswerForm::Report => answer_by_report(rt, text, options, listener),
         AnswerForm::Explained => answer_explained(rt, text, options, listener),
         AnswerForm::Each => answer_each(rt, text, options, listener),
+        AnswerForm::EachExplained => answer_each_explained(rt, text, options, listener),
     }
 }
 
@@ -227,7 +254,8 @@ fn tell_refusal<L: Listener + Sync>(listener: &L, status: Status, text: &[u8], a
     }
 }
 
-/// Does what `run`, `run_explained` or `run_each` does, as this form says, while a listener is told how far the check has come, what
+/// Does what `run`, `run_explained` or `run_each` does, as this form says, or what `run_each` does and tells behind each object that is
+/// not linearizable a few calls that alone have no order, where such are found; while a listener is told how far the check has come, what
 /// it took, and which text was refused. What is written is the same.
 /// Conditions, faults and what is left after them are those of `run`.
 pub fn run_with<R: AllocGlobal + Threads + Clock + Sync, S: Source, W: Sink, L: Listener + Sync>(

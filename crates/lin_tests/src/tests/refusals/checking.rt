@@ -306,6 +306,7 @@ fn are_same(one: &Request, other: &Request) -> bool {
         (Request::Run(a), Request::Run(b)) => a == b,
         (Request::Explain(a), Request::Explain(b)) => a == b,
         (Request::Each(a), Request::Each(b)) => a == b,
+        (Request::ExplainEach(a), Request::ExplainEach(b)) => a == b,
         (Request::Help(a), Request::Help(b)) => a.as_str() == b.as_str(),
         (Request::Refused(a), Request::Refused(b)) => a.as_str() == b.as_str(),
         _ => false,
