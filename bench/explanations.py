@@ -141,11 +141,21 @@ def refuted(objects):
     return None
 
 
-def each(text):
-    """A line for each object, and the exit status."""
-    objects = [(name, searched(kind, calls, start)[0]) for name, kind, start, calls in read(text)]
-    lines = [f"{name}: {'linearizable' if linear else 'not linearizable'}\n" for name, linear in objects]
-    return "".join(lines), 0 if all(linear for _, linear in objects) else 1
+def each(text, answer=""):
+    """A line for each object, and the exit status; with the lines of an answer that name calls that alone have no order."""
+    told, lines, is_linear = {}, [], True
+    for line in answer.splitlines():
+        if ": " in line and not line.startswith(" "):
+            told[last := line.partition(": ")[0]] = []
+        else:
+            told[last].append(line)
+    for name, kind, start, calls in read(text):
+        linear = searched(kind, calls, start)[0]
+        core = [] if linear else told.get(name, [])
+        is_right = is_core(name, kind, start, calls, core)
+        lines += [f"{name}: {'linearizable' if linear else 'not linearizable'}", *(core if is_right else ["no core", *core])]
+        is_linear = is_linear and linear
+    return "".join(line + "\n" for line in lines), 0 if is_linear else 1
 
 
 def shown(value):
@@ -288,13 +298,14 @@ def explained(text, core=()):
     if not is_core(name, kind, start, calls, core):
         return "no core:\n" + "\n".join(core)
     out = "".join(line + "\n" for line in [f"not linearizable: {name}", *core]) + f"longest run: {len(run)} of {len(calls)} calls\n"
-    out += f".. {len(run) - MOST_LISTED} calls before\n" if len(run) > MOST_LISTED else ""
+    before = len(run) - MOST_LISTED
+    out += f".. {before} {'call' if before == 1 else 'calls'} before\n" if before > 0 else ""
     here, replies = start, {}
     for place, c in enumerate(run):
         call = calls[c]
         here, replies[c] = step(kind, here, call["process"], call["op"], call["args"])
         mark = " completed" if call["returned"] is PENDING else ""
-        if place >= len(run) - MOST_LISTED:
+        if place >= before:
             out += f"{place + 1} {call['process']} {name} {call_text(call)} = {shown(replies[c])}{mark}\n"
     left = [c for c in range(len(calls)) if c not in run]
     minimal = [c for c in left if not any(precedes(calls[a], calls[c]) for a in left)]
@@ -365,6 +376,14 @@ CASES = {
         ["", "1 enq 5", " \t", "1 = ok", '{"event":"object","object":"x","kind":"register"}', "2 deq", "", "2 = 5",
          '{"event":"call","process":9,"object":"x","op":"read"}', "3 deq", "4 enq 6", "", "3 = 5", "1 deq"],
         line_end="\r\n"),
+    "queue_item_that_a_pending_call_took": history(
+        "queue", ["1 enq 1", "1 = ok", "1 enq 2", "1 = ok", "2 deq", "3 deq", "3 = 2", "4 deq", "4 = 1"]),
+    "stack_pop_that_found_nothing": history("stack", ["1 push 1", "1 = ok", "1 push 2", "1 = ok", "2 pop", "2 = null"]),
+    "set_member_that_was_not_found": history("set", ["1 add 4", "1 = true", "2 remove 4", "2 = false", "3 add 4", "3 = true"]),
+    "map_key_that_was_not_found": history("map", ["1 put 3 5", "1 = ok", "1 put 4 6", "1 = ok", "2 get 3", "2 = null"]),
+    "map_key_that_was_not_there_to_delete": history("map", ["1 put 3 5", "1 = ok", "1 put 3 6", "1 = ok", "2 delete 3", "2 = false"]),
+    "queue_run_of_sixteen_calls": history("queue", [e for n in range(16) for e in (f"1 enq {n}", "1 = ok")] + ["2 deq", "2 = 99"]),
+    "queue_run_of_seventeen_calls": history("queue", [e for n in range(17) for e in (f"1 enq {n}", "1 = ok")] + ["2 deq", "2 = 99"]),
     "register_written_by_many": history(
         "register", [e for p in range(1, 11) for e in (f"{p} write 5", f"{p} = ok")] + ["1 write 6", "1 = ok", "2 read", "2 = 5"]),
 }
@@ -373,10 +392,13 @@ CASES = {
 def differs(program, text):
     """Whether the program tells otherwise what each object is, or explains the history otherwise, by one worker or by four; an
     explanation of one that is linearizable is passed over."""
-    ran = subprocess.run([program, "--each"], input=text.encode(), capture_output=True)
-    if (ran.stdout.decode(), ran.returncode) != each(text):
-        print(f"differs, each:\n{text}---\n{ran.stdout.decode()}---\n{each(text)[0]}", end="")
-        return True
+    for options in ([], ["--explain"]):
+        ran = subprocess.run([program, "--each", *options], input=text.encode(), capture_output=True)
+        answer = ran.stdout.decode()
+        wanted = each(text, answer if options else "")
+        if (answer, ran.returncode) != wanted:
+            print(f"differs, each:\n{text}---\n{answer}---\n{wanted[0]}", end="")
+            return True
     if refuted(read(text)) is None:
         return False
     for workers in ("1", "4"):
@@ -470,6 +492,14 @@ def write(folder, program):
             base.with_suffix(".answer").write_text(explained(text, core_lines(answer)))
             base.with_suffix(".status").write_text("1\n")
             base.with_suffix(".options").write_text(f"--workers {workers}\n--explain\n")
+    for name, text in OF_EACH.items():
+        answer = subprocess.run([program, "--each", "--explain"], input=text.encode(), capture_output=True).stdout.decode()
+        base = Path(folder) / f"each_object_explained_{name}"
+        told, status = each(text, answer)
+        base.with_suffix(".jsonl").write_text(text)
+        base.with_suffix(".answer").write_text(told)
+        base.with_suffix(".status").write_text(f"{status}\n")
+        base.with_suffix(".options").write_text("--each\n--explain\n")
     for name, text in (OF_EACH | WITHIN_3).items():
         base = Path(folder) / f"each_object_{name}"
         answer, status = within_3(text) if name in WITHIN_3 else each(text)

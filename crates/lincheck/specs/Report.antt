@@ -67,9 +67,13 @@ length_line h object run = codes "longest run: " ++ decimal (length run) ++ code
 abbrev pub no_report : RecordedHistory → ℕ → List (Placed Reply) → List ℕ
 no_report h object run = name_line h object ++ length_line h object run ++ call_lines h 1 run
 
+-- One call, and more.
+abbrev pub call_word : ℕ → List ℕ
+call_word count = if count == 1 then codes "call" else codes "calls"
+
 -- How many of so many calls come before the last ones, where there are any.
 abbrev pub before_line : ℕ → List ℕ
-before_line count = if nat_le count MAX_LISTED then [] else codes ".. " ++ decimal (count - MAX_LISTED) ++ codes " calls before\n"
+before_line count = if nat_le count MAX_LISTED then [] else codes ".. " ++ decimal (count - MAX_LISTED) ++ codes " " ++ call_word (count - MAX_LISTED) ++ codes " before\n"
 
 -- The lines of the last calls of a run, each with its place there, and above them how many come before them.
 abbrev pub last_lines : RecordedHistory → List (Placed Reply) → List ℕ

@@ -5,7 +5,7 @@ ghost use Rattle.lin_object.specs.declared.op.Op.{Op};
 ghost use Rattle.lin_object.specs.declared.reply.Reply.{Reply};
 ghost use Rattle.lin_history.specs.Recorder.Events.{Call};
 ghost use Rattle.lin_history.specs.Recorder.RecordedHistory.{calls_on};
-ghost use Rattle.lincheck.specs.Report.{mark_of, call_line, call_lines, before_line, last_lines, dropped_line, dropped_lines, is_placed, name_line, length_line, yes_report, no_report, undecided_report, stored_line, with_stats};
+ghost use Rattle.lincheck.specs.Report.{mark_of, call_line, call_lines, call_word, before_line, last_lines, dropped_line, dropped_lines, is_placed, name_line, length_line, yes_report, no_report, undecided_report, stored_line, with_stats};
 ghost use Rattle.lin_history.specs.Locality.RecordedWhole.{whole_of};
 ghost use Rattle.lin_history.specs.Verifier.Flags.{AreKnown};
 ghost use Rattle.lincheck.specs.Verdict.{IsOf, report_of};
@@ -79,6 +79,13 @@ fn write_calls(
     Ok(())
 }
 
+// The word for one call, or for more.
+fn call_word(count: usize) -> &'static str
+    ensures { result.now ≡ call_word count }
+{
+    if count == 1 { "call" } else { "calls" }
+}
+
 // Appends how many of so many calls come before the last ones, where there are any.
 fn write_before(out: &mut String, count: usize) -> Result<(), AllocError>
     ensures { OnOk result (string_bytes out.new ≡ string_bytes out.old ++ before_line count) }
@@ -87,7 +94,8 @@ fn write_before(out: &mut String, count: usize) -> Result<(), AllocError>
         return Ok(());
     }
     let before = count - MAX_LISTED;
-    write!(out, ".. {before} calls before\n")
+    let word = call_word(before);
+    write!(out, ".. {before} {word} before\n")
 }
 
 /// Appends the lines of the last calls of a run, and above them how many come before them.
