@@ -19,7 +19,7 @@ use lin_ahead::{
 };
 use lin_history::{Problem, ProblemEvent};
 use lin_object::{AnyObject, lawful};
-use lin_parts::{KeyAnswer, search_by_key};
+use lin_parts::{AtTimes, KeyAnswer, search_by_key};
 use lin_search::{Config, Outcome, OwnMemo, Stop, search};
 use std::alloc::{AllocError, Global};
 
@@ -33,43 +33,6 @@ const GROWTH: u64 = 4;
 const ROUNDS: usize = 16;
 
 const ROUNDS_FOR_A_BOUND: usize = 2;
-
-// How many lifts a search makes from one time that the stop is asked to the next.
-const LIFTS_BETWEEN: u32 = 4_096;
-
-// A stop that asks another one at the first of each 4,096 lifts.
-#[derive(Drop)]
-struct AtTimes<'a, S> {
-    stop: &'a mut S,
-    lifts: u32,
-}
-
-impl<'a, S: Stop> AtTimes<'a, S> {
-    // Of a search that begins.
-    fn new(stop: &'a mut S) -> Self {
-        AtTimes { stop, lifts: 0 }
-    }
-}
-
-impl<'a, S: Stop> Stop for AtTimes<'a, S> {
-    ghost tells = { λ s told. Unit {0} };
-
-    ghost follows = { λ old new. Unit {0} };
-
-    fn ask(&mut self) -> Option<u64> {
-        let lifts = self.lifts;
-        self.lifts = lifts.wrapping_add(1);
-        if lifts % LIFTS_BETWEEN == 0 {
-            self.stop.ask()
-        } else {
-            None
-        }
-    }
-
-    ghost unchanged = { λ s. tt };
-
-    ghost chained = { λ a b c first second. tt };
-}
 
 // What a first search shows, with what is known ahead.
 fn first_answer(
@@ -126,7 +89,7 @@ fn answer_by_key<S: Stop>(
 ) -> Result<PartAnswer, AllocError>
     ensures { IfOk result (IsAnswerTo (any_problem part.now)) }
 {
-    match search_by_key(alloc, part, Some(lifts))? {
+    match search_by_key(alloc, part, Some(lifts), stop)? {
         Some(KeyAnswer::Found(order)) => Ok(PartAnswer::Found(order)),
         Some(KeyAnswer::Refuted) => Ok(PartAnswer::Refuted),
         None => full_answer(alloc, part, lifts, stop),

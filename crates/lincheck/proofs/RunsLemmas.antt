@@ -9,8 +9,10 @@ use Rattle.lin_search.specs.Size.{EachOf, HasMoreThan}
 use Rattle.lin_unseen.specs.SameRuns.{HasRunsOf}
 use Rattle.lin_workers.specs.declared.verdict.ObjectVerdict.{ObjectVerdict}
 use Rattle.lin_workers.specs.declared.verdict.ObjectVerdict.TheVariants.{Yes, No, Undecided}
-use Rattle.lin_workers.specs.Bounds.{Bounds}
-use Rattle.lin_workers.specs.Verdict.{IsNumberStored, IsObjectVerdict}
+use Rattle.lin_workers.specs.declared.verdict.Alone.{Alone}
+use Rattle.lin_workers.specs.declared.verdict.Alone.TheVariants.{Decided, Stalled, LimitMet, TimeUp}
+use Rattle.lin_workers.specs.Bounds.{Bounds, unbounded}
+use Rattle.lin_workers.specs.Verdict.{IsNumberStored, IsObjectVerdict, IsToldAlone}
 
 module _ (P Q : List ℕ → Type 0) (there : (l : List ℕ) → P l → Q l) (back : (l : List ℕ) → Q l → P l) where
   least_same : (l : List ℕ) → IsLeast P l → IsLeast Q l
@@ -51,3 +53,10 @@ module _ {State Op Reply : Type 0} (p q : Problem State Op Reply) (same : HasRun
   -- the first problem has at least as many configurations
   pub number_back : (n : ℕ) → IsNumberStored q n → IsNumberStored p n
   number_back n k = record { few = k.few; reachable = same.reachable n k.reachable }
+
+  -- what is told of the second problem by a search alone, with bounds of the same time, is told of the first
+  pub told_back : (bounds other : Bounds) → other.seconds ≡ bounds.seconds → (told : Alone) → IsToldAlone q other told → IsToldAlone p bounds told
+  told_back bounds other e (Decided verdict stored) k = (verdict_back unbounded verdict k.0, number_back stored k.1)
+  told_back bounds other e (Stalled lifts) k = tt
+  told_back bounds other e LimitMet k = tt
+  told_back bounds other e (TimeUp stored) k = (rw e at k.0, number_back stored k.1)

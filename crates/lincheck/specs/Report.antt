@@ -66,6 +66,10 @@ length_line h object run = codes "longest run: " ++ decimal (length run) ++ code
 abbrev pub no_report : RecordedHistory → ℕ → List (Placed Reply) → List ℕ
 no_report h object run = name_line h object ++ length_line h object run ++ call_lines h 1 run
 
+-- The report of a history whose object of this index has no linearization, and whose longest run was not found in time.
+abbrev pub no_report_in_time : RecordedHistory → ℕ → List ℕ
+no_report_in_time h object = name_line h object ++ codes "longest run: not found in time\n"
+
 -- The line that says how many configurations were stored.
 abbrev pub stored_line : Option ℕ → List ℕ
 stored_line (Some stored) = codes "stored " ++ decimal stored ++ codes "\n"

@@ -55,6 +55,7 @@ fn with_lines_of(
             with_lines(alloc, history, *object, run.as_slice(), lines, report)
         }
         Verdict::Yes(_) => Ok(report),
+        Verdict::NoInTime { .. } => Ok(report),
         Verdict::Undecided { .. } => Ok(report),
     }
 }

@@ -175,6 +175,16 @@ fn write_no(
     write_calls(out, history, run)
 }
 
+// Appends the report of an object that has no linearization, whose longest run was not found in time.
+fn write_no_in_time(out: &mut String, history: &History, object: usize) -> Result<(), AllocError>
+    requires { object < length history.now.objects }
+    ensures { OnOk result (string_bytes out.new
+        ≡ string_bytes out.old ++ no_report_in_time history.now object) }
+{
+    write_name(out, history, object)?;
+    out.push_str("longest run: not found in time\n")
+}
+
 // Appends the report of an object that is not decided.
 fn write_undecided(out: &mut String, history: &History, object: usize) -> Result<(), AllocError>
     requires { object < length history.now.objects }
@@ -223,6 +233,7 @@ pub fn report(alloc: Global, history: &History, verdict: &Verdict) -> Result<Vec
     match verdict {
         Verdict::Yes(order) => write_yes(alloc, &mut out, history, order.placed())?,
         Verdict::No { object, run } => write_no(&mut out, history, *object, run.as_slice())?,
+        Verdict::NoInTime { object } => write_no_in_time(&mut out, history, *object)?,
         Verdict::Undecided { object } => write_undecided(&mut out, history, *object)?,
     }
     Ok(out.into_bytes())
