@@ -28,6 +28,10 @@ const FIRST_LIFTS: u64 = 2;
 
 const GROWTH: u64 = 4;
 
+// For so many calls what goes before a search, a few passes over the calls, counts as a lift: else thousands of parts that are refuted
+// without a search would cost nothing.
+const CALLS_FOR_A_LIFT: u64 = 4;
+
 // How often it is made at most. Where only a bound is asked for, seldom: without it more parts are searched, but each of those
 // shows more.
 const ROUNDS: usize = 16;
@@ -153,7 +157,7 @@ fn shows_none(
 
 /// Searches of parts of a problem of the seven kinds, each made anew: first searches where something is known ahead, searches by
 /// key of maps and sets, and searches that keep what they refuted for other parts. Each makes no more lifts than are left of
-/// those that were given at the start, where a search by key counts the lifts for each key alone. Where the stop answers, they
+/// those that were given at the start, where what goes before a search counts too, and a search by key counts the lifts for each key alone. Where the stop answers, they
 /// say nothing.
 #[derive(Drop)]
 pub(crate) struct AnewSearch<'a, S> {
@@ -218,7 +222,8 @@ impl<'a, S: Stop> AnewSearch<'a, S> {
     ) -> Result<PartAnswer, AllocError>
         ensures { IfOk result (IsAnswerTo (any_problem part.now)) }
     {
-        if self.stop.ask().is_some() {
+        let passes = 1 + part.len() as u64 / CALLS_FOR_A_LIFT;
+        if self.stop.ask().is_some() || self.take(passes) == 0 {
             return Ok(PartAnswer::Unknown);
         }
         let known = known_ahead(alloc, part)?;

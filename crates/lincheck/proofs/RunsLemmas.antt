@@ -1,6 +1,6 @@
 -- Problems with the same runs have the same verdicts.
 use Rattle.std.proofs.Common.{◌≡◌, ℕ, Option, Some, None, List, [], ◌∷◌, ◌⊎◌, inl, inr}
-use Rattle.std.specs.Prelude.{IsSome, IsSomeAnd}
+use Rattle.std.specs.Prelude.{IfSome, IsSome, IsSomeAnd}
 use Rattle.lin_history.specs.Problems.Lists.{IsLeast}
 use Rattle.lin_history.specs.Problems.Problem.{Problem}
 use Rattle.lin_history.specs.Problems.Linearizations.{IsRun, IsLinearization}
@@ -60,3 +60,12 @@ module _ {State Op Reply : Type 0} (p q : Problem State Op Reply) (same : HasRun
   told_back bounds other e (Stalled lifts) k = tt
   told_back bounds other e LimitMet k = tt
   told_back bounds other e (TimeUp stored) k = (rw e at k.0, number_back stored k.1)
+
+  -- where there is a verdict, and where there is a number
+  pub some_verdict_back : (bounds : Bounds) (v : Option ObjectVerdict) → IfSome v (IsObjectVerdict q bounds) → IfSome v (IsObjectVerdict p bounds)
+  some_verdict_back bounds None k = tt
+  some_verdict_back bounds (Some v) k = verdict_back bounds v k
+
+  pub some_number_back : (n : Option ℕ) → IfSome n (IsNumberStored q) → IfSome n (IsNumberStored p)
+  some_number_back None k = tt
+  some_number_back (Some n) k = number_back n k

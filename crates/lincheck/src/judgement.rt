@@ -49,6 +49,32 @@ pub(crate) fn judge_object<R: AllocGlobal + Threads + Sync, G: Gate, W: Watcher>
     Ok((answer, Some(stored)))
 }
 
+// The verdict on the history where the object of this index has no linearization, and each before has one.
+fn verdict_no(
+    alloc: Global,
+    history: &History,
+    object: usize,
+    run: Option<Order>,
+) -> Result<Verdict, AllocError>
+    requires declared { object < length history.now.objects }
+    requires right { (bounds : BoundsOf) × IsObjectAnswer (part_of history.now object)
+        Question.LongestRun bounds (ObjectAnswer.No run) }
+    ensures right { IfOk result (λ verdict. (orders : List (List ℕ)) (bounds : BoundsOf)
+        → AreLeastOf history.now object orders
+        → IsObjectAnswer (part_of history.now object) Question.LongestRun bounds
+        (ObjectAnswer.No run)
+        → IsVerdict history.now bounds verdict) }
+    ensures judged { IfOk result (λ verdict. judged_of history.now verdict ≡ object + 1) }
+{
+    match run {
+        Some(order) => {
+            let run = place(alloc, history, object, &order)?;
+            Ok(Verdict::No { object, run })
+        }
+        None => Ok(Verdict::NoInTime { object }),
+    }
+}
+
 // What the answer for the object of this index is to the check: the object's least order, with which the check goes on, or
 // the verdict on the history, where each object before has an order.
 fn order_or_end(
@@ -71,11 +97,10 @@ fn order_or_end(
 {
     match answer {
         ObjectAnswer::Yes(order) => Ok(ControlFlow::Continue(order)),
-        ObjectAnswer::No(Some(order)) => {
-            let run = place(alloc, history, object, &order)?;
-            Ok(ControlFlow::Break(Verdict::No { object, run }))
+        ObjectAnswer::No(run) => {
+            let verdict = verdict_no(alloc, history, object, run)?;
+            Ok(ControlFlow::Break(verdict))
         }
-        ObjectAnswer::No(None) => Ok(ControlFlow::Break(Verdict::NoInTime { object })),
         ObjectAnswer::Undecided => Ok(ControlFlow::Break(Verdict::Undecided { object })),
     }
 }
