@@ -81,24 +81,28 @@ placed_known h object s (c ∷ cs) [] p = absurd p
 pub verdict_of : (h : RecordedHistory) (bounds : Bounds) (v : Verdict) → IsVerdict h bounds v → IsOf h v
 verdict_of h bounds (verdicts.Yes l) v = replayed_known h (start_at h) l v.1.legal
 verdict_of h bounds (verdicts.No object run) v = (v.0.0.declared, placed_known h object (start_at h object) v.0.1.order run.items v.0.1.placed)
+verdict_of h bounds (verdicts.NoInTime object) v = v.0.0.declared
 verdict_of h bounds (verdicts.Undecided object) v = v.declared
 
 -- the report of a right verdict, with what is told after it, is the report of the history
 report_of_verdict : (lines : Option (List ℕ)) (h : RecordedHistory) (bounds : Bounds) (v : Verdict) (printed : List ℕ) → IsVerdict h bounds v → IsExplained lines h v printed → IsReport lines bounds h (status_of v) (judged_of h v) printed
 report_of_verdict lines h bounds (verdicts.Yes l) printed v e = ((v.0.0, l, v.0.1, v.0.2, v.1, e), refl)
-report_of_verdict lines h bounds (verdicts.No object run) printed v e = (object, (run.items, v.0.0, v.0.1, e), v.1, refl)
+report_of_verdict lines h bounds (verdicts.No object run) printed v e = (object, inl (run.items, v.0.0, v.0.1, e), v.1, refl)
+report_of_verdict lines h bounds (verdicts.NoInTime object) printed v e = (object, inr (v.0.0, v.0.1, e), v.1, refl)
 report_of_verdict lines h bounds (verdicts.Undecided object) printed v e = (object, (v, e), refl)
 
 -- where no lines are given, it is the report
 pub explained_not : (h : RecordedHistory) (v : Verdict) (printed : List ℕ) → printed ≡ report_of h v → IsExplained None h v printed
 explained_not h (verdicts.Yes l) printed e = e
 explained_not h (verdicts.No object run) printed e = e
+explained_not h (verdicts.NoInTime object) printed e = e
 explained_not h (verdicts.Undecided object) printed e = e
 
 -- no more objects are judged than there are
 pub judged_few : (h : RecordedHistory) (bounds : Bounds) (v : Verdict) (most : ℕ) → IsVerdict h bounds v → length h.objects ≤ most → judged_of h v ≤ most
 judged_few h bounds (verdicts.Yes l) most v few = few
 judged_few h bounds (verdicts.No object run) most v few = let d = v.0.0.declared in omega (arith, d, few)
+judged_few h bounds (verdicts.NoInTime object) most v few = let d = v.0.0.declared in omega (arith, d, few)
 judged_few h bounds (verdicts.Undecided object) most v few = let d = v.declared in omega (arith, d, few)
 
 -- the statistics, where the number is told

@@ -15,8 +15,8 @@ use Rattle.lin_explain.specs.declared.core_text.CoreCall.{CoreCall}
 use Rattle.lin_explain.specs.CoreText.{core_text}
 use Rattle.lin_explain.specs.RunExplained.{IsExplainedBy}
 use Rattle.lincheck.specs.declared.verdict.Verdict.{Verdict}
-use Rattle.lincheck.specs.declared.verdict.Verdict.TheVariants.{Yes, No, Undecided}
-use Rattle.lincheck.specs.Report.{name_of, name_line, length_line, last_lines, yes_report, no_report, undecided_report}
+use Rattle.lincheck.specs.declared.verdict.Verdict.TheVariants.{Yes, No, NoInTime, Undecided}
+use Rattle.lincheck.specs.Report.{name_of, name_line, length_line, last_lines, not_found_line, yes_report, no_report, no_report_in_time, undecided_report}
 
 -- The call of this number as it stood after the event: pending, if it returned later.
 abbrev pub told_in : Problem ObjState Op Reply → ℕ → ℕ → CoreCall
@@ -50,8 +50,14 @@ WithExplanation None h object run printed = printed ≡ no_report h object run
 WithExplanation (Some lines) h object run printed =
     (told : List CoreCall) × TellsCore h object told × (why : List ℕ) × IsExplainedBy h object run lines why × (printed ≡ head_text h object lines told ++ end_text h object run why)
 
+-- The same where that run was not found in time.
+abbrev pub WithCore : Option (List ℕ) → RecordedHistory → ℕ → List ℕ → Type 0
+WithCore None h object printed = printed ≡ no_report_in_time h object
+WithCore (Some lines) h object printed = (told : List CoreCall) × TellsCore h object told × (printed ≡ head_text h object lines told ++ not_found_line)
+
 -- What is printed of a verdict: of one that is no, with what explains it; else the report alone.
 abbrev pub IsExplained : Option (List ℕ) → RecordedHistory → Verdict → List ℕ → Type 0
 IsExplained lines h (Yes l) printed = printed ≡ yes_report h l
 IsExplained lines h (No object run) printed = WithExplanation lines h object run.items printed
+IsExplained lines h (NoInTime object) printed = WithCore lines h object printed
 IsExplained lines h (Undecided object) printed = printed ≡ undecided_report h object

@@ -1,5 +1,5 @@
 -- What a text prints.
-use Rattle.std.specs.Prelude.{◌≡◌, ℕ, ◌+◌, Bool, true, false, Option, Some, None, List, ◌++◌, length}
+use Rattle.std.specs.Prelude.{◌≡◌, ◌⊎◌, ℕ, ◌+◌, Bool, true, false, Option, Some, None, IsSome, List, ◌++◌, length}
 use Rattle.lin_object.specs.declared.reply.Reply.{Reply}
 use Rattle.lin_history.specs.declared.locality.placed.Placed.{Placed}
 use Rattle.lin_history.specs.Recorder.RecordedHistory.{RecordedHistory}
@@ -19,7 +19,7 @@ use Rattle.lincheck.specs.declared.status.Status.TheVariants.{Yes, No, Undecided
 use Rattle.lincheck.specs.declared.verdict.Verdict.{Verdict}
 use Rattle.lincheck.specs.declared.verdict.Verdict.TheVariants as verdicts
 use Rattle.lincheck.specs.Verdict.{AreLeast, IsFirstWithout, IsLongestRunOf, IsUndecidedAt}
-use Rattle.lincheck.specs.Explained.{WithExplanation}
+use Rattle.lincheck.specs.Explained.{WithExplanation, WithCore}
 use Rattle.lincheck.specs.Stored.{IsStoredSum}
 use Rattle.lincheck.specs.Each.{AreStatusesOf, AreStatusLines, status_of_all}
 use Rattle.lincheck.specs.Report.{yes_report, undecided_report, stored_line}
@@ -38,6 +38,10 @@ PrintsYes h printed = (orders : List (List ℕ)) × (l : List (Placed Reply)) ×
 abbrev pub PrintsNo : Option (List ℕ) → RecordedHistory → ℕ → List ℕ → Type 0
 PrintsNo lines h object printed = (run : List (Placed Reply)) × IsFirstWithout h object × IsLongestRunOf h object run × WithExplanation lines h object run printed
 
+-- Where the time is bounded it may print that object without the run.
+abbrev pub PrintsNoInTime : Option (List ℕ) → RecordedHistory → Bounds → ℕ → List ℕ → Type 0
+PrintsNoInTime lines h bounds object printed = IsFirstWithout h object × IsSome bounds.seconds × WithCore lines h object printed
+
 -- Within bounds it may print an object that is not decided.
 abbrev pub PrintsUndecided : RecordedHistory → Bounds → ℕ → List ℕ → Type 0
 PrintsUndecided h bounds object printed = IsUndecidedAt h bounds object × (printed ≡ undecided_report h object)
@@ -45,7 +49,7 @@ PrintsUndecided h bounds object printed = IsUndecidedAt h bounds object × (prin
 -- The report of a history within the bounds, with each status, where so many objects were judged: all, or those up to the one that is told.
 abbrev pub IsReport : Option (List ℕ) → Bounds → RecordedHistory → Status → ℕ → List ℕ → Type 0
 IsReport lines bounds h Yes judged printed = PrintsYes h printed × (judged ≡ length h.objects)
-IsReport lines bounds h No judged printed = (object : ℕ) × PrintsNo lines h object printed × ((l : List (Placed Reply)) → IsLinearizationOfWhole (whole_of h) l → ⊥) × (judged ≡ object + 1)
+IsReport lines bounds h No judged printed = (object : ℕ) × (PrintsNo lines h object printed ⊎ PrintsNoInTime lines h bounds object printed) × ((l : List (Placed Reply)) → IsLinearizationOfWhole (whole_of h) l → ⊥) × (judged ≡ object + 1)
 IsReport lines bounds h Undecided judged printed = (object : ℕ) × PrintsUndecided h bounds object printed × (judged ≡ object + 1)
 IsReport lines bounds h Refused judged printed = ⊥
 
@@ -89,4 +93,5 @@ Prints options form text Refused printed = PrintsRefused text printed
 abbrev pub status_of : Verdict → Status
 status_of (verdicts.Yes l) = Yes
 status_of (verdicts.No object run) = No
+status_of (verdicts.NoInTime object) = No
 status_of (verdicts.Undecided object) = Undecided

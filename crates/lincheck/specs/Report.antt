@@ -79,6 +79,14 @@ before_line count = if nat_le count MAX_LISTED then [] else codes ".. " ++ decim
 abbrev pub last_lines : RecordedHistory → List (Placed Reply) → List ℕ
 last_lines h run = before_line (length run) ++ call_lines h ((length run - MAX_LISTED) + 1) (drop (length run - MAX_LISTED) run)
 
+-- The line that says that the longest run was not found in time.
+abbrev pub not_found_line : List ℕ
+not_found_line = codes "longest run: not found in time\n"
+
+-- The report of a history whose object of this index has no linearization, and whose longest run was not found in time.
+abbrev pub no_report_in_time : RecordedHistory → ℕ → List ℕ
+no_report_in_time h object = name_line h object ++ not_found_line
+
 -- The line that says how many configurations were stored.
 abbrev pub stored_line : Option ℕ → List ℕ
 stored_line (Some stored) = codes "stored " ++ decimal stored ++ codes "\n"

@@ -8,11 +8,11 @@ ghost use Rattle.lin_history.specs.Locality.RecordedWhole.{whole_of, start_at, p
 ghost use Rattle.lin_history.specs.Verifier.Flags.{AreKnown};
 ghost use Rattle.lin_explain.specs.RunExplained.{IsExplainedBy};
 ghost use Rattle.lin_workers.specs.Bounds.{Bounds};
-ghost use Rattle.lincheck.specs.Explained.{head_text, end_text, IsExplained, WithExplanation};
+ghost use Rattle.lincheck.specs.Explained.{head_text, end_text, IsExplained, WithCore, WithExplanation};
 ghost use Rattle.lincheck.specs.Verdict.{IsVerdict};
 
 use crate::core_lines::core_calls;
-use crate::lines::{report, write_last_calls, write_length, write_name};
+use crate::lines::{report, write_last_calls, write_length, write_name, write_not_found};
 use crate::verdict::Verdict;
 use lin_explain::{CoreCall, write_core, write_run_explained};
 use lin_history::{History, Placed, ProblemCall};
@@ -92,6 +92,31 @@ fn no_explained(
     Ok(out.into_bytes())
 }
 
+// What is printed of an object without a linearization whose longest run was not found in time.
+fn no_in_time_explained(
+    alloc: Global,
+    history: &History,
+    object: usize,
+    lines: &[u64],
+) -> Result<Vec<u8>, AllocError>
+    requires { object < length history.now.objects }
+    ensures { IfOk result (λ printed. WithCore (Some lines.now) history.now object printed.items) }
+{
+    let problem = history.problem(alloc, object)?;
+    let core = core_calls(alloc, history, object, &problem)?;
+    let mut out = String::new(alloc);
+    write_head(
+        &mut out,
+        history,
+        object,
+        problem.calls(),
+        lines,
+        core.as_slice(),
+    )?;
+    write_not_found(&mut out)?;
+    Ok(out.into_bytes())
+}
+
 // What is printed of the verdict, with what explains it where it is no. Condition: the verdict is right.
 fn report_with_lines(
     alloc: Global,
@@ -105,6 +130,7 @@ fn report_with_lines(
 {
     match verdict {
         Verdict::No { object, run } => no_explained(alloc, history, *object, run.as_slice(), lines),
+        Verdict::NoInTime { object } => no_in_time_explained(alloc, history, *object, lines),
         Verdict::Yes(_) => report(alloc, history, verdict),
         Verdict::Undecided { .. } => report(alloc, history, verdict),
     }

@@ -2,7 +2,6 @@
 #![tactic(auto)]
 
 mod answer_form;
-mod by_prefixes;
 mod check_watcher;
 mod core_lines;
 mod device;
@@ -14,13 +13,13 @@ mod help;
 mod judgement;
 mod lines;
 mod listener;
-mod object_search;
+mod object_answer;
+mod object_check;
 mod pipeline;
 mod request;
 mod setting;
 mod status;
 mod verdict;
-mod verdict_ahead;
 
 pub use answer_form::AnswerForm;
 pub use device::{DeviceFault, Sink, Source, StdSink, StdSource};

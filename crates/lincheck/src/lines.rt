@@ -5,7 +5,7 @@ ghost use Rattle.lin_object.specs.declared.op.Op.{Op};
 ghost use Rattle.lin_object.specs.declared.reply.Reply.{Reply};
 ghost use Rattle.lin_history.specs.Recorder.Events.{Call};
 ghost use Rattle.lin_history.specs.Recorder.RecordedHistory.{calls_on};
-ghost use Rattle.lincheck.specs.Report.{mark_of, call_line, call_lines, call_word, before_line, last_lines, dropped_line, dropped_lines, is_placed, name_line, length_line, yes_report, no_report, undecided_report, stored_line, with_stats};
+ghost use Rattle.lincheck.specs.Report.{mark_of, call_line, call_lines, call_word, before_line, last_lines, dropped_line, dropped_lines, is_placed, name_line, length_line, yes_report, not_found_line, no_report, no_report_in_time, undecided_report, stored_line, with_stats};
 ghost use Rattle.lin_history.specs.Locality.RecordedWhole.{whole_of};
 ghost use Rattle.lin_history.specs.Verifier.Flags.{AreKnown};
 ghost use Rattle.lincheck.specs.Verdict.{IsOf, report_of};
@@ -221,6 +221,23 @@ fn write_no(
     write_calls(out, history, run, 0)
 }
 
+/// Appends the line that says that the longest run was not found in time.
+pub(crate) fn write_not_found(out: &mut String) -> Result<(), AllocError>
+    ensures { OnOk result (string_bytes out.new ≡ string_bytes out.old ++ not_found_line) }
+{
+    out.push_str("longest run: not found in time\n")
+}
+
+// Appends the report of an object that has no linearization, whose longest run was not found in time.
+fn write_no_in_time(out: &mut String, history: &History, object: usize) -> Result<(), AllocError>
+    requires { object < length history.now.objects }
+    ensures { OnOk result (string_bytes out.new
+        ≡ string_bytes out.old ++ no_report_in_time history.now object) }
+{
+    write_name(out, history, object)?;
+    write_not_found(out)
+}
+
 // Appends the report of an object that is not decided.
 fn write_undecided(out: &mut String, history: &History, object: usize) -> Result<(), AllocError>
     requires { object < length history.now.objects }
@@ -269,6 +286,7 @@ pub fn report(alloc: Global, history: &History, verdict: &Verdict) -> Result<Vec
     match verdict {
         Verdict::Yes(order) => write_yes(alloc, &mut out, history, order.placed())?,
         Verdict::No { object, run } => write_no(&mut out, history, *object, run.as_slice())?,
+        Verdict::NoInTime { object } => write_no_in_time(&mut out, history, *object)?,
         Verdict::Undecided { object } => write_undecided(&mut out, history, *object)?,
     }
     Ok(out.into_bytes())

@@ -82,6 +82,7 @@ fn status_of(verdict: &Verdict) -> Status
     match verdict {
         Verdict::Yes(_) => Status::Yes,
         Verdict::No { .. } => Status::No,
+        Verdict::NoInTime { .. } => Status::No,
         Verdict::Undecided { .. } => Status::Undecided,
     }
 }

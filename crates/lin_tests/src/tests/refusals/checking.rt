@@ -62,6 +62,7 @@ fn is_verdict(verdict: &Verdict, row: Row) -> bool {
     match verdict {
         Verdict::Yes(order) => row.1 && are_calls(order.placed(), row.2),
         Verdict::No { object, run } => !row.1 && *object == 0 && are_calls(run.as_slice(), row.2),
+        Verdict::NoInTime { .. } => false,
         Verdict::Undecided { .. } => false,
     }
 }

@@ -1,7 +1,7 @@
 use Rattle.lin_search.specs.SameLemmas.{alike_itself}
 use Rattle.lin_workers.proofs.WidthLemmas.{cut_widest}
 use Rattle.lin_workers.proofs.TaskLemmas.{decided}
-use Rattle.lin_workers.proofs.tasks.cutting.cut.Goals as goal
+use Rattle.lin_workers.proofs.tasks.cutting.cut_in_time.Goals as goal
 
 pub returns-clause-cut : goal.returns-clause-cut
 returns-clause-cut g c =
