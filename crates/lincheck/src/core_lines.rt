@@ -38,17 +38,18 @@ fn told(problem: &Problem<AnyObject>, core: &Core, number: usize) -> CoreCall
     }
 }
 
-// The calls of the core.
-fn calls_of(
+// The calls of these numbers, as the core takes them.
+fn told_of(
     alloc: Global,
     problem: &Problem<AnyObject>,
     core: &Core,
+    numbers: &[usize],
 ) -> Result<Vec<CoreCall>, AllocError>
     ensures { IfOk result (λ calls. calls.items
-        ≡ map (told_in (any_problem problem.now) core.now.event) core.now.calls.items) }
+        ≡ map (told_in (any_problem problem.now) core.now.event) numbers.now) }
 {
     let mut calls = Vec::new(alloc);
-    for number in core.calls.as_slice() {
+    for number in numbers {
         calls.push(told(problem, core, *number))?;
     }
     Ok(calls)
@@ -68,7 +69,7 @@ pub(crate) fn core_calls(
     ensures { IfOk result (λ calls. TellsCore history.now object calls.items) }
 {
     match core_of(alloc, problem, work_for(problem.len()))? {
-        Some(core) => calls_of(alloc, problem, &core),
+        Some(core) => told_of(alloc, problem, &core, core.calls.as_slice()),
         None => Ok(Vec::new(alloc)),
     }
 }
