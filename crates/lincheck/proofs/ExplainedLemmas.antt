@@ -68,10 +68,10 @@ explained_no lines h v object run slice printed is same explained =
     subst (λ (w : Verdict). IsExplained (Some lines) h w printed) (sym is) (subst (λ (l : List (Placed Reply)). WithExplanation (Some lines) h object l printed) same explained)
 
 -- the line of an object's status, and the calls of a core behind it
-pub told_behind : (h : RecordedHistory) (object : ℕ) (lines name : List ℕ) (calls : List (ProblemCall Op Reply)) (status : Status) (told : List CoreCall) (old first new : List ℕ) → name ≡ name_of h object → calls ≡ part_calls h object
-    → old ≡ [] → first ≡ old ++ name_of h object ++ codes ": " ++ status_text status ++ codes "\n" → new ≡ first ++ core_text name calls lines told → new ≡ told_text h lines object status told
-told_behind h object lines name calls status told old first new named are none is_first is_new =
-    is_new ∙ ap (λ (l : List ℕ). l ++ core_text name calls lines told) (is_first ∙ ap (λ (l : List ℕ). l ++ name_of h object ++ codes ": " ++ status_text status ++ codes "\n") none)
+pub told_behind : (h : RecordedHistory) (object : ℕ) (lines name : List ℕ) (calls : List (ProblemCall Op Reply)) (status : Status) (slice told : List CoreCall) (old first new : List ℕ) → name ≡ name_of h object → calls ≡ part_calls h object
+    → slice ≡ told → old ≡ [] → first ≡ old ++ name_of h object ++ codes ": " ++ status_text status ++ codes "\n" → new ≡ first ++ core_text name calls lines slice → new ≡ told_text h lines object status told
+told_behind h object lines name calls status slice told old first new named are same none is_first is_new =
+    is_new ∙ ap (λ (l : List CoreCall). first ++ core_text name calls lines l) same ∙ ap (λ (l : List ℕ). l ++ core_text name calls lines told) (is_first ∙ ap (λ (l : List ℕ). l ++ name_of h object ++ codes ": " ++ status_text status ++ codes "\n") none)
     ∙ ap (λ (l : List ℕ). (name_of h object ++ codes ": " ++ status_text status ++ codes "\n") ++ l) (texts_same h object lines name calls told named are)
 
 -- a core of the problem is one of the part of the history
