@@ -66,9 +66,14 @@ def is_idle(kind, call):
     return returned is not PENDING and (returned[1] == "empty" or returned[1] is False)
 
 
-def place(kind, call):
-    """The value that a call is on; `any` where it is on each, and None where it is on none."""
+def place(kind, call, at):
+    """The value that a call is on; `any` where it is on each, and None where it is on none. Of a map's key, where one is given
+    with whether it is looked at that it has no value."""
     op, args, returned = call["op"], call["args"], call["returned"]
+    if at is not None:
+        if op == "get" and args[0] == at[0] and returned is not PENDING:
+            return returned[1] if returned[1] != "empty" else "any" if at[1] else None
+        return args[1] if op == "put" and args[0] == at[0] else None
     reply = "any" if returned is PENDING or returned[1] == "empty" else returned[1]
     if op in ("read", "deq", "pop"):
         return reply
@@ -87,28 +92,30 @@ def cut(call, event):
     return call | {"returned": returned if returned is not PENDING and returned[0] <= event else PENDING}
 
 
-def is_on(kind, call, values):
-    at = place(kind, call)
-    if at is None or at != "any" and at not in values:
+def is_on(kind, call, values, at):
+    where = place(kind, call, at)
+    if where is None or where != "any" and where not in values:
         return False
     return call["op"] != "cas" or call["args"][0] == call["args"][1] or call["args"][0] in values
 
 
-def may_go(kind, call, values):
+def may_go(kind, call, values, at):
     """Whether the call may be left out, by what it is on."""
-    at = place(kind, call)
-    return is_idle(kind, call) or at not in ("any", None) and at not in values
+    where = place(kind, call, at)
+    if at is not None and where is None:
+        return is_idle(kind, call) or call["op"] == "delete" and (call["args"][0] != at[0] or not at[1]) or call["op"] == "put"
+    return is_idle(kind, call) or where not in ("any", None) and where not in values
 
 
-def smaller(kind, calls, kept, event, values):
+def smaller(kind, calls, kept, event, values, at):
     """The selections next smaller than this one: calls and an event."""
     returns = sorted(c["returned"][0] for c in (calls[k] for k in kept) if c["returned"] is not PENDING)
     for earlier in [r for r in returns if r < event][-1:]:
         yield [k for k in kept if calls[k]["called"] <= earlier], earlier
     for value in values if len(values) > 1 else []:
         fewer = values - {value}
-        on = [k for k in kept if is_on(kind, calls[k], fewer)]
-        if all(may_go(kind, calls[k], fewer) for k in kept if k not in on):
+        on = [k for k in kept if is_on(kind, calls[k], fewer, at)]
+        if all(may_go(kind, calls[k], fewer, at) for k in kept if k not in on):
             yield on, event
     for k in kept:
         if is_idle(kind, calls[k]):
@@ -117,7 +124,7 @@ def smaller(kind, calls, kept, event, values):
 
 def check(kind, start, calls, core):
     """What is wrong with a core, if anything is."""
-    event, kept, values = core["event"], [k for k, _ in core["calls"]], set(core["values"])
+    event, kept, values, at = core["event"], [k for k, _ in core["calls"]], set(core["values"]), core["key"]
     part = [cut(calls[k], event) for k in kept]
     if [c["returned"] is PENDING for c in part] != [pending for _, pending in core["calls"]]:
         return "another call is taken as pending"
@@ -128,9 +135,9 @@ def check(kind, start, calls, core):
     if has_order(kind, start, part):
         return "its calls have an order"
     others = [c for k, c in enumerate(calls) if k not in kept and c["called"] <= event]
-    if kind != "mutex" and not all(may_go(kind, c, values) for c in others):
+    if kind != "mutex" and not all(may_go(kind, c, values, at) for c in others):
         return "a call that it needs is left out"
-    for less, earlier in smaller(kind, calls, kept, event, values):
+    for less, earlier in smaller(kind, calls, kept, event, values, at):
         if not has_order(kind, start, [cut(calls[k], earlier) for k in less]):
             return f"{len(less)} calls are enough"
     return None
@@ -144,7 +151,9 @@ def answers(program, files):
         if what == "none":
             found.append(None)
         elif what == "core":
-            found.append({"event": int(words[0]), "calls": [], "values": []})
+            found.append({"event": int(words[0]), "key": None, "calls": [], "values": []})
+        elif what == "key":
+            found[-1]["key"] = int(words[0]), words[1] == "true"
         elif what == "call":
             found[-1]["calls"].append((int(words[0]), words[1] == "true"))
         elif what == "value":

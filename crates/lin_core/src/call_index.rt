@@ -1,7 +1,7 @@
 //! The calls of a problem by value, so that those on a few values are found without passing over all.
 
 use crate::call_places::{Place, is_idle, place_of, source_of};
-use crate::selection::Selection;
+use crate::selection::{MapKey, Selection};
 use lin_history::{Problem, ProblemCall};
 use lin_object::{AnyObject, Op, Reply};
 use std::alloc::{AllocError, Global};
@@ -52,6 +52,8 @@ impl ValueCalls {
 /// The calls of a problem by the values that they are on.
 #[derive(Debug, Drop)]
 pub(crate) struct CallIndex {
+    /// The key whose values these are, where those of one key are looked at.
+    pub(crate) key: Option<MapKey>,
     /// The values, in increasing order, each with its calls.
     pub(crate) values: Vec<ValueCalls>,
     /// The calls that are on each value, in increasing order.
@@ -63,6 +65,7 @@ fn add_call(
     rows: &mut Vec<Row>,
     anywhere: &mut Vec<usize>,
     index: usize,
+    place: Place,
     call: &ProblemCall<Op, Reply>,
 ) -> Result<(), AllocError> {
     if let Some(value) = source_of(call) {
@@ -72,7 +75,7 @@ fn add_call(
             expects: true,
         })?;
     }
-    match place_of(call) {
+    match place {
         Place::At(value) => rows.push(Row {
             value,
             call: index,
@@ -100,19 +103,32 @@ fn add_row(alloc: Global, values: &mut Vec<ValueCalls>, row: &Row) -> Result<(),
 }
 
 impl CallIndex {
-    /// The calls of the problem. It takes O(n log n) for n calls. `AllocError` where memory was refused.
-    pub(crate) fn new(alloc: Global, problem: &Problem<AnyObject>) -> Result<Self, AllocError> {
-        let mut rows = Vec::with_capacity(alloc, problem.len())?;
+    /// These calls of the problem, where some of all values are looked at, or of those of a key. It takes O(n log n) for n calls.
+    /// `AllocError` where memory was refused.
+    pub(crate) fn new(
+        alloc: Global,
+        problem: &Problem<AnyObject>,
+        calls: &[usize],
+        key: Option<MapKey>,
+    ) -> Result<Self, AllocError> {
+        let mut rows = Vec::with_capacity(alloc, calls.len())?;
         let mut anywhere = Vec::new(alloc);
-        for index in 0..problem.len() {
-            add_call(&mut rows, &mut anywhere, index, problem.call(index))?;
+        for index in calls {
+            if let Some(call) = problem.calls().get(*index) {
+                let place = place_of(&key, call);
+                add_call(&mut rows, &mut anywhere, *index, place, call)?;
+            }
         }
         rows.sort_by_key(|row| row.value)?;
         let mut values = Vec::new(alloc);
         for row in &rows {
             add_row(alloc, &mut values, row)?;
         }
-        Ok(CallIndex { values, anywhere })
+        Ok(CallIndex {
+            key,
+            values,
+            anywhere,
+        })
     }
 
     /// The calls on the value, if there are any.
@@ -195,5 +211,5 @@ pub(crate) fn selection_of(
         }
     }
     calls.sort_unstable();
-    Ok(Selection::new(alloc, event, values, calls))
+    Ok(Selection::new(alloc, event, index.key, values, calls))
 }

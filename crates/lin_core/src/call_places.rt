@@ -1,5 +1,6 @@
 //! On which values a call is, and which calls the finding of cores may leave out.
 
+use crate::selection::MapKey;
 use lin_history::ProblemCall;
 use lin_object::{AnyObject, Op, Reply, SeqObject};
 
@@ -28,8 +29,28 @@ pub(crate) fn may_be_yes(returned: &Option<(u32, Reply)>) -> bool {
     matches!(returned, Some((_, Reply::Flag(true))) | None)
 }
 
-/// On which values the call is.
-pub(crate) fn place_of(call: &ProblemCall<Op, Reply>) -> Place {
+// Where a call on a map is, of which some values of a key are looked at.
+fn place_at_key(key: &MapKey, call: &ProblemCall<Op, Reply>) -> Place {
+    match (&call.op, &call.returned) {
+        (Op::Put(at, value), _) if *at == key.key => Place::At(*value),
+        (Op::Lookup(at), Some((_, Reply::Int(value)))) if *at == key.key => Place::At(*value),
+        (Op::Lookup(at), Some((_, Reply::Empty))) if *at == key.key && key.nothing => {
+            Place::Anywhere
+        }
+        _ => Place::Nowhere,
+    }
+}
+
+/// On which values the call is, where some of all values are looked at, or of those of a key.
+pub(crate) fn place_of(key: &Option<MapKey>, call: &ProblemCall<Op, Reply>) -> Place {
+    match key {
+        Some(key) => place_at_key(key, call),
+        None => place_of_all(call),
+    }
+}
+
+// On which of all values the call is.
+fn place_of_all(call: &ProblemCall<Op, Reply>) -> Place {
     match &call.op {
         Op::Write(value)
         | Op::Enqueue(value)

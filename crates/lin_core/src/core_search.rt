@@ -2,15 +2,16 @@
 
 ghost use Rattle.std.specs.Prelude.{◌≡◌, IfOk, IfSome};
 ghost use Rattle.lin_ahead.specs.AnyProblem.{any_problem};
-ghost use Rattle.lin_core.specs.Cores.{IsCore, HasNone};
+ghost use Rattle.lin_core.specs.Cores.{IsCoreOf, HasNone};
 
 use crate::call_index::{CallIndex, selection_of, with_sources};
 use crate::item_faults::{item_faults, list_of};
 use crate::judge::{Judge, lifts_for};
+use crate::key_faults::forgotten;
 use crate::lock_faults::two_holders;
 use crate::part_search::PartAnswer;
 use crate::refuted_part::{Core, core_of_calls};
-use crate::selection::Selection;
+use crate::selection::{MapKey, Selection};
 use crate::smaller::{make_smaller, rounds_but_for, without_rounds};
 use crate::value_faults::value_faults;
 use lin_history::Problem;
@@ -25,6 +26,28 @@ const MOST_KEYS: usize = 8;
 
 // How many lists of values are tried where no fault is known: as many as 2^15 values have, and all their halves.
 const MOST_FAMILIES: usize = 65_536;
+
+// Selections of the calls on a map's key that may have no linearization.
+fn faults_of_key(
+    alloc: Global,
+    problem: &Problem<AnyObject>,
+    calls: &[usize],
+    key: i64,
+) -> Result<Vec<Selection>, AllocError> {
+    let at = MapKey {
+        key,
+        nothing: false,
+    };
+    let index = CallIndex::new(alloc, problem, calls, Some(at))?;
+    let mut found = Vec::new(alloc);
+    for values in value_faults(alloc, problem, &index, None)? {
+        found.push(selection_of(alloc, problem, &index, values, THE_END)?)?;
+    }
+    if let Some(selection) = forgotten(alloc, problem, calls, key)? {
+        found.push(selection)?;
+    }
+    Ok(found)
+}
 
 // What a core is looked for with.
 #[derive(Drop)]
@@ -119,10 +142,35 @@ impl<'a> Finder<'a> {
             }
             if let Some(selection) = self.refuted_on(alloc, &[*key])? {
                 tried += 1;
+                let selection = match self.refuted_within_key(alloc, *key)? {
+                    Some(less) => less,
+                    None => selection,
+                };
                 best = Some(self.smaller_one(alloc, best, selection)?);
             }
         }
         Ok(best)
+    }
+
+    // Calls on some values of a map's key that are refuted, by a fault as practice has it.
+    fn refuted_within_key(
+        &mut self,
+        alloc: Global,
+        key: i64,
+    ) -> Result<Option<Selection>, AllocError> {
+        let ObjState::Map(_) = self.problem.start() else {
+            return Ok(None);
+        };
+        let Some(on_key) = self.index.at(key) else {
+            return Ok(None);
+        };
+        let calls = on_key.calls.as_slice();
+        for selection in faults_of_key(alloc, self.problem, calls, key)? {
+            if self.judge.refutes_selection(alloc, &selection)? {
+                return Ok(Some(selection));
+            }
+        }
+        Ok(None)
     }
 
     // The one of both with fewer calls, the second made as small as can be first.
@@ -167,7 +215,9 @@ impl<'a> Finder<'a> {
         let lists = match self.problem.start() {
             ObjState::Queue(_) => item_faults(alloc, self.problem, &self.index, true)?,
             ObjState::Stack(_) => item_faults(alloc, self.problem, &self.index, false)?,
-            ObjState::Register(start) => value_faults(alloc, self.problem, &self.index, *start)?,
+            ObjState::Register(start) => {
+                value_faults(alloc, self.problem, &self.index, Some(*start))?
+            },
             ObjState::Mutex(_) => return self.refuted_holders(alloc),
             _ => return Ok(None),
         };
@@ -202,7 +252,8 @@ fn selection_found(
     problem: &Problem<AnyObject>,
     work: u64,
 ) -> Result<Option<Selection>, AllocError> {
-    let index = CallIndex::new(alloc, problem)?;
+    let calls: Vec<usize> = (0..problem.len()).collect(alloc)?;
+    let index = CallIndex::new(alloc, problem, calls.as_slice(), None)?;
     let judge = Judge::new(problem, work);
     let mut finder = Finder {
         problem,
@@ -223,7 +274,7 @@ pub fn core_of(
     work: u64,
 ) -> Result<Option<Core>, AllocError>
     ensures core { IfOk result (λ answer. IfSome answer (λ core.
-        IsCore (any_problem problem.now) core.event core.values.items core.calls.items core.firsts.items)) }
+        IsCoreOf (any_problem problem.now) core.event core.key core.values.items core.calls.items core.firsts.items)) }
     ensures none { IfOk result (λ answer. IfSome answer (λ core. HasNone (any_problem problem.now))) }
 {
     match selection_found(alloc, problem, work)? {

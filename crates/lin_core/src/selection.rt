@@ -2,12 +2,23 @@
 
 use std::alloc::{AllocError, Global};
 
+/// A key of a map, of which only some values are looked at.
+#[derive(Clone, Copy, PartialEq, Eq, Debug)]
+pub struct MapKey {
+    /// The key.
+    pub key: i64,
+    /// Whether it is looked at too that the key has no value.
+    pub nothing: bool,
+}
+
 /// Some calls of a problem, as they stood after one of its events, and on which values they are. That the other calls may be
 /// left out has to be shown: those that are neither on the values nor change anything, and rounds of a mutex.
 #[derive(Debug, Drop)]
 pub struct Selection {
     /// The number of the event.
     pub event: u32,
+    /// The key whose values these are, of a map of which one key alone is looked at.
+    pub key: Option<MapKey>,
     /// The values: items of a queue, a stack or a set, values of a register, keys of a map, processes of a mutex.
     pub values: Vec<i64>,
     /// The numbers of the calls, in increasing order.
@@ -20,9 +31,16 @@ pub struct Selection {
 
 impl Selection {
     /// The selection that leaves no round out.
-    pub fn new(alloc: Global, event: u32, values: Vec<i64>, calls: Vec<usize>) -> Self {
+    pub fn new(
+        alloc: Global,
+        event: u32,
+        key: Option<MapKey>,
+        values: Vec<i64>,
+        calls: Vec<usize>,
+    ) -> Self {
         Selection {
             event,
+            key,
             values,
             calls,
             firsts: Vec::new(alloc),
@@ -34,6 +52,7 @@ impl Selection {
     pub(crate) fn copied(&self, alloc: Global) -> Result<Self, AllocError> {
         Ok(Selection {
             event: self.event,
+            key: self.key,
             values: Vec::from_slice(alloc, self.values.as_slice())?,
             calls: Vec::from_slice(alloc, self.calls.as_slice())?,
             firsts: Vec::from_slice(alloc, self.firsts.as_slice())?,

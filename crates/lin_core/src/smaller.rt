@@ -5,7 +5,7 @@ use crate::call_index::CallIndex;
 use crate::call_places::{Place, is_idle, place_of, source_of};
 use crate::judge::Judge;
 use crate::rounds::round_from;
-use crate::selection::Selection;
+use crate::selection::{MapKey, Selection};
 use lin_history::{Problem, ProblemCall};
 use lin_object::{AnyObject, Op, Reply};
 use std::alloc::{AllocError, Global};
@@ -41,8 +41,8 @@ fn has_value(values: &[i64], value: i64) -> bool {
 }
 
 // What becomes of a call whose values become these.
-fn fate_of(values: &[i64], call: &ProblemCall<Op, Reply>) -> Fate {
-    let is_on = match place_of(call) {
+fn fate_of(key: &Option<MapKey>, values: &[i64], call: &ProblemCall<Op, Reply>) -> Fate {
+    let is_on = match place_of(key, call) {
         Place::At(value) => has_value(values, value),
         Place::Anywhere => true,
         Place::Nowhere => false,
@@ -55,18 +55,18 @@ fn fate_of(values: &[i64], call: &ProblemCall<Op, Reply>) -> Fate {
 }
 
 // Those of the calls that stay with these values. `None` where one may neither stay nor go.
-pub(crate) fn calls_with_values(
+fn calls_with_values(
     alloc: Global,
     problem: &Problem<AnyObject>,
-    calls: &[usize],
+    selection: &Selection,
     values: &[i64],
 ) -> Result<Option<Vec<usize>>, AllocError> {
     let mut stay = Vec::new(alloc);
-    for index in calls {
+    for index in &selection.calls {
         let Some(call) = problem.calls().get(*index) else {
             return Ok(None);
         };
-        match fate_of(values, call) {
+        match fate_of(&selection.key, values, call) {
             Fate::Stays => stay.push(*index)?,
             Fate::Goes => {}
             Fate::Forbids => return Ok(None),
@@ -100,9 +100,14 @@ fn with_fewer_values(
     count: usize,
 ) -> Result<Option<Selection>, AllocError> {
     let values = without_values(alloc, selection.values.as_slice(), from, count)?;
-    let kept = selection.calls.as_slice();
-    match calls_with_values(alloc, problem, kept, values.as_slice())? {
-        Some(calls) => Ok(Some(Selection::new(alloc, selection.event, values, calls))),
+    match calls_with_values(alloc, problem, selection, values.as_slice())? {
+        Some(calls) => Ok(Some(Selection::new(
+            alloc,
+            selection.event,
+            selection.key,
+            values,
+            calls,
+        ))),
         None => Ok(None),
     }
 }

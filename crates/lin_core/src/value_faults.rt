@@ -1,4 +1,4 @@
-//! Values on which the calls of a register may have no linearization, by the faults that registers have in practice. All of it is
+//! Values on which the calls of a register, or of a key of a map, may have no linearization, by the faults that registers have in practice. All of it is
 //! hints. (The zones of values written once: Gibbons and Korach 1997.)
 
 use crate::call_index::{CallIndex, ValueCalls};
@@ -61,7 +61,7 @@ impl ValueTimes {
     // With one call on it more.
     fn with(self, call: &ProblemCall<Op, Reply>) -> Self {
         match &call.op {
-            Op::Read => self.found(call.called, return_of(call)),
+            Op::Read | Op::Lookup(_) => self.found(call.called, return_of(call)),
             Op::Cas(from, to) if *from == *to => self.found_if_returned(call),
             _ => self.written(call.called, return_of(call)),
         }
@@ -96,12 +96,12 @@ fn times_of_values(
     alloc: Global,
     problem: &Problem<AnyObject>,
     index: &CallIndex,
-    start: i64,
+    start: Option<i64>,
 ) -> Result<Vec<ValueTimes>, AllocError> {
     let mut all = Vec::with_capacity(alloc, index.values.len())?;
     for on_value in &index.values {
         let mut times = ValueTimes::none(on_value.value);
-        if on_value.value == start {
+        if start == Some(on_value.value) {
             times = times.written(0, 0);
         }
         for call in &on_value.calls {
@@ -224,7 +224,7 @@ pub(crate) fn value_faults(
     alloc: Global,
     problem: &Problem<AnyObject>,
     index: &CallIndex,
-    start: i64,
+    start: Option<i64>,
 ) -> Result<Vec<Vec<i64>>, AllocError> {
     let mut found = Vec::new(alloc);
     let all = times_of_values(alloc, problem, index, start)?;

@@ -14,7 +14,8 @@ use Rattle.lin_history.specs.Recorder.RecordedHistory.{DeclaredObject, RecordedH
 use Rattle.lin_history.specs.Recorder.Parts.{start_of, part_calls}
 use Rattle.lin_history.specs.Locality.RecordedWhole.{whole_of}
 use Rattle.lin_history.specs.Verifier.Flags.{AreKnown}
-use Rattle.lin_core.specs.Cores.{IsCore}
+use Rattle.lin_core.specs.declared.selection.MapKey.{MapKey}
+use Rattle.lin_core.specs.Cores.{IsCoreOf}
 use Rattle.lin_explain.specs.declared.core_text.CoreCall.{CoreCall}
 use Rattle.lin_explain.specs.CoreText.{core_text}
 use Rattle.lin_workers.specs.Bounds.{Bounds}
@@ -75,7 +76,7 @@ told_behind h object lines name calls status slice told old first new named are 
     ∙ ap (λ (l : List ℕ). (name_of h object ++ codes ": " ++ status_text status ++ codes "\n") ++ l) (texts_same h object lines name calls told named are)
 
 -- a core of the problem is one of the part of the history
-pub core_told : (h : RecordedHistory) (object : ℕ) (calls : List (ProblemCall Op Reply)) (start : ObjState) (event : ℕ) (values : List ℤ) (kept firsts : List ℕ) (told : List CoreCall) → IsPart h object calls start
-    → IsCore (searched calls start) event values kept firsts → told ≡ map (told_in (searched calls start) event) kept → TellsCore h object told
-core_told h object calls start event values kept firsts told part core are =
-    inr (event, values, kept, firsts, at_part h object calls start part (λ p. IsCore p event values kept firsts) core, at_part h object calls start part (λ (p : Problem ObjState Op Reply). told ≡ map (told_in p event) kept) are)
+pub core_told : (h : RecordedHistory) (object : ℕ) (calls : List (ProblemCall Op Reply)) (start : ObjState) (event : ℕ) (key : Option MapKey) (values : List ℤ) (kept firsts : List ℕ) (told : List CoreCall) → IsPart h object calls start
+    → IsCoreOf (searched calls start) event key values kept firsts → told ≡ map (told_in (searched calls start) event) kept → TellsCore h object told
+core_told h object calls start event key values kept firsts told part core are =
+    inr (event, key, values, kept, firsts, at_part h object calls start part (λ p. IsCoreOf p event key values kept firsts) core, at_part h object calls start part (λ (p : Problem ObjState Op Reply). told ≡ map (told_in p event) kept) are)

@@ -9,7 +9,8 @@ use Rattle.lin_history.specs.Problems.Problem.{Problem}
 use Rattle.lin_history.specs.Recorder.RecordedHistory.{RecordedHistory}
 use Rattle.lin_history.specs.Recorder.Parts.{part_calls}
 use Rattle.lin_history.specs.Locality.RecordedWhole.{part_of}
-use Rattle.lin_core.specs.Cores.{IsCore}
+use Rattle.lin_core.specs.declared.selection.MapKey.{MapKey}
+use Rattle.lin_core.specs.Cores.{IsCoreOf}
 use Rattle.lin_core.specs.Cuts.{returned_by}
 use Rattle.lin_explain.specs.declared.core_text.CoreCall.{CoreCall}
 use Rattle.lin_explain.specs.CoreText.{core_text}
@@ -25,7 +26,7 @@ told_in p event number = record { call = number; is_pending = option_map_or (λ 
 -- These calls of the object, told as pending or not, are a core: alone they have no linearization (this project's own).
 abbrev pub AreOfCore : RecordedHistory → ℕ → List CoreCall → Type 0
 AreOfCore h object told =
-    (event : ℕ) × (values : List ℤ) × (kept : List ℕ) × (firsts : List ℕ) × IsCore (part_of h object) event values kept firsts × (told ≡ map (told_in (part_of h object) event) kept)
+    (event : ℕ) × (key : Option MapKey) × (values : List ℤ) × (kept : List ℕ) × (firsts : List ℕ) × IsCoreOf (part_of h object) event key values kept firsts × (told ≡ map (told_in (part_of h object) event) kept)
 
 -- The calls of a core, or none: where none was found nothing is said of it.
 abbrev pub TellsCore : RecordedHistory → ℕ → List CoreCall → Type 0
