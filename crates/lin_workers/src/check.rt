@@ -68,7 +68,10 @@ pub fn check_object<O: SharedObject, R: AllocGlobal + Threads + Clock + Sync, G:
         }
     }
     let (verdict, stored) = check_over_table(rt, &memo, options, &bounds, gate)?;
-    Ok((verdict.unwrap_or(ObjectVerdict::Undecided), Some(stored)))
+    match verdict {
+        Some(verdict) => Ok((verdict, Some(stored))),
+        None => Ok((ObjectVerdict::Undecided, Some(stored))),
+    }
 }
 
 /// How long the calling thread goes on before workers share its search: to the end where there is one.
