@@ -67,10 +67,27 @@ pub fn check_object<O: SharedObject, R: AllocGlobal + Threads + Clock + Sync, G:
             Alone::Stalled(_) | Alone::LimitMet => {}
         }
     }
-    let (verdict, stored) = check_over_table(rt, &memo, options, &bounds, gate)?;
+    let (verdict, stored) = verdict_shared(rt, &memo, options, &bounds, gate)?;
+    Ok((verdict, Some(stored)))
+}
+
+// The verdict by workers, undecided where the time was up; and how many configurations were stored.
+fn verdict_shared<O: SharedObject, R: AllocGlobal + Threads + Sync, G: Gate, W: Watcher>(
+    rt: &R,
+    memo: &OwnMemo<'_, O>,
+    options: &Options,
+    bounds: &Bounds<'_, W>,
+    gate: &G,
+) -> Result<(ObjectVerdict, u64), AllocError>
+    ensures verdict { IfOk result (λ r. IsObjectVerdict
+        (problem_of O.after O.State.eq O.Reply.eq memo.now.problem) bounds.now r.0) }
+    ensures stored { IfOk result (λ r. IsNumberStored
+        (problem_of O.after O.State.eq O.Reply.eq memo.now.problem) r.1) }
+{
+    let (verdict, stored) = check_over_table(rt, memo, options, bounds, gate)?;
     match verdict {
-        Some(verdict) => Ok((verdict, Some(stored))),
-        None => Ok((ObjectVerdict::Undecided, Some(stored))),
+        Some(verdict) => Ok((verdict, stored)),
+        None => Ok((ObjectVerdict::Undecided, stored)),
     }
 }
 
