@@ -134,7 +134,10 @@ fn told_alone<O: SeqObject>(verdict: ObjectVerdict, memo: &OwnMemo<'_, O>) -> Al
         (problem_of O.after O.State.eq O.Reply.eq memo.now.problem) bounds result }
 {
     match (verdict, number_stored(memo)) {
-        (ObjectVerdict::Yes(order), Some(stored)) => Alone::Decided(ObjectVerdict::Yes(order), stored),
+        (ObjectVerdict::Yes(order), Some(stored)) => Alone::Decided(
+            ObjectVerdict::Yes(order),
+            stored,
+        ),
         (ObjectVerdict::No(run), Some(stored)) => Alone::Decided(ObjectVerdict::No(run), stored),
         (ObjectVerdict::Undecided, _) => Alone::LimitMet,
         (_, None) => Alone::Stalled(0),
@@ -179,7 +182,9 @@ fn verdict_alone<O: SeqObject, M: Memo<O>, W: Watcher>(
 {
     let whole = cut(alloc, problem, 1)?;
     let tasks = whole.as_slice();
-    let mut outcomes = match outcomes_unless_stalled(alloc, problem, tasks, memo, patience, bounds)? {
+    let mut outcomes = match outcomes_unless_stalled(
+        alloc, problem, tasks, memo, patience, bounds,
+    )? {
         ControlFlow::Continue(outcomes) => outcomes,
         ControlFlow::Break(lifts) => return Ok(ControlFlow::Break(lifts)),
     };
@@ -266,7 +271,12 @@ fn verdict_with_workers<O: SharedObject, R: AllocGlobal + Threads + Sync, G: Gat
     ensures capacity { vec_capacity hands.new ≡ vec_capacity hands.old }
 {
     let problem = table.problem();
-    let tasks = cut_in_time(rt.alloc(), problem, TASKS_EACH * hands.len(), bounds.watcher())?;
+    let tasks = cut_in_time(
+        rt.alloc(),
+        problem,
+        TASKS_EACH * hands.len(),
+        bounds.watcher(),
+    )?;
     let tasks = tasks.as_slice();
     let mut outcomes = share(rt, table, tasks, hands, gate, bounds)?;
     let mut memo = SharedMemo::new(table, own);

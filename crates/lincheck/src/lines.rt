@@ -5,7 +5,7 @@ ghost use Rattle.lin_object.specs.declared.op.Op.{Op};
 ghost use Rattle.lin_object.specs.declared.reply.Reply.{Reply};
 ghost use Rattle.lin_history.specs.Recorder.Events.{Call};
 ghost use Rattle.lin_history.specs.Recorder.RecordedHistory.{calls_on};
-ghost use Rattle.lincheck.specs.Report.{mark_of, call_line, call_lines, dropped_line, dropped_lines, is_placed, name_line, length_line, yes_report, no_report, undecided_report, stored_line, with_stats};
+ghost use Rattle.lincheck.specs.Report.{mark_of, call_line, call_lines, dropped_line, dropped_lines, is_placed, name_line, length_line, yes_report, no_report, no_report_in_time, undecided_report, stored_line, with_stats};
 ghost use Rattle.lin_history.specs.Locality.RecordedWhole.{whole_of};
 ghost use Rattle.lin_history.specs.Verifier.Flags.{AreKnown};
 ghost use Rattle.lincheck.specs.Verdict.{IsOf, report_of};
