@@ -100,7 +100,11 @@ fn place_of(kept: &[usize], call: usize) -> Option<usize> {
     let left_out = last.saturating_sub(kept.len().saturating_sub(1));
     for place in call.saturating_sub(left_out)..kept.len() {
         if kept[place] >= call {
-            return if kept[place] == call { Some(place) } else { None };
+            return if kept[place] == call {
+                Some(place)
+            } else {
+                None
+            };
         }
     }
     None

@@ -67,8 +67,28 @@ pub fn check_object<O: SharedObject, R: AllocGlobal + Threads + Clock + Sync, G:
             Alone::Stalled(_) | Alone::LimitMet => {}
         }
     }
-    let (verdict, stored) = check_over_table(rt, &memo, options, &bounds, gate)?;
-    Ok((verdict.unwrap_or(ObjectVerdict::Undecided), Some(stored)))
+    let (verdict, stored) = verdict_shared(rt, &memo, options, &bounds, gate)?;
+    Ok((verdict, Some(stored)))
+}
+
+// The verdict by workers, undecided where the time was up; and how many configurations were stored.
+fn verdict_shared<O: SharedObject, R: AllocGlobal + Threads + Sync, G: Gate, W: Watcher>(
+    rt: &R,
+    memo: &OwnMemo<'_, O>,
+    options: &Options,
+    bounds: &Bounds<'_, W>,
+    gate: &G,
+) -> Result<(ObjectVerdict, u64), AllocError>
+    ensures verdict { IfOk result (λ r. IsObjectVerdict
+        (problem_of O.after O.State.eq O.Reply.eq memo.now.problem) bounds.now r.0) }
+    ensures stored { IfOk result (λ r. IsNumberStored
+        (problem_of O.after O.State.eq O.Reply.eq memo.now.problem) r.1) }
+{
+    let (verdict, stored) = check_over_table(rt, memo, options, bounds, gate)?;
+    match verdict {
+        Some(verdict) => Ok((verdict, stored)),
+        None => Ok((ObjectVerdict::Undecided, stored)),
+    }
 }
 
 /// How long the calling thread goes on before workers share its search: to the end where there is one.
@@ -114,7 +134,10 @@ fn told_alone<O: SeqObject>(verdict: ObjectVerdict, memo: &OwnMemo<'_, O>) -> Al
         (problem_of O.after O.State.eq O.Reply.eq memo.now.problem) bounds result }
 {
     match (verdict, number_stored(memo)) {
-        (ObjectVerdict::Yes(order), Some(stored)) => Alone::Decided(ObjectVerdict::Yes(order), stored),
+        (ObjectVerdict::Yes(order), Some(stored)) => Alone::Decided(
+            ObjectVerdict::Yes(order),
+            stored,
+        ),
         (ObjectVerdict::No(run), Some(stored)) => Alone::Decided(ObjectVerdict::No(run), stored),
         (ObjectVerdict::Undecided, _) => Alone::LimitMet,
         (_, None) => Alone::Stalled(0),
@@ -159,7 +182,9 @@ fn verdict_alone<O: SeqObject, M: Memo<O>, W: Watcher>(
 {
     let whole = cut(alloc, problem, 1)?;
     let tasks = whole.as_slice();
-    let mut outcomes = match outcomes_unless_stalled(alloc, problem, tasks, memo, patience, bounds)? {
+    let mut outcomes = match outcomes_unless_stalled(
+        alloc, problem, tasks, memo, patience, bounds,
+    )? {
         ControlFlow::Continue(outcomes) => outcomes,
         ControlFlow::Break(lifts) => return Ok(ControlFlow::Break(lifts)),
     };
@@ -246,7 +271,12 @@ fn verdict_with_workers<O: SharedObject, R: AllocGlobal + Threads + Sync, G: Gat
     ensures capacity { vec_capacity hands.new ≡ vec_capacity hands.old }
 {
     let problem = table.problem();
-    let tasks = cut_in_time(rt.alloc(), problem, TASKS_EACH * hands.len(), bounds.watcher())?;
+    let tasks = cut_in_time(
+        rt.alloc(),
+        problem,
+        TASKS_EACH * hands.len(),
+        bounds.watcher(),
+    )?;
     let tasks = tasks.as_slice();
     let mut outcomes = share(rt, table, tasks, hands, gate, bounds)?;
     let mut memo = SharedMemo::new(table, own);

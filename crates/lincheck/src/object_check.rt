@@ -11,7 +11,7 @@
 //! A search that met the limit is not begun again: what follows are the tasks of workers, each with a limit of its own. What the
 //! time ends is answered by what is known then.
 
-ghost use Rattle.std.specs.Prelude.{◌≡◌, IfOk, IfSome, IfNone, IsSome, IsTrue, None};
+ghost use Rattle.std.specs.Prelude.{◌≡◌, ◌≤◌, IfOk, IfSome, IfNone, IsSome, IsTrue, None};
 ghost use Rattle.std.specs.ControlFlow.{ForBreak, ForContinue};
 ghost use Rattle.lin_history.specs.Problems.Problem.{Problem as ProblemOf};
 ghost use Rattle.lin_ahead.specs.AnyProblem.{any_problem};
@@ -97,6 +97,16 @@ fn is_small(limit: Option<u64>) -> bool {
 struct Asked {
     question: Question,
     is_refuted: bool,
+}
+
+// Whether no longest run is asked for.
+fn asks_no_run(question: Question) -> bool
+    ensures { IsTrue result → question ≡ Question.Verdict }
+{
+    match question {
+        Question::Verdict => true,
+        Question::LongestRun => false,
+    }
 }
 
 // How far the ways go in one turn: how long the full search goes on, which may not have its turn, and how many lifts searches of
@@ -339,7 +349,7 @@ fn answer_refuted<W: Watcher>(
     ensures { IfOk result (λ told. IfSome told
         (IsObjectAnswer (any_problem problem.now) question bounds.now)) }
 {
-    if question == Question::Verdict {
+    if asks_no_run(question) {
         return Ok(Some(ObjectAnswer::No(None)));
     }
     match longest_run_by_prefixes(alloc, problem, lifts, &mut UntilUp::new(bounds))? {
@@ -556,6 +566,19 @@ fn by_searches<R: AllocGlobal + Threads + Sync, G: Gate, W: Watcher>(
     }
 }
 
+// What is told of an object before a full search: nothing where workers are wanted at once.
+fn told_at_first<R: AllocGlobal, G: Gate, W: Watcher>(
+    setting: &Setting<'_, '_, R, G, W>,
+    problem: &Problem<AnyObject>,
+) -> Result<PartAnswer, AllocError>
+    ensures { IfOk result (IsAnswerTo (any_problem problem.now)) }
+{
+    if setting.gate.wants_workers() {
+        return Ok(PartAnswer::Unknown);
+    }
+    told_ahead(setting.rt.alloc(), problem, &setting.bounds)
+}
+
 /// The answer to what is asked of one object, and how many configurations were stored: none where it is known ahead. A gate that
 /// wants workers has them at once. In an object of 16 calls or more, with no limit below 500,000, one value stands in the full
 /// search for all that nobody saw. `AllocError` where the calling thread was refused memory.
@@ -566,18 +589,26 @@ pub(crate) fn answer_object<R: AllocGlobal + Threads + Sync, G: Gate, W: Watcher
 ) -> Result<(ObjectAnswer, u64), AllocError>
     ensures { IfOk result (IsAnswered (any_problem problem.now) question setting.now.bounds) }
 {
-    let known = if setting.gate.wants_workers() {
-        PartAnswer::Unknown
-    } else {
-        told_ahead(setting.rt.alloc(), problem, &setting.bounds)?
-    };
-    let is_enough = question == Question::Verdict && !is_small(setting.bounds.limit());
-    match known {
+    match told_at_first(setting, problem)? {
         PartAnswer::Found(order) => Ok((ObjectAnswer::Yes(order), 0)),
-        PartAnswer::Refuted if is_enough => Ok((ObjectAnswer::No(None), 0)),
-        known => {
-            let is_refuted = matches!(known, PartAnswer::Refuted);
-            by_searches(setting, problem, Asked { question, is_refuted })
+        PartAnswer::Refuted if asks_no_run(question) && !is_small(setting.bounds.limit()) => {
+            Ok((ObjectAnswer::No(None), 0))
         }
+        PartAnswer::Refuted => by_searches(
+            setting,
+            problem,
+            Asked {
+                question,
+                is_refuted: true,
+            },
+        ),
+        PartAnswer::Unknown => by_searches(
+            setting,
+            problem,
+            Asked {
+                question,
+                is_refuted: false,
+            },
+        ),
     }
 }

@@ -71,7 +71,13 @@ pub fn search_by_key<S: Stop>(
     let parts = parts_of_keys(alloc, problem, numbers, lists.as_slice())?;
     let stop = AtTimes::new(stop);
     let mut bounds = PartBounds { limit, stop };
-    match orders_of_parts(alloc, problem, lists.as_slice(), parts.as_slice(), &mut bounds)? {
+    match orders_of_parts(
+        alloc,
+        problem,
+        lists.as_slice(),
+        parts.as_slice(),
+        &mut bounds,
+    )? {
         PartOrders::Found(orders) => {
             let order = whole_order(alloc, problem, &known, lists.as_slice(), orders.as_slice())?;
             Ok(Some(KeyAnswer::Found(order)))

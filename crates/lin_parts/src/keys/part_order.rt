@@ -29,9 +29,7 @@ fn budget(calls: usize, for_a_call: u64, more: u64, limit: Option<u64>) -> u64
     ensures { IfSome limit (λ most. result ≤ most) }
 {
     within(
-        for_a_call
-            .saturating_mul(calls as u64)
-            .saturating_add(more),
+        for_a_call.saturating_mul(calls as u64).saturating_add(more),
         limit,
     )
 }

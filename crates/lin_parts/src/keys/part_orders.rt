@@ -45,7 +45,10 @@ fn some_is_refuted<S: Stop>(
         let Some(part) = parts.get(key) else {
             return Ok(false);
         };
-        let lifts = within(LIFTS_TO_REFUTE.saturating_mul(part.len() as u64), bounds.limit);
+        let lifts = within(
+            LIFTS_TO_REFUTE.saturating_mul(part.len() as u64),
+            bounds.limit,
+        );
         let kept = calls_at(lists, key);
         let answer = order_of_part(alloc, problem, kept, part, Some(lifts), &mut bounds.stop)?;
         if let PartAnswer::Refuted = answer {

@@ -120,7 +120,8 @@ impl Progress {
     // Whether the search is to end: it has made no progress for long, and for a third of all its lifts; or it has made its lifts.
     fn has_stalled(&self) -> bool {
         match self.patience {
-            Patience::UntilStalled(lifts) => self.in_vain >= lifts && self.in_vain >= self.lifts / 3,
+            Patience::UntilStalled(lifts) => self.in_vain >= lifts
+                && self.in_vain >= self.lifts / 3,
             Patience::ForLifts(lifts) => self.lifts >= lifts,
             Patience::ToTheEnd => false,
         }

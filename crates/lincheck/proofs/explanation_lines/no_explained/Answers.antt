@@ -4,8 +4,7 @@ use Rattle.lincheck.proofs.explanation_lines.no_explained.Goals as goal
 
 pub returns : goal.returns
 returns c =
-    let end = c.in_ok-write_end.ensures in
-    (
+    let end = c.in_ok-write_end.ensures in (
       c.in_ok-core.core.items,
       c.in_ok-core.ensures,
       end.0,
