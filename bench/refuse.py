@@ -6,10 +6,12 @@
 A case is one of `crates/lin_tests/data` (those that are named, else all that have a file NAME.jsonl). The program, the proved
 one or PROGRAM, is run on it once for each of its growths, with that one refused by a small library in front of the C library
 (`bench/refuse.c`, built by the toolchain's own compiler). It has to answer the case as it should be, or to end with status 4,
-nothing on standard output and `lincheck: out of memory` on standard error. With --stats the number told may be smaller.
+nothing on standard output and `lincheck: out of memory` on standard error, after lines of --progress or none. With --stats the
+number told may be smaller.
 """
 import argparse
 import os
+import re
 import subprocess
 import sys
 import tempfile
@@ -18,6 +20,7 @@ from pathlib import Path
 HERE = Path(__file__).resolve().parent
 CRATES = HERE.parent / "crates"
 REFUSED = (4, b"", b"lincheck: out of memory\n")
+PROGRESS = re.compile(rb"^lincheck: \S+: \d+ calls tried, .*\n", re.M)
 
 
 def built(room):
@@ -39,8 +42,13 @@ def ran(program, library, options, text, at):
         out, err = it.communicate(text, timeout=60)
     growths = int(os.read(reader, 64) or 0)
     os.close(reader)
-    # a refusal and an undecided history may have a hint on standard error, which is no part of the answer
-    return (it.returncode, out, b"" if it.returncode in (2, 3) else err), growths
+    return (it.returncode, out, fault_in(it.returncode, err)), growths
+
+
+def fault_in(status, said):
+    """The fault that standard error tells, without what else may stand there: a hint on a refusal or an undecided history, and
+    lines of progress."""
+    return b"" if status in (2, 3) else PROGRESS.sub(b"", said)
 
 
 def is_allowed(answer, wanted):

@@ -1,55 +1,78 @@
+import java.io.IOException;
 import java.util.ArrayList;
 import java.util.List;
-import java.util.Queue;
-import java.util.concurrent.ConcurrentLinkedQueue;
-import java.util.concurrent.CyclicBarrier;
+import java.util.concurrent.atomic.AtomicInteger;
 
-/** A queue of the library that four threads put into and take from, as `right` by poll, or as `wrong` by peek and poll. */
+/**
+ * A queue that four threads put into and take from: `right` under one lock, or `wrong`, where the look at the first item and its
+ * removal are two steps without the lock; `narrow` is as wrong, without a pause between the two. The second word is the number
+ * of rounds.
+ */
 public final class Example {
     private static final int THREADS = 4;
-    private static final int CALLS = 12;
 
-    private static Long take(Queue<Long> items, boolean isRight) {
-        if (isRight) {
-            return items.poll();
+    private static final class Items {
+        private final String asked;
+        private final int[] items;
+        private volatile int first;
+        private volatile int last;
+
+        Items(String asked, int room) {
+            this.asked = asked;
+            items = new int[room];
         }
-        Long first = items.peek();
-        Thread.yield();
-        items.poll();
-        return first;
+
+        synchronized void put(int item) {
+            items[last] = item;
+            last++;
+        }
+
+        /** An item, or null where there is none. */
+        Integer take() {
+            if (!asked.equals("right")) {
+                return takeFirst();
+            }
+            synchronized (this) {
+                return takeFirst();
+            }
+        }
+
+        private Integer takeFirst() {
+            int at = first;
+            if (at == last) {
+                return null;
+            }
+            if (asked.equals("wrong")) {
+                Thread.yield();
+            }
+            first = at + 1;
+            return items[at];
+        }
     }
 
-    private static void work(Recorder recorder, Queue<Long> items, CyclicBarrier start, long thread, boolean isRight) {
-        Recorder.Process me = recorder.process();
-        try {
-            start.await();
-        } catch (Exception e) {
-            throw new IllegalStateException(e);
-        }
-        for (int i = 0; i < CALLS; i++) {
-            long item = 100 * thread + i;
-            me.call("q", "enq", item);
-            items.add(item);
-            me.ret(Recorder.OK);
-            me.call("q", "deq");
-            Long taken = take(items, isRight);
-            me.ret(taken);
-        }
-    }
-
-    public static void main(String[] words) throws InterruptedException {
-        boolean isRight = words.length == 1 && words[0].equals("right");
-        Queue<Long> items = new ConcurrentLinkedQueue<>();
-        CyclicBarrier start = new CyclicBarrier(THREADS);
+    public static void main(String[] words) throws InterruptedException, IOException {
+        int rounds = words.length > 1 ? Integer.parseInt(words[1]) : 100;
+        Items items = new Items(words[0], THREADS * rounds);
+        AtomicInteger waiting = new AtomicInteger(THREADS);
         Recorder recorder = new Recorder();
-        recorder.object("q", "queue", 0);
+        recorder.object("q", "queue");
         List<Thread> threads = new ArrayList<>();
-        for (long thread = 1; thread <= THREADS; thread++) {
-            long number = thread;
-            Thread made = new Thread(() -> work(recorder, items, start, number, isRight));
-            made.start();
-            threads.add(made);
+        for (int thread = 0; thread < THREADS; thread++) {
+            int first = thread * rounds;
+            threads.add(new Thread(() -> {
+                Recorder.Process me = recorder.process();
+                waiting.decrementAndGet();
+                while (waiting.get() > 0) {
+                    Thread.yield();
+                }
+                for (int i = 0; i < rounds; i++) {
+                    int item = first + i;
+                    me.record("q", "enq", List.of(item), () -> items.put(item));
+                    me.record("q", "deq", List.of(), () -> items.take());
+                }
+            }));
         }
+        threads.forEach(Thread::start);
         for (Thread thread : threads) {
             thread.join();
         }

@@ -1,58 +1,51 @@
-"""A queue that four threads put into and take from, as `right` one of the library, or as `wrong` a list of which the first
-item is looked at and then removed."""
-import queue
+"""A queue that four threads put into and take from: `right` under one lock, or `wrong`, where the look at the first item and its
+removal are two steps without the lock; `narrow` is as wrong, without a pause between the two. The second word is the number
+of rounds."""
+import contextlib
 import sys
 import threading
 import time
 
 from lincheck import Recorder
 
-THREADS, CALLS = 4, 12
+THREADS = 4
 
 
-class Looking:
-    """A queue over a list, which looks at its first item and then removes it."""
-
-    def __init__(self):
-        self.items = []
+class Queue:
+    def __init__(self, asked):
+        self.asked, self.lock, self.first, self.items = asked, threading.Lock(), 0, []
 
     def put(self, item):
-        self.items.append(item)
+        with self.lock:
+            self.items.append(item)
 
-    def get_nowait(self):
-        if not self.items:
-            raise queue.Empty
-        first = self.items[0]
-        time.sleep(0)
-        del self.items[:1]
-        return first
-
-
-def take(items):
-    try:
-        return items.get_nowait()
-    except queue.Empty:
-        return None
-
-
-def work(recorder, items, start, thread):
-    me = recorder.process()
-    start.wait()
-    for i in range(CALLS):
-        item = 100 * thread + i
-        me.call("q", "enq", item)
-        items.put(item)
-        me.ret("ok")
-        me.call("q", "deq")
-        me.ret(take(items))
+    def take(self):
+        """An item, or None where there is none."""
+        with self.lock if self.asked == "right" else contextlib.nullcontext():
+            at = self.first
+            if at == len(self.items):
+                return None
+            if self.asked == "wrong":
+                time.sleep(0)
+            self.first = at + 1
+            return self.items[at]
 
 
 def main():
     sys.setswitchinterval(1e-6)
-    items = queue.SimpleQueue() if sys.argv[1:] == ["right"] else Looking()
+    items = Queue(sys.argv[1])
+    rounds = int(sys.argv[2]) if len(sys.argv) > 2 else 100
     recorder, start = Recorder(), threading.Barrier(THREADS)
     recorder.object("q", "queue")
-    threads = [threading.Thread(target=work, args=(recorder, items, start, it + 1)) for it in range(THREADS)]
+
+    def work(first):
+        me = recorder.process()
+        start.wait()
+        for item in range(first, first + rounds):
+            me.record("q", "enq", [item], lambda: items.put(item))
+            me.record("q", "deq", [], items.take)
+
+    threads = [threading.Thread(target=work, args=(it * rounds,)) for it in range(THREADS)]
     for thread in threads:
         thread.start()
     for thread in threads:

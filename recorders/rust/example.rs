@@ -1,50 +1,68 @@
-//! A queue that four threads put into and take from, as `right` under one lock, or as `wrong` with a look at the first item
-//! under the lock and its removal under the lock again.
+//! A queue that four threads put into and take from: `right` under one lock, or `wrong`, where the look at the first item and its
+//! removal are two steps without the lock; `narrow` is as wrong, without a pause between the two. The second word is the number
+//! of rounds.
 #[path = "lincheck.rs"]
 mod lincheck;
 
-use lincheck::{Process, Recorder, Reply};
-use std::collections::VecDeque;
-use std::sync::{Barrier, Mutex};
+use lincheck::Recorder;
+use std::sync::atomic::{AtomicI64, AtomicUsize, Ordering::SeqCst};
+use std::sync::Mutex;
 
-const THREADS: i64 = 4;
-const CALLS: i64 = 12;
-
-fn take(items: &Mutex<VecDeque<i64>>, is_right: bool) -> Option<i64> {
-    if is_right {
-        return items.lock().unwrap().pop_front();
-    }
-    let first = items.lock().unwrap().front().copied();
-    std::thread::yield_now();
-    items.lock().unwrap().pop_front();
-    first
+struct Queue {
+    asked: String,
+    lock: Mutex<()>,
+    first: AtomicUsize,
+    last: AtomicUsize,
+    items: Vec<AtomicI64>,
 }
 
-fn work(me: &mut Process, thread: i64, items: &Mutex<VecDeque<i64>>, is_right: bool) {
-    for i in 0..CALLS {
-        let item = 100 * thread + i;
-        me.call("q", "enq", &[item]);
-        items.lock().unwrap().push_back(item);
-        me.ret(Reply::Ok);
-        me.call("q", "deq", &[]);
-        let taken = take(items, is_right);
-        me.ret(taken);
+impl Queue {
+    fn new(asked: &str, room: i64) -> Queue {
+        let items = (0..room).map(AtomicI64::new).collect();
+        Queue { asked: asked.to_string(), lock: Mutex::default(), first: AtomicUsize::new(0), last: AtomicUsize::new(0), items }
+    }
+
+    fn put(&self, item: i64) {
+        let _guard = self.lock.lock().unwrap();
+        self.items[self.last.load(SeqCst)].store(item, SeqCst);
+        self.last.fetch_add(1, SeqCst);
+    }
+
+    fn take(&self) -> Option<i64> {
+        let _guard = (self.asked == "right").then(|| self.lock.lock().unwrap());
+        let at = self.first.load(SeqCst);
+        if at == self.last.load(SeqCst) {
+            return None;
+        }
+        if self.asked == "wrong" {
+            std::thread::yield_now();
+        }
+        self.first.store(at + 1, SeqCst);
+        Some(self.items[at].load(SeqCst))
     }
 }
 
 fn main() -> std::io::Result<()> {
-    let is_right = std::env::args().nth(1).as_deref() == Some("right");
-    let items = Mutex::new(VecDeque::new());
-    let start = Barrier::new(THREADS as usize);
+    const THREADS: i64 = 4;
+    let words: Vec<String> = std::env::args().collect();
+    let rounds: i64 = words.get(2).map_or(100, |word| word.parse().expect("a number of rounds"));
+    let items = Queue::new(words.get(1).map_or("right", String::as_str), THREADS * rounds);
+    let waiting = AtomicI64::new(THREADS);
     let mut recorder = Recorder::new();
     recorder.object("q", "queue", 0);
     std::thread::scope(|scope| {
-        for thread in 1..=THREADS {
+        for thread in 0..THREADS {
             let mut me = recorder.process();
-            let (items, start) = (&items, &start);
+            let (items, waiting) = (&items, &waiting);
             scope.spawn(move || {
-                start.wait();
-                work(&mut me, thread, items, is_right);
+                waiting.fetch_sub(1, SeqCst);
+                while waiting.load(SeqCst) > 0 {
+                    std::thread::yield_now();
+                }
+                for item in thread * rounds..(thread + 1) * rounds {
+                    me.record("q", "enq", &[item], || items.put(item));
+                    me.record("q", "deq", &[], || items.take());
+                }
             });
         }
     });

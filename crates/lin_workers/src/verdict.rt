@@ -10,7 +10,7 @@ pub enum ObjectVerdict {
     Yes(Order),
     /// It is not: its longest run, the first of those of the greatest length.
     No(Order),
-    /// The search of a task met the limit before an answer.
+    /// The search of a task met the limit, or the time was up, before an answer.
     Undecided,
 }
 

@@ -12,7 +12,7 @@ pub enum Status {
     Yes,
     /// It is not.
     No,
-    /// The limit on lifts was met before an answer.
+    /// The limit on lifts was met, or the time was up, before an answer.
     Undecided,
     /// The text is no history.
     Refused,

@@ -21,7 +21,7 @@ pub enum Verdict {
         /// The index of the object.
         object: usize,
     },
-    /// The search of the object of this index met its limit before an answer; each object before it has a linearization.
+    /// The search of the object of this index met its limit, or the time was up; each object before it has a linearization.
     Undecided {
         /// The index of the object.
         object: usize,

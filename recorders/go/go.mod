@@ -1,0 +1,3 @@
+module recorders
+
+go 1.19
