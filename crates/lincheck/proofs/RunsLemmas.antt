@@ -11,7 +11,7 @@ use Rattle.lin_workers.specs.declared.verdict.ObjectVerdict.{ObjectVerdict}
 use Rattle.lin_workers.specs.declared.verdict.ObjectVerdict.TheVariants.{Yes, No, Undecided}
 use Rattle.lin_workers.specs.declared.verdict.Alone.{Alone}
 use Rattle.lin_workers.specs.declared.verdict.Alone.TheVariants.{Decided, Stalled, LimitMet, TimeUp}
-use Rattle.lin_workers.specs.Bounds.{Bounds, unbounded}
+use Rattle.lin_workers.specs.Bounds.{Bounds, unbounded, without_time}
 use Rattle.lin_workers.specs.Verdict.{IsNumberStored, IsObjectVerdict, IsToldAlone}
 
 module _ (P Q : List ℕ → Type 0) (there : (l : List ℕ) → P l → Q l) (back : (l : List ℕ) → Q l → P l) where
@@ -36,6 +36,13 @@ module _ (P Q : List ℕ → Type 0) (there : (l : List ℕ) → P l → Q l) (b
   undecided_same : (bounds : Bounds) → IsSome bounds.seconds ⊎ IsSomeAnd bounds.limit (λ most. HasMoreThan P most) → IsSome bounds.seconds ⊎ IsSomeAnd bounds.limit (λ most. HasMoreThan Q most)
   undecided_same bounds (inl timed) = inl timed
   undecided_same bounds (inr over) = inr (more_same bounds.limit over)
+
+-- a verdict within the limit alone is one within the limit and the time
+pub verdict_with_time : {State Op Reply : Type 0} (p : Problem State Op Reply) (bounds : Bounds) (v : ObjectVerdict) → IsObjectVerdict p (without_time bounds) v → IsObjectVerdict p bounds v
+verdict_with_time p bounds (Yes order) k = k
+verdict_with_time p bounds (No run) k = k
+verdict_with_time p bounds Undecided (inl timed) = absurd (let none = timed in cc)
+verdict_with_time p bounds Undecided (inr over) = inr over
 
 module _ {State Op Reply : Type 0} (p q : Problem State Op Reply) (same : HasRunsOf p q) where
   -- a verdict on the first problem is one on the second
