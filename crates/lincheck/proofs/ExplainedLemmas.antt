@@ -1,9 +1,8 @@
 -- What is printed where it is asked for why, piece by piece.
-use Rattle.std.proofs.Common.{◌≡◌, ℕ, ℤ, List, [], ◌++◌, map, Option, Some, None, codes, refl, sym, subst, ap, ◌∙◌, append_assoc, inr}
+use Rattle.std.proofs.Common.{◌≡◌, ℕ, ℤ, List, [], ◌++◌, map, Option, Some, codes, refl, sym, subst, ap, ◌∙◌, append_assoc, inr}
 use Rattle.std.specs.Prelude.{Vec}
 use Rattle.std.specs.declared.alloc.Global.{Global}
 use Rattle.std.specs.List.{slice_get}
-use Rattle.std.specs.Option.{option_map}
 use Rattle.lin_object.specs.declared.op.Op.{Op}
 use Rattle.lin_object.specs.declared.reply.Reply.{Reply}
 use Rattle.lin_object.specs.declared.state.ObjState.{ObjState}
@@ -11,7 +10,7 @@ use Rattle.lin_history.specs.declared.locality.placed.Placed.{Placed}
 use Rattle.lin_history.specs.declared.problems.problem.ProblemCall.{ProblemCall}
 use Rattle.lin_history.specs.Problems.Problem.{Problem}
 use Rattle.lin_history.specs.Recorder.RecordedHistory.{DeclaredObject, RecordedHistory}
-use Rattle.lin_history.specs.Recorder.Parts.{start_of, part_calls}
+use Rattle.lin_history.specs.Recorder.Parts.{part_calls}
 use Rattle.lin_history.specs.Locality.RecordedWhole.{whole_of}
 use Rattle.lin_history.specs.Verifier.Flags.{AreKnown}
 use Rattle.lin_core.specs.declared.selection.MapKey.{MapKey}

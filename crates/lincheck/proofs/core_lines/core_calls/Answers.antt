@@ -1,7 +1,5 @@
-use Rattle.std.proofs.Common.{◌≡◌, ◌∙◌, inl, map, ap}
+use Rattle.std.proofs.Common.{inl}
 use Rattle.std.proofs.lemmas.Result.{IfOk-weaker}
-use Rattle.lin_ahead.specs.AnyProblem.{any_problem}
-use Rattle.lincheck.specs.Explained.{told_in}
 use Rattle.lincheck.proofs.ExplainedLemmas.{core_told}
 use Rattle.lincheck.proofs.JudgeLemmas.{IsPart}
 use Rattle.lincheck.proofs.core_lines.core_calls.Goals as goal
