@@ -5,21 +5,28 @@ definitions alone.
     bench/explanations.py < HISTORY
     bench/explanations.py --compare PROGRAM FILE..
     bench/explanations.py --random COUNT PROGRAM
-    bench/explanations.py --write FOLDER
+    bench/explanations.py --write FOLDER PROGRAM
 
 The runs of each object are all tried, so a history has few calls. The first object without a linearization is told with the
-first of its longest runs, and then the state after the run, the calls that could come next with what each would answer
-there, and the calls that put or took the value that such a call asks for, each call with the lines on which its events stand.
+last calls of the first of its longest runs, and then the state after the run, the calls that could come next with what each would
+answer there, and the calls that put or took the value that such a call asks for or should have found, each call with the lines on
+which its events stand. Which calls alone have no order is for the program to find: its answer may name some, and then all orders
+of these are tried, of which none may be one.
 With --compare the answers of a program are compared with these, with --random those on so many random histories, each also with
-what each of its objects is; with --write the cases below are written, for `crates/lin_tests/data`.
+what each of its objects is; with --write the cases below are written, for `crates/lin_tests/data`, with those calls of the
+program's that stood the trial.
 """
 import json
 import random
+import re
 import subprocess
 import sys
 from pathlib import Path
 
 PENDING = None
+MOST_LISTED, MOST_ITEMS, MOST_TOUCHING = 16, 16, 8
+CORE_HEAD = re.compile(r"(?:this call|these (\d+) calls)(?: on key (-?\d+))? alone (has|have) no order:")
+CORE_CALL = re.compile(r"  \d+ \S+ .* \((?:line|lines) (\d+)(?: and (\d+))?\)")
 START = {"register": 0, "counter": 0, "queue": (), "stack": (), "set": (), "mutex": None, "map": ()}
 
 
@@ -134,11 +141,21 @@ def refuted(objects):
     return None
 
 
-def each(text):
-    """A line for each object, and the exit status."""
-    objects = [(name, searched(kind, calls, start)[0]) for name, kind, start, calls in read(text)]
-    lines = [f"{name}: {'linearizable' if linear else 'not linearizable'}\n" for name, linear in objects]
-    return "".join(lines), 0 if all(linear for _, linear in objects) else 1
+def each(text, answer=""):
+    """A line for each object, and the exit status; with the lines of an answer that name calls that alone have no order."""
+    told, lines, is_linear = {}, [], True
+    for line in answer.splitlines():
+        if ": " in line and not line.startswith(" "):
+            told[last := line.partition(": ")[0]] = []
+        else:
+            told[last].append(line)
+    for name, kind, start, calls in read(text):
+        linear = searched(kind, calls, start)[0]
+        core = [] if linear else told.get(name, [])
+        is_right = is_core(name, kind, start, calls, core)
+        lines += [f"{name}: {'linearizable' if linear else 'not linearizable'}", *(core if is_right else ["no core", *core])]
+        is_linear = is_linear and linear
+    return "".join(line + "\n" for line in lines), 0 if is_linear else 1
 
 
 def shown(value):
@@ -149,16 +166,16 @@ def call_text(call):
     return f"{call['op']}({','.join(map(str, call['args']))})"
 
 
-def recorded(call):
-    """The reply and the lines of both events; of a pending call the line of its call."""
-    if call["returned"] is PENDING:
+def recorded(call, is_pending=False):
+    """The reply and the lines of both events; of a pending call, or one that is taken so, the line of its call."""
+    if is_pending or call["returned"] is PENDING:
         return f" (line {call['lines'][0]})"
     return f" = {shown(call['returned'][1])} (lines {call['lines'][0]} and {call['lines'][1]})"
 
 
 def listed(texts):
-    more = f", .. and {len(texts) - 16} more" if len(texts) > 16 else ""
-    return ", ".join(texts[:16]) + more
+    more = f", .. and {len(texts) - MOST_ITEMS} more" if len(texts) > MOST_ITEMS else ""
+    return ", ".join(texts[:MOST_ITEMS]) + more
 
 
 def state_text(kind, state, keys):
@@ -172,37 +189,41 @@ def state_text(kind, state, keys):
     return "{" + text + "}" if kind == "set" else f"[{text}]"
 
 
-def may_change(call):
-    return call["returned"] is PENDING or call["returned"][1] is not False
-
-
-def asked_of(kind, call):
-    """What the call asks for: a value, or a key and its value; None where it asks for none."""
+def asked_of(kind, call, state):
+    """What the call asks for in this state: a value, or a key and its value; where it found nothing, what was there. None where it
+    asks for none."""
     op, args = call["op"], call["args"]
     reply = None if call["returned"] is PENDING else call["returned"][1]
     is_number = isinstance(reply, int) and not isinstance(reply, bool)
+    found_nothing = reply == "empty" or reply is False
     if op == "cas" or kind == "set":
         return args[0]
-    if kind == "map":
-        return (args[0], reply) if op == "get" and is_number else None
+    if op == "get" and kind == "map" and is_number:
+        return args[0], reply
+    if op in ("get", "delete") and kind == "map":
+        there = dict(state).get(args[0])
+        return (args[0], there) if found_nothing and there is not None else None
+    if op in ("deq", "pop") and found_nothing:
+        return state[0] if state else None
     return reply if op in ("deq", "pop", "read") and is_number else None
 
 
-def did(kind, call, asked):
-    """Whether the call put or took what is asked for."""
+def did(kind, call, asked, reply):
+    """Whether the call, which has this reply or is pending, put or took what is asked for."""
     op, args = call["op"], call["args"]
+    may_change = reply is PENDING or reply is not False
     if op in ("enq", "push", "write"):
         return "put" if args[0] == asked else None
     if op in ("deq", "pop"):
-        return "taken" if call["returned"] is not PENDING and same(call["returned"][1], asked) else None
+        return "taken" if reply is not PENDING and same(reply, asked) else None
     if op == "cas":
-        return "put" if args[1] == asked and may_change(call) else None
+        return "put" if args[1] == asked and may_change else None
     if kind == "set" and op in ("add", "remove"):
-        return {"add": "put", "remove": "taken"}[op] if args[0] == asked and may_change(call) else None
+        return {"add": "put", "remove": "taken"}[op] if args[0] == asked and may_change else None
     if op == "put":
         return "put" if tuple(args) == asked else None
     if op == "delete":
-        return "taken" if args[0] == asked[0] and may_change(call) else None
+        return "taken" if args[0] == asked[0] and may_change else None
     return None
 
 
@@ -212,7 +233,8 @@ def about(word, c, calls, run):
     return f"  {word} by {call['process']}: {call_text(call)}{recorded(call)}, {place}\n"
 
 
-def known(kind, c, calls, run):
+def known(kind, c, calls, run, state, replies):
+    """What is known of call c, which could come next after the run: of the replies there `replies` has those of the run."""
     call = calls[c]
     if kind == "mutex":
         held = None
@@ -222,27 +244,69 @@ def known(kind, c, calls, run):
             elif held is None:
                 held = r
         return "" if held is None else about("held", held, calls, run)
-    asked = asked_of(kind, call)
+    asked = asked_of(kind, call, state)
     if asked is None:
         return ""
-    found = [(did(kind, x, asked), a) for a, x in enumerate(calls) if a != c]
+    recorded_replies = [PENDING if x["returned"] is PENDING else x["returned"][1] for x in calls]
+    found = [(did(kind, x, asked, replies.get(a, recorded_replies[a])), a) for a, x in enumerate(calls) if a != c]
     found = [(word, a) for word, a in found if word]
     value = f"{asked[0]}: {asked[1]}" if isinstance(asked, tuple) else str(asked)
     text = "" if any(word == "put" for word, _ in found) else f"  no call put {value}\n"
-    text += "".join(about(word, a, calls, run) for word, a in found[:8])
-    return text + (f"  .. and {len(found) - 8} more\n" if len(found) > 8 else "")
+    text += "".join(about(word, a, calls, run) for word, a in found[:MOST_TOUCHING])
+    return text + (f"  .. and {len(found) - MOST_TOUCHING} more\n" if len(found) > MOST_TOUCHING else "")
 
 
-def explained(text):
-    """The whole answer, with its explanation."""
+def has_order(kind, start, calls):
+    """Whether some order of the calls has each of them that returned."""
+    return any(all(c in run for c, x in enumerate(calls) if x["returned"] is not PENDING) for run, _ in runs_from(kind, calls, start, []))
+
+
+def core_lines(answer):
+    """The lines of an answer that name calls that alone have no order."""
+    lines = answer.split("\n")
+    end = next((place for place, line in enumerate(lines) if line.startswith("longest run: ")), 1)
+    return lines[1:end]
+
+
+def is_core(name, kind, start, calls, lines):
+    """Whether the lines name calls of the object in the order of their call events, each as it stood after some event, which alone have
+    no order; and the key that they are on."""
+    if not lines:
+        return True
+    head, told = CORE_HEAD.fullmatch(lines[0]), [CORE_CALL.fullmatch(line) for line in lines[1:]]
+    if head is None or None in told:
+        return False
+    by_line = {call["lines"][0]: call for call in calls}
+    core, until, after, text = [], 0, [], []
+    for line in told:
+        call = by_line[int(line[1])]
+        is_pending = line[2] is None
+        text.append(f"  {call['process']} {name} {call_text(call)}{recorded(call, is_pending)}")
+        core.append(call | ({"returned": PENDING} if is_pending else {}))
+        until = max(until, call["called"], 0 if is_pending else call["returned"][0])
+        after += [call["returned"][0]] if is_pending and call["returned"] is not PENDING else []
+    keys = {call["args"][0] for call in core} if kind in ("map", "set") else set()
+    key = str(*keys) if len(keys) == 1 else None
+    is_told_so = text == lines[1:] and (head[1], head[3]) == ((None, "has") if len(core) == 1 else (str(len(core)), "have")) and head[2] == key
+    is_in_order = [call["called"] for call in core] == sorted({call["called"] for call in core})
+    return is_told_so and is_in_order and all(until < returned for returned in after) and not has_order(kind, start, core)
+
+
+def explained(text, core=()):
+    """The whole answer, with its explanation, and with these lines that name calls that alone have no order."""
     name, kind, start, calls, run, state = refuted(read(text))
-    out = f"not linearizable: {name}\nlongest run: {len(run)} of {len(calls)} calls\n"
-    here = start
+    if not is_core(name, kind, start, calls, core):
+        return "no core:\n" + "\n".join(core)
+    out = "".join(line + "\n" for line in [f"not linearizable: {name}", *core]) + f"longest run: {len(run)} of {len(calls)} calls\n"
+    before = len(run) - MOST_LISTED
+    out += f".. {before} {'call' if before == 1 else 'calls'} before\n" if before > 0 else ""
+    here, replies = start, {}
     for place, c in enumerate(run):
         call = calls[c]
-        here, reply = step(kind, here, call["process"], call["op"], call["args"])
+        here, replies[c] = step(kind, here, call["process"], call["op"], call["args"])
         mark = " completed" if call["returned"] is PENDING else ""
-        out += f"{place + 1} {call['process']} {name} {call_text(call)} = {shown(reply)}{mark}\n"
+        if place >= before:
+            out += f"{place + 1} {call['process']} {name} {call_text(call)} = {shown(replies[c])}{mark}\n"
     left = [c for c in range(len(calls)) if c not in run]
     minimal = [c for c in left if not any(precedes(calls[a], calls[c]) for a in left)]
     keys = {calls[c]["args"][0] for c in minimal} if kind == "map" else set()
@@ -251,7 +315,7 @@ def explained(text):
         call = calls[c]
         answer = step(kind, state, call["process"], call["op"], call["args"])
         would = "it cannot be done here" if answer is None else f"here it would be {shown(answer[1])}"
-        out += f"next {call['process']} {name} {call_text(call)}{recorded(call)}: {would}\n" + known(kind, c, calls, run)
+        out += f"next {call['process']} {name} {call_text(call)}{recorded(call)}: {would}\n" + known(kind, c, calls, run, state, replies)
     return out
 
 
@@ -312,6 +376,14 @@ CASES = {
         ["", "1 enq 5", " \t", "1 = ok", '{"event":"object","object":"x","kind":"register"}', "2 deq", "", "2 = 5",
          '{"event":"call","process":9,"object":"x","op":"read"}', "3 deq", "4 enq 6", "", "3 = 5", "1 deq"],
         line_end="\r\n"),
+    "queue_item_that_a_pending_call_took": history(
+        "queue", ["1 enq 1", "1 = ok", "1 enq 2", "1 = ok", "2 deq", "3 deq", "3 = 2", "4 deq", "4 = 1"]),
+    "stack_pop_that_found_nothing": history("stack", ["1 push 1", "1 = ok", "1 push 2", "1 = ok", "2 pop", "2 = null"]),
+    "set_member_that_was_not_found": history("set", ["1 add 4", "1 = true", "2 remove 4", "2 = false", "3 add 4", "3 = true"]),
+    "map_key_that_was_not_found": history("map", ["1 put 3 5", "1 = ok", "1 put 4 6", "1 = ok", "2 get 3", "2 = null"]),
+    "map_key_that_was_not_there_to_delete": history("map", ["1 put 3 5", "1 = ok", "1 put 3 6", "1 = ok", "2 delete 3", "2 = false"]),
+    "queue_run_of_sixteen_calls": history("queue", [e for n in range(16) for e in (f"1 enq {n}", "1 = ok")] + ["2 deq", "2 = 99"]),
+    "queue_run_of_seventeen_calls": history("queue", [e for n in range(17) for e in (f"1 enq {n}", "1 = ok")] + ["2 deq", "2 = 99"]),
     "register_written_by_many": history(
         "register", [e for p in range(1, 11) for e in (f"{p} write 5", f"{p} = ok")] + ["1 write 6", "1 = ok", "2 read", "2 = 5"]),
 }
@@ -320,16 +392,21 @@ CASES = {
 def differs(program, text):
     """Whether the program tells otherwise what each object is, or explains the history otherwise, by one worker or by four; an
     explanation of one that is linearizable is passed over."""
-    ran = subprocess.run([program, "--each"], input=text.encode(), capture_output=True)
-    if (ran.stdout.decode(), ran.returncode) != each(text):
-        print(f"differs, each:\n{text}---\n{ran.stdout.decode()}---\n{each(text)[0]}", end="")
-        return True
+    for options in ([], ["--explain"]):
+        ran = subprocess.run([program, "--each", *options], input=text.encode(), capture_output=True)
+        answer = ran.stdout.decode()
+        wanted = each(text, answer if options else "")
+        if (answer, ran.returncode) != wanted:
+            print(f"differs, each:\n{text}---\n{answer}---\n{wanted[0]}", end="")
+            return True
     if refuted(read(text)) is None:
         return False
     for workers in ("1", "4"):
         ran = subprocess.run([program, "--explain", "--workers", workers], input=text.encode(), capture_output=True)
-        if ran.stdout.decode() != explained(text):
-            print(f"differs, {workers} workers:\n{text}---\n{ran.stdout.decode()}---\n{explained(text)}", end="")
+        answer = ran.stdout.decode()
+        wanted = explained(text, core_lines(answer))
+        if answer != wanted:
+            print(f"differs, {workers} workers:\n{text}---\n{answer}---\n{wanted}", end="")
             return True
     return False
 
@@ -406,14 +483,23 @@ def random_history(seed):
     return history(kind, events, None, True, choose.choice(["\n", "\r\n"]))
 
 
-def write(folder):
+def write(folder, program):
     for name, text in CASES.items():
+        answer = subprocess.run([program, "--explain"], input=text.encode(), capture_output=True).stdout.decode()
         for workers in (1, 4):
             base = Path(folder) / f"explained_{name}_by_{workers}"
             base.with_suffix(".jsonl").write_bytes(text.encode())
-            base.with_suffix(".answer").write_text(explained(text))
+            base.with_suffix(".answer").write_text(explained(text, core_lines(answer)))
             base.with_suffix(".status").write_text("1\n")
             base.with_suffix(".options").write_text(f"--workers {workers}\n--explain\n")
+    for name, text in OF_EACH.items():
+        answer = subprocess.run([program, "--each", "--explain"], input=text.encode(), capture_output=True).stdout.decode()
+        base = Path(folder) / f"each_object_explained_{name}"
+        told, status = each(text, answer)
+        base.with_suffix(".jsonl").write_text(text)
+        base.with_suffix(".answer").write_text(told)
+        base.with_suffix(".status").write_text(f"{status}\n")
+        base.with_suffix(".options").write_text("--each\n--explain\n")
     for name, text in (OF_EACH | WITHIN_3).items():
         base = Path(folder) / f"each_object_{name}"
         answer, status = within_3(text) if name in WITHIN_3 else each(text)
@@ -425,7 +511,7 @@ def write(folder):
 
 def main():
     if sys.argv[1:2] == ["--write"]:
-        write(sys.argv[2])
+        write(*sys.argv[2:4])
     elif sys.argv[1:2] == ["--compare"]:
         texts = (Path(file).read_bytes().decode() for file in sys.argv[3:])
         sys.exit(1 if compare(sys.argv[2], texts) else 0)

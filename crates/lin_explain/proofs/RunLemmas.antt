@@ -26,7 +26,8 @@ use Rattle.lin_explain.specs.declared.explanation.Explanation.{Explanation}
 use Rattle.lin_explain.specs.declared.explanation.NextCall.{NextCall}
 use Rattle.lin_explain.specs.Explanation.{judged_problem, IsExplanation}
 use Rattle.lin_explain.specs.ExplanationText.{explanation_text}
-use Rattle.lin_explain.specs.RunExplained.{number_at, number_in, object_name, IsExplainedBy}
+use Rattle.lin_explain.specs.RunReplies.{number_at, number_in, replies_of}
+use Rattle.lin_explain.specs.RunExplained.{object_name, numbers_of, IsExplainedBy}
 
 -- ---- numbers
 
@@ -111,17 +112,19 @@ name_is o d e = rw e refl
 
 module _ {Object : Type 0} (h : RecordedHistory) (object : ℕ) (p : ProblemParts Object ObjState Op Reply) (part : judged_problem p ≡ part_of h object) (calls : p.calls ≡ part_calls h object) where
   -- the lines of an explanation of a run of the problem
-  pub lines_are : (name order run lines : List ℕ) (e : Explanation) → name ≡ object_name h object → order ≡ run → IsExplanation (judged_problem p) order e → IsExplainedBy h object run lines (explanation_text name p.calls order lines e.state e.next.items)
-  lines_are name order run lines e named same explained = record {
+  pub lines_are : (name order : List ℕ) (run : List (Placed Reply)) (replies : List (Option Reply)) (lines : List ℕ) (e : Explanation) → name ≡ object_name h object → order ≡ numbers_of h run → replies ≡ replies_of h p.calls run → IsExplanation (judged_problem p) order e
+      → IsExplainedBy h object run lines (explanation_text name p.calls replies order lines e.state e.next.items)
+  lines_are name order run replies lines e named same replied explained = record {
     state = e.state;
     after = here.state;
     calls = here.calls;
     next = here.are;
-    are = ap (λ (n : List ℕ). explanation_text n p.calls order lines e.state e.next.items) named
-        ∙ ap (λ (l : List (ProblemCall Op Reply)). explanation_text (object_name h object) l order lines e.state e.next.items) calls
-        ∙ ap (λ (r : List ℕ). explanation_text (object_name h object) (part_calls h object) r lines e.state e.next.items) same
-        ∙ ap (λ (n : List NextCall). explanation_text (object_name h object) (part_calls h object) run lines e.state n) here.next;
+    are = texts_same named calls (replied ∙ ap (λ (l : List (ProblemCall Op Reply)). replies_of h l run) calls) same lines e.state here.next;
   }
     where
-      here : IsExplanation (part_of h object) run e
-      here = subst (λ (q : Problem ObjState Op Reply). IsExplanation q run e) part (subst (λ (r : List ℕ). IsExplanation (judged_problem p) r e) same explained)
+      here : IsExplanation (part_of h object) (numbers_of h run) e
+      here = subst (λ (q : Problem ObjState Op Reply). IsExplanation q (numbers_of h run) e) part (subst (λ (r : List ℕ). IsExplanation (judged_problem p) r e) same explained)
+
+      texts_same : {name name' : List ℕ} {l l' : List (ProblemCall Op Reply)} {replies replies' : List (Option Reply)} {run run' : List ℕ} {n n' : List NextCall} → name ≡ name' → l ≡ l' → replies ≡ replies' → run ≡ run' → (lines : List ℕ) (s : ObjState) → n ≡ n'
+          → explanation_text name l replies run lines s n ≡ explanation_text name' l' replies' run' lines s n'
+      texts_same a b c d lines s f = rw (a, b, c, d, f) refl

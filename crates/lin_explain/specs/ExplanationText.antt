@@ -55,16 +55,16 @@ next_line_of name lines answer None = []
 next_line_of name lines answer (Some call) = next_line name lines call answer
 
 -- The lines of a call that could come next after the run: what it would answer, and below it what is known of it.
-abbrev pub lines_of : List ℕ → List (ProblemCall Op Reply) → List ℕ → List ℕ → NextCall → List ℕ
-lines_of name calls run lines next =
-    next_line_of name lines next.answer (slice_get calls next.call) ++ known_text_of calls run lines next.call (slice_get calls next.call)
+abbrev pub lines_of : List ℕ → List (ProblemCall Op Reply) → List (Option Reply) → List ℕ → List ℕ → ObjState → NextCall → List ℕ
+lines_of name calls replies run lines state next =
+    next_line_of name lines next.answer (slice_get calls next.call) ++ known_text_of calls replies run lines state next.call (slice_get calls next.call)
 
 -- The lines of the calls that could come next after the run.
-abbrev pub next_lines : List ℕ → List (ProblemCall Op Reply) → List ℕ → List ℕ → List NextCall → List ℕ
-next_lines name calls run lines [] = []
-next_lines name calls run lines (n ∷ ns) = lines_of name calls run lines n ++ next_lines name calls run lines ns
+abbrev pub next_lines : List ℕ → List (ProblemCall Op Reply) → List (Option Reply) → List ℕ → List ℕ → ObjState → List NextCall → List ℕ
+next_lines name calls replies run lines state [] = []
+next_lines name calls replies run lines state (n ∷ ns) = lines_of name calls replies run lines state n ++ next_lines name calls replies run lines state ns
 
 -- The state after the run, of a map with the keys that the next calls ask for alone, and the calls that could come next, where
--- the events are on these lines.
-abbrev pub explanation_text : List ℕ → List (ProblemCall Op Reply) → List ℕ → List ℕ → ObjState → List NextCall → List ℕ
-explanation_text name calls run lines state next = state_line name (keys_with calls [] next) state ++ next_lines name calls run lines next
+-- the calls have these replies and the events are on these lines.
+abbrev pub explanation_text : List ℕ → List (ProblemCall Op Reply) → List (Option Reply) → List ℕ → List ℕ → ObjState → List NextCall → List ℕ
+explanation_text name calls replies run lines state next = state_line name (keys_with calls [] next) state ++ next_lines name calls replies run lines state next

@@ -4,4 +4,6 @@ pub mod StateText
 pub mod ExplanationText
 pub mod Touching
 pub mod TouchingText
+pub mod RunReplies
 pub mod RunExplained
+pub mod CoreText

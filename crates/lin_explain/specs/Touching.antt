@@ -1,10 +1,14 @@
 -- The calls that put or took the value that a call asks for, and the call since which a mutex is held (this project's own).
-use Rattle.std.specs.Prelude.{ℕ, ◌+◌, ◌==◌, ℤ, ◌&&◌, Bool, true, false, Option, Some, None, List, [], ◌∷◌, slice_get, if◌then◌else◌}
+use Rattle.std.specs.Prelude.{ℕ, ◌+◌, ◌==◌, ℤ, ◌&&◌, Bool, true, false, Option, Some, None, unwrap_or, List, [], ◌∷◌, slice_get, if◌then◌else◌}
+use Rattle.std.specs.Option.{option_map, option_or}
 use Rattle.std.specs.Ordering.{int_eq}
 use Rattle.lin_object.specs.declared.op.Op.{Op}
 use Rattle.lin_object.specs.declared.op.Op.TheVariants as ops
 use Rattle.lin_object.specs.declared.reply.Reply.{Reply}
-use Rattle.lin_object.specs.declared.reply.Reply.TheVariants.{Int, Flag}
+use Rattle.lin_object.specs.declared.reply.Reply.TheVariants.{Int, Flag, Empty}
+use Rattle.lin_object.specs.declared.state.ObjState.{ObjState}
+use Rattle.lin_object.specs.declared.state.ObjState.TheVariants.{Queue, Stack, Map}
+use Rattle.lin_object.specs.Pairs.{value_at}
 use Rattle.lin_history.specs.declared.problems.problem.ProblemCall.{ProblemCall}
 use Rattle.lin_explain.specs.declared.touching.Asked.{Asked}
 use Rattle.lin_explain.specs.declared.touching.Asked.TheVariants.{Item, Value, Member, Entry}
@@ -17,9 +21,9 @@ abbrev pub reply_may_change : Reply → Bool
 reply_may_change (Flag false) = false
 reply_may_change reply = true
 
-abbrev pub may_change : Option (ℕ × Reply) → Bool
+abbrev pub may_change : Option Reply → Bool
 may_change None = true
-may_change (Some returned) = reply_may_change returned.1
+may_change (Some reply) = reply_may_change reply
 
 -- What a call asks for that replied so: an item, a value of a register, the value of a key.
 abbrev pub item_in : Reply → Option Asked
@@ -47,6 +51,29 @@ asked_of ops.Read (Some returned) = value_in returned.1
 asked_of (ops.Lookup key) (Some returned) = entry_in key returned.1
 asked_of op returned = None
 
+-- The reply says that nothing was there: no value, or no.
+abbrev pub is_nothing : Reply → Bool
+is_nothing Empty = true
+is_nothing (Flag false) = true
+is_nothing reply = false
+
+abbrev pub found_nothing : Option (ℕ × Reply) → Bool
+found_nothing None = false
+found_nothing (Some returned) = is_nothing returned.1
+
+-- What a call finds in this state: the item in front of a queue or on top of a stack, the value of a key. None where nothing is
+-- there, and for other operations.
+abbrev pub there_for : ObjState → Op → Option Asked
+there_for (Queue items) ops.Dequeue = option_map Item (slice_get items 0)
+there_for (Stack items) ops.Pop = option_map Item (slice_get items 0)
+there_for (Map pairs) (ops.Lookup key) = option_map (Entry key) (value_at key pairs)
+there_for (Map pairs) (ops.Delete key) = option_map (Entry key) (value_at key pairs)
+there_for state op = None
+
+-- What a call asks for in this state: what its operation and its reply name; where it found nothing, what it should have found.
+abbrev pub asked_in : ObjState → Op → Option (ℕ × Reply) → Option Asked
+asked_in state op returned = option_or (asked_of op returned) (if found_nothing returned then there_for state op else None)
+
 -- This, where the condition holds.
 abbrev pub touch_if : Bool → Touch → Option Touch
 touch_if holds touch = if holds then Some touch else None
@@ -56,37 +83,42 @@ abbrev pub reply_touch : ℤ → Reply → Option Touch
 reply_touch item (Int other) = touch_if (int_eq other item) Took
 reply_touch item reply = None
 
-abbrev pub item_touch : ℤ → Option (ℕ × Reply) → Option Touch
+abbrev pub item_touch : ℤ → Option Reply → Option Touch
 item_touch item None = None
-item_touch item (Some returned) = reply_touch item returned.1
+item_touch item (Some reply) = reply_touch item reply
 
--- What a call did with what is asked for: it put it there, or took it away.
-abbrev pub touch_of : Asked → Op → Option (ℕ × Reply) → Option Touch
-touch_of (Item item) (ops.Enqueue other) returned = touch_if (int_eq other item) Put
-touch_of (Item item) (ops.Push other) returned = touch_if (int_eq other item) Put
-touch_of (Item item) ops.Dequeue returned = item_touch item returned
-touch_of (Item item) ops.Pop returned = item_touch item returned
-touch_of (Value value) (ops.Write other) returned = touch_if (int_eq other value) Put
-touch_of (Value value) (ops.Cas old other) returned = touch_if (int_eq other value && may_change returned) Put
-touch_of (Member member) (ops.Insert other) returned = touch_if (int_eq other member && may_change returned) Put
-touch_of (Member member) (ops.Remove other) returned = touch_if (int_eq other member && may_change returned) Took
-touch_of (Entry key value) (ops.Put other put) returned = touch_if (int_eq other key && int_eq put value) Put
-touch_of (Entry key value) (ops.Delete other) returned = touch_if (int_eq other key && may_change returned) Took
-touch_of asked op returned = None
+-- What a call that has this reply, or none, did with what is asked for: it put it there, or took it away.
+abbrev pub touch_of : Asked → Op → Option Reply → Option Touch
+touch_of (Item item) (ops.Enqueue other) reply = touch_if (int_eq other item) Put
+touch_of (Item item) (ops.Push other) reply = touch_if (int_eq other item) Put
+touch_of (Item item) ops.Dequeue reply = item_touch item reply
+touch_of (Item item) ops.Pop reply = item_touch item reply
+touch_of (Value value) (ops.Write other) reply = touch_if (int_eq other value) Put
+touch_of (Value value) (ops.Cas old other) reply = touch_if (int_eq other value && may_change reply) Put
+touch_of (Member member) (ops.Insert other) reply = touch_if (int_eq other member && may_change reply) Put
+touch_of (Member member) (ops.Remove other) reply = touch_if (int_eq other member && may_change reply) Took
+touch_of (Entry key value) (ops.Put other put) reply = touch_if (int_eq other key && int_eq put value) Put
+touch_of (Entry key value) (ops.Delete other) reply = touch_if (int_eq other key && may_change reply) Took
+touch_of asked op reply = None
 
--- The same of the call of this number. A call is not told of itself.
-abbrev pub touch_in : Asked → ℕ → ℕ → ProblemCall Op Reply → Option Touch
-touch_in asked asker number call = if number == asker then None else touch_of asked call.op call.returned
+-- The reply of the call of this number, where the calls have these.
+abbrev pub reply_at : List (Option Reply) → ℕ → Option Reply
+reply_at replies number = unwrap_or (slice_get replies number) None
+
+-- What the call of this number did. A call is not told of itself.
+abbrev pub touch_in : Asked → ℕ → ℕ → Op → Option Reply → Option Touch
+touch_in asked asker number op reply = if number == asker then None else touch_of asked op reply
 
 -- The call of this number, where it did something, before others.
 abbrev pub with_touch : ℕ → Option Touch → List Touching → List Touching
 with_touch number None others = others
 with_touch number (Some touch) others = (record { call = number; touch = touch }) ∷ others
 
--- Of these calls, of which the first has number n, those that put or took what call `asker` asks for.
-abbrev pub touches_from : Asked → ℕ → ℕ → List (ProblemCall Op Reply) → List Touching
-touches_from asked asker n [] = []
-touches_from asked asker n (c ∷ cs) = with_touch n (touch_in asked asker n c) (touches_from asked asker (n + 1) cs)
+-- Of these calls, of which the first has number n, those that put or took what call `asker` asks for, where the calls have these
+-- replies.
+abbrev pub touches_from : List (Option Reply) → Asked → ℕ → ℕ → List (ProblemCall Op Reply) → List Touching
+touches_from replies asked asker n [] = []
+touches_from replies asked asker n (c ∷ cs) = with_touch n (touch_in asked asker n c.op (reply_at replies n)) (touches_from replies asked asker (n + 1) cs)
 
 -- The call since which a mutex is held after a call, where it was held since this one before.
 abbrev pub held_with : Option ℕ → ℕ → Op → Option ℕ

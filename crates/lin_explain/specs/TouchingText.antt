@@ -6,6 +6,7 @@ use Rattle.std.specs.Fmt.{decimal, signed_decimal}
 use Rattle.lin_object.specs.declared.op.Op.{Op}
 use Rattle.lin_object.specs.declared.op.Op.TheVariants.{Lock, Unlock, TryLock}
 use Rattle.lin_object.specs.declared.reply.Reply.{Reply}
+use Rattle.lin_object.specs.declared.state.ObjState.{ObjState}
 use Rattle.lin_object.specs.PrintedForms.{op_text, reply_text}
 use Rattle.lin_history.specs.declared.problems.problem.ProblemCall.{ProblemCall}
 use Rattle.lin_explain.specs.declared.touching.Asked.{Asked}
@@ -14,7 +15,7 @@ use Rattle.lin_explain.specs.declared.touching.Touch.{Touch}
 use Rattle.lin_explain.specs.declared.touching.Touch.TheVariants.{Put, Took}
 use Rattle.lin_explain.specs.declared.touching.Touching.{Touching}
 use Rattle.lin_explain.specs.declared.touching_text.TheConstants.{MAX_TOUCHING}
-use Rattle.lin_explain.specs.Touching.{asked_of, touches_from, held_after}
+use Rattle.lin_explain.specs.Touching.{asked_in, touches_from, held_after}
 
 -- The line of the input on which an event is, whose number counts from 1; 0 where none is known.
 abbrev pub line_of : List ℕ → ℕ → ℕ
@@ -88,9 +89,9 @@ abbrev pub touches_text : List (ProblemCall Op Reply) → List ℕ → List ℕ 
 touches_text calls run lines asked found = no_put_lines asked found ++ touch_lines calls run lines (take MAX_TOUCHING found) ++ more_line (length found)
 
 -- The same of what call `asker` asks for; nothing where it asks for no value.
-abbrev pub asked_text : List (ProblemCall Op Reply) → List ℕ → List ℕ → ℕ → Option Asked → List ℕ
-asked_text calls run lines asker None = []
-asked_text calls run lines asker (Some asked) = touches_text calls run lines asked (touches_from asked asker 0 calls)
+abbrev pub asked_text : List (ProblemCall Op Reply) → List (Option Reply) → List ℕ → List ℕ → ℕ → Option Asked → List ℕ
+asked_text calls replies run lines asker None = []
+asked_text calls replies run lines asker (Some asked) = touches_text calls run lines asked (touches_from replies asked asker 0 calls)
 
 -- The line of the call since which a mutex is held after the run; nothing where it is free.
 abbrev pub held_line : List (ProblemCall Op Reply) → List ℕ → List ℕ → Option ℕ → List ℕ
@@ -107,12 +108,12 @@ holder_text calls run lines Unlock = held_text calls run lines
 holder_text calls run lines TryLock = held_text calls run lines
 holder_text calls run lines op = []
 
--- What is known of a call that could come next after the run, which has this number: which calls put or took the value that it
--- asks for, or since which call the mutex is held.
-abbrev pub known_text : List (ProblemCall Op Reply) → List ℕ → List ℕ → ℕ → ProblemCall Op Reply → List ℕ
-known_text calls run lines number call = asked_text calls run lines number (asked_of call.op call.returned) ++ holder_text calls run lines call.op
+-- What is known of a call that could come next after the run, which leads to this state and which has this number: which calls
+-- put or took the value that it asks for or should have found, or since which call the mutex is held.
+abbrev pub known_text : List (ProblemCall Op Reply) → List (Option Reply) → List ℕ → List ℕ → ObjState → ℕ → ProblemCall Op Reply → List ℕ
+known_text calls replies run lines state number call = asked_text calls replies run lines number (asked_in state call.op call.returned) ++ holder_text calls run lines call.op
 
 -- The same, where it is a call.
-abbrev pub known_text_of : List (ProblemCall Op Reply) → List ℕ → List ℕ → ℕ → Option (ProblemCall Op Reply) → List ℕ
-known_text_of calls run lines number None = []
-known_text_of calls run lines number (Some call) = known_text calls run lines number call
+abbrev pub known_text_of : List (ProblemCall Op Reply) → List (Option Reply) → List ℕ → List ℕ → ObjState → ℕ → Option (ProblemCall Op Reply) → List ℕ
+known_text_of calls replies run lines state number None = []
+known_text_of calls replies run lines state number (Some call) = known_text calls replies run lines state number call

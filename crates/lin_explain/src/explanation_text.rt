@@ -2,15 +2,15 @@
 ghost use Rattle.std.specs.Prelude.{◌≡◌, ◌++◌, [], slice_get, string_bytes, IfOk, OnOk};
 ghost use Rattle.lin_explain.specs.ExplanationText.{key_of, with_key, with_asked, keys_with, answer_text, state_line, next_line, next_line_of, lines_of, next_lines, explanation_text};
 
-use crate::explanation::{Explanation, NextCall};
+use crate::explanation::NextCall;
 use crate::state_text::{items_in, write_state};
 use crate::touching_text::{ShownRun, write_known_of, write_recorded};
 use lin_history::ProblemCall;
 use lin_object::{Items, ObjState, Op, Reply};
 use std::alloc::{AllocError, Global};
 
-// The key that an operation on a map asks for; none of another kind's operations.
-fn key_of(op: &Op) -> Option<i64>
+/// The key that an operation on a map asks for; none of another kind's operations.
+pub(crate) fn key_of(op: &Op) -> Option<i64>
     ensures { result ≡ key_of op.now }
 {
     match op {
@@ -129,7 +129,8 @@ fn write_lines_of(
     next: &NextCall,
 ) -> Result<(), AllocError>
     ensures { OnOk result (string_bytes out.new
-        ≡ string_bytes out.old ++ lines_of name.now shown.now.calls.now shown.now.run.now shown.now.lines.now next.now) }
+        ≡ string_bytes out.old ++ lines_of name.now shown.now.calls.now shown.now.replies.now shown.now.run.now
+        shown.now.lines.now shown.now.state.now next.now) }
 {
     write_next_of(out, name, shown, next)?;
     write_known_of(alloc, out, shown, next.call)
@@ -144,7 +145,8 @@ fn write_next_lines(
     next: &[NextCall],
 ) -> Result<(), AllocError>
     ensures { OnOk result (string_bytes out.new
-        ≡ string_bytes out.old ++ next_lines name.now shown.now.calls.now shown.now.run.now shown.now.lines.now next.now) }
+        ≡ string_bytes out.old ++ next_lines name.now shown.now.calls.now shown.now.replies.now shown.now.run.now
+        shown.now.lines.now shown.now.state.now next.now) }
 {
     for one in next {
         write_lines_of(alloc, out, name, shown, one)?;
@@ -154,22 +156,21 @@ fn write_next_lines(
 
 /// Appends the lines that say why a run ends of calls on the object of this name: the state after it, of a map with the keys
 /// that the next calls ask for alone; and each call that could come next, with what is recorded of it and with what it would
-/// answer; below it the calls that put or took the value that it asks for, or the call since which a mutex is held. Each call
-/// has the lines of the input on which its events are.
+/// answer; below it the calls that put or took the value that it asks for or should have found, or the call since which a mutex is
+/// held. Each call has the lines of the input on which its events are.
 /// `AllocError` where memory was refused.
 pub fn write_explanation(
     alloc: Global,
     out: &mut String,
     name: &str,
     shown: &ShownRun<'_>,
-    explanation: &Explanation,
+    next: &[NextCall],
 ) -> Result<(), AllocError>
     ensures { OnOk result (string_bytes out.new
-        ≡ string_bytes out.old ++ explanation_text name.now shown.now.calls.now shown.now.run.now
-        shown.now.lines.now explanation.now.state explanation.now.next.items) }
+        ≡ string_bytes out.old ++ explanation_text name.now shown.now.calls.now shown.now.replies.now shown.now.run.now
+        shown.now.lines.now shown.now.state.now next.now) }
 {
-    let next = explanation.next.as_slice();
     let keys = asked_keys(alloc, shown.calls, next)?;
-    write_state_line(alloc, out, name, keys.as_slice(), &explanation.state)?;
+    write_state_line(alloc, out, name, keys.as_slice(), shown.state)?;
     write_next_lines(alloc, out, name, shown, next)
 }

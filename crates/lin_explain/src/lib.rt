@@ -6,8 +6,10 @@
 //! - `state_text`, `touching_text`: how a state and such calls are shown.
 //! - `explanation_text`: how an explanation is shown.
 //! - `run_explained`: the same of the run of an object of a history.
+//! - `core_text`: how calls are shown that alone have no order.
 #![tactic(auto)]
 
+mod core_text;
 mod explanation;
 mod explanation_text;
 mod next_calls;
@@ -16,6 +18,7 @@ mod state_text;
 mod touching;
 mod touching_text;
 
+pub use core_text::{CoreCall, write_core};
 pub use explanation::{Explanation, NextCall, explain};
 pub use explanation_text::write_explanation;
 pub use run_explained::write_run_explained;

@@ -1,9 +1,11 @@
 //! The calls that put or took the value that a call asks for, and the call since which a mutex is held.
 ghost use Rattle.std.specs.Prelude.{◌≡◌, ℕ, Some, None, slice_get, IfOk};
-ghost use Rattle.lin_explain.specs.Touching.{may_change, asked_of, item_touch, touch_if, touch_of, touch_in, touches_from, held_with, held_at, held_after};
+ghost use Rattle.std.specs.Option.{option_map};
+ghost use Rattle.lin_object.specs.Pairs.{value_at};
+ghost use Rattle.lin_explain.specs.Touching.{may_change, asked_of, found_nothing, there_for, asked_in, item_touch, touch_if, touch_of, reply_at, touch_in, touches_from, held_with, held_at, held_after};
 
 use lin_history::ProblemCall;
-use lin_object::{Op, Reply};
+use lin_object::{Items, ObjState, Op, Pairs, Reply};
 use std::alloc::{AllocError, Global};
 
 /// What a call asks for, by its operation and its recorded reply.
@@ -38,14 +40,14 @@ pub(crate) struct Touching {
 }
 
 // Whether the call did not answer that it changed nothing.
-fn may_change(returned: &Option<(u32, Reply)>) -> bool
-    ensures { result ≡ may_change returned.now }
+fn may_change(reply: Option<Reply>) -> bool
+    ensures { result ≡ may_change reply }
 {
-    !matches!(returned, Some((_, Reply::Flag(false))))
+    !matches!(reply, Some(Reply::Flag(false)))
 }
 
-/// What the call asks for; `None` where it asks for no value.
-pub(crate) fn asked_of(op: &Op, returned: &Option<(u32, Reply)>) -> Option<Asked>
+// What the call asks for; `None` where it asks for no value.
+fn asked_of(op: &Op, returned: &Option<(u32, Reply)>) -> Option<Asked>
     ensures { result ≡ asked_of op.now returned.now }
 {
     match (op, returned) {
@@ -61,12 +63,67 @@ pub(crate) fn asked_of(op: &Op, returned: &Option<(u32, Reply)>) -> Option<Asked
     }
 }
 
-// What a call that takes an item did with this one.
-fn item_touch(item: i64, returned: &Option<(u32, Reply)>) -> Option<Touch>
-    ensures { result ≡ item_touch item returned.now }
+// Whether the call replied that nothing was there.
+fn found_nothing(returned: &Option<(u32, Reply)>) -> bool
+    ensures { result ≡ found_nothing returned.now }
 {
     match returned {
-        Some((_, Reply::Int(other))) if *other == item => Some(Touch::Took),
+        Some((_, Reply::Empty)) => true,
+        Some((_, Reply::Flag(flag))) => !*flag,
+        _ => false,
+    }
+}
+
+// The value of this key.
+fn value_there(pairs: &Pairs, key: i64) -> Option<Asked>
+    ensures { result ≡ option_map (Asked.Entry key) (value_at key pairs.now) }
+{
+    match pairs.value_at(key) {
+        Some(value) => Some(Asked::Entry(key, value)),
+        None => None,
+    }
+}
+
+// The first of these items.
+fn first_there(items: &Items) -> Option<Asked>
+    ensures { result ≡ option_map Asked.Item (slice_get items.now 0) }
+{
+    match items.first() {
+        Some(item) => Some(Asked::Item(item)),
+        None => None,
+    }
+}
+
+// What the call finds in this state; `None` where nothing is there.
+fn there_for(state: &ObjState, op: &Op) -> Option<Asked>
+    ensures { result ≡ there_for state.now op.now }
+{
+    match (state, op) {
+        (ObjState::Queue(items), Op::Dequeue) => first_there(items),
+        (ObjState::Stack(items), Op::Pop) => first_there(items),
+        (ObjState::Map(pairs), Op::Lookup(key)) => value_there(pairs, *key),
+        (ObjState::Map(pairs), Op::Delete(key)) => value_there(pairs, *key),
+        _ => None,
+    }
+}
+
+/// What the call asks for in this state; where it found nothing, what it should have found. `None` where it asks for no value.
+pub(crate) fn asked_in(state: &ObjState, op: &Op, returned: &Option<(u32, Reply)>) -> Option<Asked>
+    ensures { result ≡ asked_in state.now op.now returned.now }
+{
+    match asked_of(op, returned) {
+        Some(asked) => Some(asked),
+        None if found_nothing(returned) => there_for(state, op),
+        None => None,
+    }
+}
+
+// What a call that takes an item and has this reply did with this one.
+fn item_touch(item: i64, reply: Option<Reply>) -> Option<Touch>
+    ensures { result ≡ item_touch item reply }
+{
+    match reply {
+        Some(Reply::Int(other)) if other == item => Some(Touch::Took),
         _ => None,
     }
 }
@@ -78,33 +135,40 @@ fn touch_if(holds: bool, touch: Touch) -> Option<Touch>
     if holds { Some(touch) } else { None }
 }
 
-// What the call did with what is asked for.
-fn touch_of(asked: Asked, op: &Op, returned: &Option<(u32, Reply)>) -> Option<Touch>
-    ensures { result ≡ touch_of asked op.now returned.now }
+// What a call that has this reply, or none, did with what is asked for.
+fn touch_of(asked: Asked, op: &Op, reply: Option<Reply>) -> Option<Touch>
+    ensures { result ≡ touch_of asked op.now reply }
 {
     match (asked, op) {
         (Asked::Item(item), Op::Enqueue(other)) => touch_if(*other == item, Touch::Put),
         (Asked::Item(item), Op::Push(other)) => touch_if(*other == item, Touch::Put),
-        (Asked::Item(item), Op::Dequeue) => item_touch(item, returned),
-        (Asked::Item(item), Op::Pop) => item_touch(item, returned),
+        (Asked::Item(item), Op::Dequeue) => item_touch(item, reply),
+        (Asked::Item(item), Op::Pop) => item_touch(item, reply),
         (Asked::Value(value), Op::Write(other)) => touch_if(*other == value, Touch::Put),
         (Asked::Value(value), Op::Cas(_, other)) => {
-            touch_if(*other == value && may_change(returned), Touch::Put)
+            touch_if(*other == value && may_change(reply), Touch::Put)
         }
         (Asked::Member(member), Op::Insert(other)) => {
-            touch_if(*other == member && may_change(returned), Touch::Put)
+            touch_if(*other == member && may_change(reply), Touch::Put)
         }
         (Asked::Member(member), Op::Remove(other)) => {
-            touch_if(*other == member && may_change(returned), Touch::Took)
+            touch_if(*other == member && may_change(reply), Touch::Took)
         }
         (Asked::Entry(key, value), Op::Put(other, put)) => {
             touch_if(*other == key && *put == value, Touch::Put)
         }
         (Asked::Entry(key, _), Op::Delete(other)) => {
-            touch_if(*other == key && may_change(returned), Touch::Took)
+            touch_if(*other == key && may_change(reply), Touch::Took)
         }
         _ => None,
     }
+}
+
+// The reply of the call of this number, where the calls have these.
+fn reply_at(replies: &[Option<Reply>], number: usize) -> Option<Reply>
+    ensures { result ≡ reply_at replies.now number }
+{
+    replies.get(number).copied().unwrap_or(None)
 }
 
 // What the call of this number did with what call `asker` asks for. A call is not told of itself.
@@ -112,29 +176,32 @@ fn touch_in(
     asked: Asked,
     asker: usize,
     number: usize,
-    call: &ProblemCall<Op, Reply>,
+    op: &Op,
+    reply: Option<Reply>,
 ) -> Option<Touch>
-    ensures { result ≡ touch_in asked asker number call.now }
+    ensures { result ≡ touch_in asked asker number op.now reply }
 {
     if number == asker {
         None
     } else {
-        touch_of(asked, &call.op, &call.returned)
+        touch_of(asked, op, reply)
     }
 }
 
-/// The calls that put or took what call `asker` asks for, in order of their numbers.
+/// The calls that put or took what call `asker` asks for, in order of their numbers, where the calls have these replies.
 pub(crate) fn touches(
     alloc: Global,
     calls: &[ProblemCall<Op, Reply>],
+    replies: &[Option<Reply>],
     asked: Asked,
     asker: usize,
 ) -> Result<Vec<Touching>, AllocError>
-    ensures { IfOk result (λ found. found.items ≡ touches_from asked asker 0 calls.now) }
+    ensures { IfOk result (λ found. found.items ≡ touches_from replies.now asked asker 0 calls.now) }
 {
     let mut found = Vec::new(alloc);
     for call in 0..calls.len() {
-        if let Some(touch) = touch_in(asked, asker, call, &calls[call]) {
+        let op = &calls[call].op;
+        if let Some(touch) = touch_in(asked, asker, call, op, reply_at(replies, call)) {
             found.push(Touching { call, touch })?;
         }
     }

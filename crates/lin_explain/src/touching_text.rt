@@ -4,22 +4,26 @@ ghost use Rattle.std.specs.List.{list_any};
 ghost use Rattle.lin_explain.specs.TouchingText.{line_of, recorded_text, place_text, about_line, about_line_of, did_text, is_in_run, is_put, touch_lines, no_pair_line, no_put_line, no_put_lines, more_line, touches_text, asked_text, held_text, holder_text, known_text, known_text_of};
 
 use crate::state_text::front;
-use crate::touching::{Asked, Touch, Touching, asked_of, held_since, touches};
+use crate::touching::{Asked, Touch, Touching, asked_in, held_since, touches};
 use lin_history::ProblemCall;
-use lin_object::{Op, Reply};
+use lin_object::{ObjState, Op, Reply};
 use std::alloc::{AllocError, Global};
 
 /// The most calls that are shown below one that could come next.
 pub const MAX_TOUCHING: usize = 8;
 
-/// A run that is shown: the calls on its object, the run, and the line of the input on which each event is: that of the
-/// event of number n has the index n - 1.
+/// A run that is shown: the calls on its object, the reply of each, the run, the state after it, and the line of the input on which
+/// each event is: that of the event of number n has the index n - 1.
 #[derive(Clone, Copy)]
 pub struct ShownRun<'p> {
     /// The calls on the object.
     pub calls: &'p [ProblemCall<Op, Reply>],
+    /// The reply that each call has in the run, or else the one that is recorded.
+    pub replies: &'p [Option<Reply>],
     /// The numbers of the calls of the run.
     pub run: &'p [usize],
+    /// The state after the run.
+    pub state: &'p ObjState,
     /// The lines of the events.
     pub lines: &'p [u64],
 }
@@ -206,12 +210,12 @@ fn write_asked(
     asked: Option<Asked>,
 ) -> Result<(), AllocError>
     ensures { OnOk result (string_bytes out.new
-        ≡ string_bytes out.old ++ asked_text shown.now.calls.now shown.now.run.now shown.now.lines.now asker asked) }
+        ≡ string_bytes out.old ++ asked_text shown.now.calls.now shown.now.replies.now shown.now.run.now shown.now.lines.now asker asked) }
 {
     let Some(asked) = asked else {
         return Ok(());
     };
-    let found = touches(alloc, shown.calls, asked, asker)?;
+    let found = touches(alloc, shown.calls, shown.replies, asked, asker)?;
     write_touches(out, shown, asked, found.as_slice())
 }
 
@@ -238,7 +242,7 @@ fn write_holder(out: &mut String, shown: &ShownRun<'_>, op: &Op) -> Result<(), A
 }
 
 // Appends what is known of a call that has this number and could come next after the run: which calls put or took the value
-// that it asks for, or since which call the mutex is held.
+// that it asks for or should have found, or since which call the mutex is held.
 fn write_known(
     alloc: Global,
     out: &mut String,
@@ -247,15 +251,11 @@ fn write_known(
     call: &ProblemCall<Op, Reply>,
 ) -> Result<(), AllocError>
     ensures { OnOk result (string_bytes out.new
-        ≡ string_bytes out.old ++ known_text shown.now.calls.now shown.now.run.now shown.now.lines.now number call.now) }
+        ≡ string_bytes out.old ++ known_text shown.now.calls.now shown.now.replies.now shown.now.run.now
+        shown.now.lines.now shown.now.state.now number call.now) }
 {
-    write_asked(
-        alloc,
-        out,
-        shown,
-        number,
-        asked_of(&call.op, &call.returned),
-    )?;
+    let asked = asked_in(shown.state, &call.op, &call.returned);
+    write_asked(alloc, out, shown, number, asked)?;
     write_holder(out, shown, &call.op)
 }
 
@@ -267,7 +267,8 @@ pub(crate) fn write_known_of(
     number: usize,
 ) -> Result<(), AllocError>
     ensures { OnOk result (string_bytes out.new ≡ string_bytes out.old
-        ++ known_text_of shown.now.calls.now shown.now.run.now shown.now.lines.now number (slice_get shown.now.calls.now number)) }
+        ++ known_text_of shown.now.calls.now shown.now.replies.now shown.now.run.now shown.now.lines.now shown.now.state.now
+        number (slice_get shown.now.calls.now number)) }
 {
     match shown.calls.get(number) {
         Some(call) => write_known(alloc, out, shown, number, call),

@@ -19,7 +19,7 @@ use lin_ahead::{
 };
 use lin_history::{Problem, ProblemEvent};
 use lin_object::{AnyObject, lawful};
-use lin_parts::{KeyAnswer, search_by_key};
+use lin_parts::{AtTimes, KeyAnswer, search_by_key};
 use lin_search::{Config, Outcome, OwnMemo, Stop, search};
 use std::alloc::{AllocError, Global};
 
@@ -28,48 +28,15 @@ const FIRST_LIFTS: u64 = 2;
 
 const GROWTH: u64 = 4;
 
+// For so many calls what goes before a search, a few passes over the calls, counts as a lift: else thousands of parts that are refuted
+// without a search would cost nothing.
+const CALLS_FOR_A_LIFT: u64 = 64;
+
 // How often it is made at most. Where only a bound is asked for, seldom: without it more parts are searched, but each of those
 // shows more.
 const ROUNDS: usize = 16;
 
 const ROUNDS_FOR_A_BOUND: usize = 2;
-
-// How many lifts a search makes from one time that the stop is asked to the next.
-const LIFTS_BETWEEN: u32 = 4_096;
-
-// A stop that asks another one at the first of each 4,096 lifts.
-#[derive(Drop)]
-struct AtTimes<'a, S> {
-    stop: &'a mut S,
-    lifts: u32,
-}
-
-impl<'a, S: Stop> AtTimes<'a, S> {
-    // Of a search that begins.
-    fn new(stop: &'a mut S) -> Self {
-        AtTimes { stop, lifts: 0 }
-    }
-}
-
-impl<'a, S: Stop> Stop for AtTimes<'a, S> {
-    ghost tells = { λ s told. Unit {0} };
-
-    ghost follows = { λ old new. Unit {0} };
-
-    fn ask(&mut self) -> Option<u64> {
-        let lifts = self.lifts;
-        self.lifts = lifts.wrapping_add(1);
-        if lifts % LIFTS_BETWEEN == 0 {
-            self.stop.ask()
-        } else {
-            None
-        }
-    }
-
-    ghost unchanged = { λ s. tt };
-
-    ghost chained = { λ a b c first second. tt };
-}
 
 // What a first search shows, with what is known ahead.
 fn first_answer(
@@ -126,7 +93,7 @@ fn answer_by_key<S: Stop>(
 ) -> Result<PartAnswer, AllocError>
     ensures { IfOk result (IsAnswerTo (any_problem part.now)) }
 {
-    match search_by_key(alloc, part, Some(lifts))? {
+    match search_by_key(alloc, part, Some(lifts), stop)? {
         Some(KeyAnswer::Found(order)) => Ok(PartAnswer::Found(order)),
         Some(KeyAnswer::Refuted) => Ok(PartAnswer::Refuted),
         None => full_answer(alloc, part, lifts, stop),
@@ -190,7 +157,7 @@ fn shows_none(
 
 /// Searches of parts of a problem of the seven kinds, each made anew: first searches where something is known ahead, searches by
 /// key of maps and sets, and searches that keep what they refuted for other parts. Each makes no more lifts than are left of
-/// those that were given at the start, where a search by key counts the lifts for each key alone. Where the stop answers, they
+/// those that were given at the start, where what goes before a search counts too, and a search by key counts the lifts for each key alone. Where the stop answers, they
 /// say nothing.
 #[derive(Drop)]
 pub(crate) struct AnewSearch<'a, S> {
@@ -255,7 +222,8 @@ impl<'a, S: Stop> AnewSearch<'a, S> {
     ) -> Result<PartAnswer, AllocError>
         ensures { IfOk result (IsAnswerTo (any_problem part.now)) }
     {
-        if self.stop.ask().is_some() {
+        let passes = 1 + part.len() as u64 / CALLS_FOR_A_LIFT;
+        if self.stop.ask().is_some() || self.take(passes) == 0 {
             return Ok(PartAnswer::Unknown);
         }
         let known = known_ahead(alloc, part)?;

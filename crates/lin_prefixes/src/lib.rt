@@ -25,5 +25,6 @@ mod parts_anew;
 mod whole_answer;
 mod whole_search;
 
+pub use part_answer::PartAnswer;
 pub use whole_answer::WholeAnswer;
-pub use whole_search::search_by_prefixes;
+pub use whole_search::{longest_run_by_prefixes, search_by_prefixes, search_in_rounds};

@@ -91,6 +91,25 @@ pub(crate) fn is_loose_prefix(
     true
 }
 
+// At which place the call is kept, if it is. Mostly few calls are left out, so it stands there or a few places before.
+fn place_of(kept: &[usize], call: usize) -> Option<usize> {
+    let last = *kept.last()?;
+    if call > last {
+        return None;
+    }
+    let left_out = last.saturating_sub(kept.len().saturating_sub(1));
+    for place in call.saturating_sub(left_out)..kept.len() {
+        if kept[place] >= call {
+            return if kept[place] == call {
+                Some(place)
+            } else {
+                None
+            };
+        }
+    }
+    None
+}
+
 // Adds the event of the whole's call, if it is one of those kept and no return from the event `until` on. `false` where it
 // was refused.
 fn add_event(
@@ -107,7 +126,7 @@ fn add_event(
             let Some(made) = problem.calls().get(*call) else {
                 return false;
             };
-            if kept.binary_search(call).is_err() {
+            if place_of(kept, *call).is_none() {
                 return true;
             }
             part.add_call(made.process, made.op, made.called).is_ok()
@@ -116,7 +135,7 @@ fn add_event(
             let Some(made) = problem.calls().get(*call) else {
                 return false;
             };
-            let Ok(index) = kept.binary_search(call) else {
+            let Some(index) = place_of(kept, *call) else {
                 return true;
             };
             match &made.returned {

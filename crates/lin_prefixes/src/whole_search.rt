@@ -2,16 +2,52 @@
 
 ghost use Rattle.std.specs.Prelude.{IfOk, IfSome};
 ghost use Rattle.lin_ahead.specs.AnyProblem.{any_problem};
+ghost use Rattle.lin_history.specs.Problems.Linearizations.{IsRun};
+ghost use Rattle.lin_search.specs.LongestRun.{IsFirstLongest};
+ghost use Rattle.lin_prefixes.specs.PartAnswer.{IsAnswerTo};
 ghost use Rattle.lin_prefixes.specs.WholeAnswer.{IsWholeAnswer};
 
 use crate::anew_search::AnewSearch;
 use crate::by_prefixes::longest_by_prefixes;
 use crate::part_answer::PartAnswer;
 use crate::whole_answer::WholeAnswer;
-use lin_history::Problem;
+use lin_history::{Order, Problem};
 use lin_object::AnyObject;
 use lin_search::Stop;
 use std::alloc::{AllocError, Global};
+
+/// What searches of the problem show that may make so many lifts together, each more than the one before: its least linearization; or
+/// that it has none; or nothing, where that would have taken more lifts, or where the stop answered. The stop is asked before each
+/// search, and before each 4,096th lift of one that keeps what it refuted. `AllocError` where memory was refused.
+pub fn search_in_rounds<S: Stop>(
+    alloc: Global,
+    problem: &Problem<AnyObject>,
+    lifts: u64,
+    stop: &mut S,
+) -> Result<PartAnswer, AllocError>
+    ensures { IfOk result (IsAnswerTo (any_problem problem.now)) }
+{
+    let mut search = AnewSearch::new(alloc, problem, lifts, stop)?;
+    let answer = search.answer_to(alloc, problem)?;
+    Ok(answer)
+}
+
+/// The first of the longest runs of the problem, from searches of smaller problems for their least linearizations. `None` as for
+/// `search_by_prefixes`. It is meant for a problem that is known to have no linearization; of another it takes longer than a search
+/// for that. `AllocError` where memory was refused.
+pub fn longest_run_by_prefixes<S: Stop>(
+    alloc: Global,
+    problem: &Problem<AnyObject>,
+    lifts: u64,
+    stop: &mut S,
+) -> Result<Option<Order>, AllocError>
+    ensures { IfOk result (λ answer. IfSome answer
+        (IsFirstLongest (IsRun (any_problem problem.now)))) }
+{
+    let mut search = AnewSearch::new(alloc, problem, lifts, stop)?;
+    let run = longest_by_prefixes(alloc, problem, &mut search)?;
+    Ok(run)
+}
 
 /// The least linearization of the problem; or, where it has none, the first of its longest runs, from searches of smaller
 /// problems for their least linearizations. `None` where all these searches together would have made more lifts than so

@@ -11,7 +11,7 @@ use Rattle.lin_history.specs.Locality.RecordedWhole.{whole_of, start_at}
 use Rattle.lin_history.specs.Verifier.Flags.{AreKnown}
 use Rattle.lin_workers.specs.Bounds.{Bounds}
 use Rattle.lincheck.specs.declared.verdict.Verdict.{Verdict}
-use Rattle.lincheck.specs.declared.verdict.Verdict.TheVariants.{Yes, No, Undecided}
+use Rattle.lincheck.specs.declared.verdict.Verdict.TheVariants.{Yes, No, NoInTime, Undecided}
 use Rattle.lincheck.specs.Verdict.{IsVerdict, IsOf}
 
 -- the calls of a list are known where its first and the rest are
@@ -35,4 +35,5 @@ placed_known h object s (c ∷ cs) [] p = absurd p
 pub verdict_of : (h : RecordedHistory) (bounds : Bounds) (v : Verdict) → IsVerdict h bounds v → IsOf h v
 verdict_of h bounds (Yes l) v = replayed_known h (start_at h) l v.1.legal
 verdict_of h bounds (No object run) v = (v.0.0.declared, placed_known h object (start_at h object) v.0.1.order run.items v.0.1.placed)
+verdict_of h bounds (NoInTime object) v = v.0.0.declared
 verdict_of h bounds (Undecided object) v = v.declared

@@ -81,9 +81,11 @@ pub fn options_of(lines: &str) -> Option<Options> {
 
 // The form, with what a line says of it.
 fn with_form(form: AnswerForm, line: &str) -> AnswerForm {
-    match line {
-        EXPLAIN => AnswerForm::Explained,
-        EACH => AnswerForm::Each,
+    match (form, line) {
+        (AnswerForm::Each, EXPLAIN) => AnswerForm::EachExplained,
+        (AnswerForm::Explained, EACH) => AnswerForm::EachExplained,
+        (_, EXPLAIN) => AnswerForm::Explained,
+        (_, EACH) => AnswerForm::Each,
         _ => form,
     }
 }

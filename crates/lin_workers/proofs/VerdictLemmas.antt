@@ -11,7 +11,10 @@ use Rattle.lin_search.specs.Size.{IsOneOf, AllDifferent, EachOf, HasMany, HasMor
 use Rattle.lin_search.specs.FirstCallLemmas.{continuation_join}
 use Rattle.lin_search.specs.AlikeLemmas.{AreAlike, turned, like_continuation}
 use Rattle.lin_workers.specs.Cut.{LeadsTo, Task, HasNoneBefore}
-use Rattle.lin_workers.specs.Verdict.{IsNextTask}
+use Rattle.lin_workers.specs.declared.verdict.ObjectVerdict.{ObjectVerdict}
+use Rattle.lin_workers.specs.declared.verdict.ObjectVerdict.TheVariants.{Yes, No, Undecided}
+use Rattle.lin_workers.specs.Bounds.{Bounds, without_time}
+use Rattle.lin_workers.specs.Verdict.{IsNextTask, IsObjectVerdict}
 use Rattle.lin_workers.proofs.RunLemmas.{some_once, joined, root_flags}
 use Rattle.lin_workers.proofs.LevelLemmas.{task_at}
 
@@ -86,3 +89,10 @@ module _ {State Op Reply : Type 0} (p : Problem State Op Reply) where
     where
       order : (j : ℕ) → j < i + 1 → (j < i) ⊎ (j ≡ i)
       order j h = grind arith
+
+  -- a verdict within the limit alone is one within the limit and the time
+  pub with_time : (bounds : Bounds) (v : ObjectVerdict) → IsObjectVerdict p (without_time bounds) v → IsObjectVerdict p bounds v
+  with_time bounds (Yes order) k = k
+  with_time bounds (No run) k = k
+  with_time bounds Undecided (inl timed) = absurd (let none = timed in cc)
+  with_time bounds Undecided (inr over) = inr over

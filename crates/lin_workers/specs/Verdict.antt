@@ -9,7 +9,9 @@ use Rattle.lin_search.specs.Size.{HasMoreThan}
 use Rattle.lin_table.specs.declared.table.TheConstants.{STORED_BOUND}
 use Rattle.lin_workers.specs.declared.verdict.ObjectVerdict.{ObjectVerdict}
 use Rattle.lin_workers.specs.declared.verdict.ObjectVerdict.TheVariants.{Yes, No, Undecided}
-use Rattle.lin_workers.specs.Bounds.{Bounds}
+use Rattle.lin_workers.specs.declared.verdict.Alone.{Alone}
+use Rattle.lin_workers.specs.declared.verdict.Alone.TheVariants.{Decided, Stalled, LimitMet, TimeUp}
+use Rattle.lin_workers.specs.Bounds.{Bounds, unbounded}
 use Rattle.lin_workers.specs.Cut.{Task, IsCut, DecideBy, HasNoneBefore}
 
 -- An object may be undecided: the time is bounded; or there are more runs that are not empty than the limit, which was given.
@@ -28,6 +30,14 @@ IsObjectVerdict p bounds Undecided = MayBeUndecided p bounds
 pub record IsNumberStored {State Op Reply : Type 0} (p : Problem State Op Reply) (stored : ℕ) : Type 0 where
   pub few : stored < STORED_BOUND
   pub reachable : HasReachable p stored
+
+-- What the calling thread tells by itself: a verdict that is not undecided, whatever the bounds, with the number stored; or why
+-- there is none. The time was up only where it is bounded.
+abbrev pub IsToldAlone : {State Op Reply : Type 0} → Problem State Op Reply → Bounds → Alone → Type 0
+IsToldAlone p bounds (Decided verdict stored) = IsObjectVerdict p unbounded verdict × IsNumberStored p stored
+IsToldAlone p bounds (Stalled lifts) = Unit {0}
+IsToldAlone p bounds LimitMet = Unit {0}
+IsToldAlone p bounds (TimeUp stored) = IsSome bounds.seconds × IsNumberStored p stored
 
 -- The task is one of a cut that decides the problem, and none before it has a completion.
 pub record IsNextTask {State Op Reply : Type 0} (p : Problem State Op Reply) (t : Task State) : Type 0 where

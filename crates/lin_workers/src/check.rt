@@ -1,18 +1,20 @@
 //! The check of one object.
-ghost use Rattle.std.specs.Prelude.{◌≡◌, ◌≢◌, ℕ, ◌+◌, ◌≤◌, All, IfNone, IfOk, IfSome, IsSomeAnd, vec_capacity, vec_len};
+ghost use Rattle.std.specs.Prelude.{◌≡◌, ℕ, ◌+◌, ◌≤◌, All, IfNone, IfOk, IfSome, IsSome, IsSomeAnd, vec_capacity, vec_len};
+ghost use Rattle.std.specs.ControlFlow.{ForContinue};
 ghost use Rattle.lin_history.specs.Problems.Problem.{problem_of};
 ghost use Rattle.lin_table.specs.Hand.{IsHandOf};
+ghost use Rattle.lin_workers.specs.Bounds.{Bounds as BoundsOf, without_time};
 ghost use Rattle.lin_workers.specs.Options.{bounds_of};
-ghost use Rattle.lin_workers.specs.Verdict.{IsNumberStored, IsObjectVerdict};
+ghost use Rattle.lin_workers.specs.Verdict.{IsNumberStored, IsObjectVerdict, IsToldAlone};
 ghost use Rattle.lin_workers.specs.declared.options.TheConstants.{MAX_WORKERS};
 
 use crate::bounds::{Bounds, Unfinished, Watcher};
 use crate::deadline::Deadline;
 use crate::options::Options;
 use crate::searches::deciding::verdict_of_tasks;
-use crate::searches::stalling::{Patience, outcomes_unless_stalled};
-use crate::tasks::cutting::cut;
-use crate::verdict::{CheckFault, ObjectVerdict};
+use crate::searches::stalling::{LIFTS_BEFORE_WORKERS, Patience, outcomes_unless_stalled};
+use crate::tasks::cutting::{cut, cut_in_time};
+use crate::verdict::{Alone, CheckFault, ObjectVerdict};
 use crate::workers::gate::Gate;
 use crate::workers::sharing::share;
 use lin_history::Problem;
@@ -20,6 +22,7 @@ use lin_object::{SeqObject, SharedObject};
 use lin_search::{Memo, OwnMemo};
 use lin_table::{Hand, STORED_BOUND, SharedMemo, Table};
 use std::alloc::{AllocError, AllocGlobal, Global};
+use std::ops::ControlFlow;
 use std::thread::Threads;
 use std::time::Clock;
 
@@ -30,8 +33,8 @@ const TASKS_EACH: usize = 4;
 /// how many configurations were stored.
 ///
 /// The calling thread begins alone (`check_alone`), over a memo of its own. Where there is one worker it goes on to the end. Where
-/// there are more and its search stalls, they share the search (`check_over_table`), over what the calling thread refuted. A gate
-/// that wants workers has them at once.
+/// there are more and its search stalls, they share the search (`check_over_table`), over what the calling thread refuted; so it is
+/// for any number of workers where its search met the limit. A gate that wants workers has them at once.
 /// The verdict is the same for every number of workers and shards and on every schedule. With a limit, which bounds the search
 /// of each task, it may be `Undecided`, and that only where there are more runs than the limit; and so it may be where seconds are
 /// given, which the runtime's clock counts from the start of the check. A clock that fails ends nothing.
@@ -58,27 +61,48 @@ pub fn check_object<O: SharedObject, R: AllocGlobal + Threads + Clock + Sync, G:
     let mut memo = OwnMemo::new(rt.alloc(), problem);
     if !gate.wants_workers() {
         let patience = patience_of(options);
-        let alone = check_alone(rt.alloc(), problem, &mut memo, patience, &bounds)?;
-        if let Some((verdict, stored)) = alone {
-            return Ok((verdict, Some(stored)));
+        match check_alone(rt.alloc(), problem, &mut memo, patience, &bounds)? {
+            Alone::Decided(verdict, stored) => return Ok((verdict, Some(stored))),
+            Alone::TimeUp(stored) => return Ok((ObjectVerdict::Undecided, Some(stored))),
+            Alone::Stalled(_) | Alone::LimitMet => {}
         }
     }
-    let (verdict, stored) = check_over_table(rt, &memo, options, &bounds, gate)?;
+    let (verdict, stored) = verdict_shared(rt, &memo, options, &bounds, gate)?;
     Ok((verdict, Some(stored)))
 }
 
-// How long the calling thread goes on before workers share its search: to the end where there is one.
-fn patience_of(options: &Options) -> Patience {
+// The verdict by workers, undecided where the time was up; and how many configurations were stored.
+fn verdict_shared<O: SharedObject, R: AllocGlobal + Threads + Sync, G: Gate, W: Watcher>(
+    rt: &R,
+    memo: &OwnMemo<'_, O>,
+    options: &Options,
+    bounds: &Bounds<'_, W>,
+    gate: &G,
+) -> Result<(ObjectVerdict, u64), AllocError>
+    ensures verdict { IfOk result (λ r. IsObjectVerdict
+        (problem_of O.after O.State.eq O.Reply.eq memo.now.problem) bounds.now r.0) }
+    ensures stored { IfOk result (λ r. IsNumberStored
+        (problem_of O.after O.State.eq O.Reply.eq memo.now.problem) r.1) }
+{
+    let (verdict, stored) = check_over_table(rt, memo, options, bounds, gate)?;
+    match verdict {
+        Some(verdict) => Ok((verdict, stored)),
+        None => Ok((ObjectVerdict::Undecided, stored)),
+    }
+}
+
+/// How long the calling thread goes on before workers share its search: to the end where there is one.
+pub fn patience_of(options: &Options) -> Patience {
     if options.workers() > 1 {
-        Patience::UntilStalled
+        Patience::UntilStalled(LIFTS_BEFORE_WORKERS)
     } else {
         Patience::ToTheEnd
     }
 }
 
 /// The verdict by a search of the calling thread from the root, over a memo that may know refuted configurations, where it ends
-/// within the bounds and the patience; and how many configurations the memo has then. The memo keeps what it has, and what this
-/// search refuted, also where there is no verdict.
+/// within the bounds and the patience; and how many configurations the memo has then. Where it does not, why. The memo keeps what
+/// it has, and what this search refuted, also where there is no verdict.
 ///
 /// Condition: the memo names the problem. `AllocError` where memory was refused, as in `check_object`.
 pub fn check_alone<O: SeqObject, W: Watcher>(
@@ -87,22 +111,47 @@ pub fn check_alone<O: SeqObject, W: Watcher>(
     memo: &mut OwnMemo<'_, O>,
     patience: Patience,
     bounds: &Bounds<'_, W>,
-) -> Result<Option<(ObjectVerdict, u64)>, AllocError>
+) -> Result<Alone, AllocError>
     requires { memo.old.problem ≡ problem.now }
-    ensures verdict { IfOk result (λ checked. IfSome checked (λ r. IsObjectVerdict
-        (problem_of O.after O.State.eq O.Reply.eq problem.now) bounds.now r.0)) }
-    ensures stored { IfOk result (λ checked. IfSome checked (λ r. IsNumberStored
-        (problem_of O.after O.State.eq O.Reply.eq problem.now) r.1)) }
+    ensures told { IfOk result (IsToldAlone
+        (problem_of O.after O.State.eq O.Reply.eq problem.now) bounds.now) }
     ensures memo { memo.new.problem ≡ memo.old.problem }
 {
-    let decided = match verdict_alone(alloc, problem, memo, patience, bounds) {
-        Ok(decided) => decided,
-        Err(Unfinished::Time) => None,
-        Err(Unfinished::Memory) => return Err(AllocError),
-    };
-    match (decided, number_stored(memo)) {
-        (Some(verdict), Some(stored)) => Ok(Some((verdict, stored))),
-        _ => Ok(None),
+    match verdict_alone(alloc, problem, memo, patience, bounds) {
+        Ok(ControlFlow::Break(lifts)) => Ok(Alone::Stalled(lifts)),
+        Ok(ControlFlow::Continue(verdict)) => Ok(told_alone(verdict, memo)),
+        Err(why) if bounds.leaves_undecided(why) => Ok(time_up(memo)),
+        Err(_) => Err(AllocError),
+    }
+}
+
+// What a search of the calling thread tells that ended with this verdict. A memo that has too many configurations to be told
+// is left to workers.
+fn told_alone<O: SeqObject>(verdict: ObjectVerdict, memo: &OwnMemo<'_, O>) -> Alone
+    requires { (bounds : BoundsOf) × IsObjectVerdict
+        (problem_of O.after O.State.eq O.Reply.eq memo.now.problem) bounds verdict }
+    ensures { (bounds : BoundsOf) → IsToldAlone
+        (problem_of O.after O.State.eq O.Reply.eq memo.now.problem) bounds result }
+{
+    match (verdict, number_stored(memo)) {
+        (ObjectVerdict::Yes(order), Some(stored)) => Alone::Decided(
+            ObjectVerdict::Yes(order),
+            stored,
+        ),
+        (ObjectVerdict::No(run), Some(stored)) => Alone::Decided(ObjectVerdict::No(run), stored),
+        (ObjectVerdict::Undecided, _) => Alone::LimitMet,
+        (_, None) => Alone::Stalled(0),
+    }
+}
+
+// What a search of the calling thread tells that ended since the time was up.
+fn time_up<O: SeqObject>(memo: &OwnMemo<'_, O>) -> Alone
+    ensures { (bounds : BoundsOf) → IsSome bounds.seconds → IsToldAlone
+        (problem_of O.after O.State.eq O.Reply.eq memo.now.problem) bounds result }
+{
+    match number_stored(memo) {
+        Some(stored) => Alone::TimeUp(stored),
+        None => Alone::Stalled(0),
     }
 }
 
@@ -119,57 +168,48 @@ pub fn number_stored<O: SeqObject>(memo: &OwnMemo<'_, O>) -> Option<u64>
     }
 }
 
-// The verdict by a search from the root over the memo, where it ends within the limit and the patience.
+// The verdict by a search from the root over the memo, where it ends within the patience; else how many lifts it made.
 fn verdict_alone<O: SeqObject, M: Memo<O>, W: Watcher>(
     alloc: Global,
     problem: &Problem<O>,
     memo: &mut M,
     patience: Patience,
     bounds: &Bounds<'_, W>,
-) -> Result<Option<ObjectVerdict>, Unfinished>
-    ensures verdict { IfOk result (λ decided. IfSome decided (IsObjectVerdict
-        (problem_of O.after O.State.eq O.Reply.eq problem.now) bounds.now)) }
+) -> Result<ControlFlow<u64, ObjectVerdict>, Unfinished>
+    ensures verdict { IfOk result (λ told. ForContinue told (IsObjectVerdict
+        (problem_of O.after O.State.eq O.Reply.eq problem.now) (without_time bounds.now))) }
     ensures memo { M.changes memo.old memo.new }
 {
     let whole = cut(alloc, problem, 1)?;
     let tasks = whole.as_slice();
-    let brought = outcomes_unless_stalled(alloc, problem, tasks, memo, patience, bounds)?;
-    let Some(mut outcomes) = brought else {
-        return Ok(None);
+    let mut outcomes = match outcomes_unless_stalled(
+        alloc, problem, tasks, memo, patience, bounds,
+    )? {
+        ControlFlow::Continue(outcomes) => outcomes,
+        ControlFlow::Break(lifts) => return Ok(ControlFlow::Break(lifts)),
     };
     let outcomes = outcomes.as_mut_slice();
-    let decided = verdict_of_tasks(alloc, problem, tasks, outcomes, memo, bounds)?;
-    Ok(unless_undecided(decided))
-}
-
-// The verdict, where the search ended with one.
-fn unless_undecided(verdict: ObjectVerdict) -> Option<ObjectVerdict>
-    ensures same { IfSome result (λ decided. decided ≡ verdict) }
-    ensures decided { IfSome result (λ decided. decided ≢ ObjectVerdict.Undecided) }
-    ensures undecided { IfNone result (verdict ≡ ObjectVerdict.Undecided) }
-{
-    match verdict {
-        ObjectVerdict::Undecided => None,
-        ObjectVerdict::Yes(order) => Some(ObjectVerdict::Yes(order)),
-        ObjectVerdict::No(run) => Some(ObjectVerdict::No(run)),
-    }
+    let verdict = verdict_of_tasks(alloc, problem, tasks, outcomes, memo, bounds)?;
+    Ok(ControlFlow::Continue(verdict))
 }
 
 /// The verdict, and how many configurations were stored, by workers that share a table. What the memo has is lent to all of
 /// them.
 ///
 /// The search is cut into tasks, which as many workers share as the options say, but not more than there are tasks. They are
-/// then taken in their order, and the calling thread searches each that has no outcome. `AllocError` where the calling thread
-/// was refused memory, as in `check_object`. It may wait, for its workers.
+/// then taken in their order, and the calling thread searches each that has no outcome. `Undecided` where the search of a task met
+/// the limit, and no verdict where the time was up. `AllocError` where the calling thread was refused memory, as in
+/// `check_object`. It may wait, for its workers.
 pub fn check_over_table<O: SharedObject, R: AllocGlobal + Threads + Sync, G: Gate, W: Watcher>(
     rt: &R,
     memo: &OwnMemo<'_, O>,
     options: &Options,
     bounds: &Bounds<'_, W>,
     gate: &G,
-) -> Result<(ObjectVerdict, u64), AllocError>
-    ensures verdict { IfOk result (λ r. IsObjectVerdict
-        (problem_of O.after O.State.eq O.Reply.eq memo.now.problem) bounds.now r.0) }
+) -> Result<(Option<ObjectVerdict>, u64), AllocError>
+    ensures verdict { IfOk result (λ r. IfSome r.0 (IsObjectVerdict
+        (problem_of O.after O.State.eq O.Reply.eq memo.now.problem) (without_time bounds.now))) }
+    ensures time { IfOk result (λ r. IfNone r.0 (IsSome bounds.now.seconds)) }
     ensures stored { IfOk result (λ r. IsNumberStored
         (problem_of O.after O.State.eq O.Reply.eq memo.now.problem) r.1) }
 {
@@ -181,8 +221,8 @@ pub fn check_over_table<O: SharedObject, R: AllocGlobal + Threads + Sync, G: Gat
         unreachable!()
     };
     match verdict {
-        Ok(verdict) => Ok((verdict, stored)),
-        Err(why) if bounds.leaves_undecided(why) => Ok((ObjectVerdict::Undecided, stored)),
+        Ok(verdict) => Ok((Some(verdict), stored)),
+        Err(why) if bounds.leaves_undecided(why) => Ok((None, stored)),
         Err(_) => Err(AllocError),
     }
 }
@@ -198,7 +238,7 @@ fn verdict_by_hands<O: SharedObject, R: AllocGlobal + Threads + Sync, G: Gate, W
     requires count { (2 ≤ vec_len hands) × (vec_len hands ≤ MAX_WORKERS + 1) }
     requires hands { All (IsHandOf table.now) hands.items }
     ensures verdict { IfOk result.0 (IsObjectVerdict
-        (problem_of O.after O.State.eq O.Reply.eq table.now.problem) bounds.now) }
+        (problem_of O.after O.State.eq O.Reply.eq table.now.problem) (without_time bounds.now)) }
     ensures hands { All (IsHandOf table.now) result.1.items }
     ensures count { vec_len result.1 ≡ vec_len hands }
 {
@@ -224,14 +264,19 @@ fn verdict_with_workers<O: SharedObject, R: AllocGlobal + Threads + Sync, G: Gat
     requires own { IsHandOf table.now own.old }
     requires hands { All (IsHandOf table.now) hands.old.items }
     ensures verdict { IfOk result (IsObjectVerdict
-        (problem_of O.after O.State.eq O.Reply.eq table.now.problem) bounds.now) }
+        (problem_of O.after O.State.eq O.Reply.eq table.now.problem) (without_time bounds.now)) }
     ensures own { IsHandOf table.now own.new }
     ensures hands { All (IsHandOf table.now) hands.new.items }
     ensures count { vec_len hands.new ≡ vec_len hands.old }
     ensures capacity { vec_capacity hands.new ≡ vec_capacity hands.old }
 {
     let problem = table.problem();
-    let tasks = cut(rt.alloc(), problem, TASKS_EACH * hands.len())?;
+    let tasks = cut_in_time(
+        rt.alloc(),
+        problem,
+        TASKS_EACH * hands.len(),
+        bounds.watcher(),
+    )?;
     let tasks = tasks.as_slice();
     let mut outcomes = share(rt, table, tasks, hands, gate, bounds)?;
     let mut memo = SharedMemo::new(table, own);

@@ -18,13 +18,13 @@ mod verdict;
 mod workers;
 
 pub use bounds::{Bounds, UntilUp, Unwatched, Watcher};
-pub use check::{check_alone, check_object, check_over_table, number_stored};
+pub use check::{check_alone, check_object, check_over_table, number_stored, patience_of};
 pub use deadline::Deadline;
 pub use options::{MAX_LIMIT, MAX_SECONDS, MAX_SHARDS, MAX_WORKERS, OptionFault, Options};
 pub use searches::stalling::Patience;
 pub use tasks::cutting::{LAST_LEVEL, cut};
 pub use tasks::task::Task;
-pub use verdict::{CheckFault, ObjectVerdict};
+pub use verdict::{Alone, CheckFault, ObjectVerdict};
 pub use workers::gate::{FreeGate, Gate};
 pub use workers::job::Done;
 pub use workers::scouts::{Scouting, scout};

@@ -14,6 +14,19 @@ pub enum ObjectVerdict {
     Undecided,
 }
 
+/// How a search of an object by the calling thread alone ended.
+#[derive(Drop)]
+pub enum Alone {
+    /// With this verdict, which is not `Undecided`, and with so many configurations stored.
+    Decided(ObjectVerdict, u64),
+    /// Its patience was over, with so many lifts.
+    Stalled(u64),
+    /// It met the limit.
+    LimitMet,
+    /// The time was up, with so many configurations stored.
+    TimeUp(u64),
+}
+
 /// Why a check ended without a verdict.
 #[derive(Clone, Copy, PartialEq, Eq, Debug)]
 pub enum CheckFault {

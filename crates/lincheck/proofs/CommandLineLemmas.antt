@@ -3,7 +3,6 @@ use Rattle.std.proofs.Common.{◌≡◌, ◌⊎◌, ◌∙◌, ◌<◌, ◌||◌
 use Rattle.std.specs.Prelude.{IfOk, IfSome, option_map, unwrap_or, slice_get}
 use Rattle.std.specs.List.{All, slice_index_or}
 use Rattle.std.specs.Borrow.{Bor}
-use Rattle.std.proofs.lemmas.Result.{IfOk-weaker}
 use Rattle.std.specs.Str.Parse.{ParsesUnsigned, digits_value, without_leading_plus}
 use Rattle.std.proofs.lemmas.Bool.{cases_lt, le-ltb}
 use Rattle.std.proofs.lemmas.List.Elements.{All-nil, All-push}
@@ -29,7 +28,7 @@ use Rattle.lin_workers.specs.declared.options.TheConstants.{MAX_WORKERS, MAX_SHA
 use Rattle.lincheck.specs.CommandLine.{TakesUpTo, flag_rule, no_options, number_rule, program, IsBareLine, IsCommandLine, IsFlagAsked, IsFlagOption, IsNumberOption, GivesUpTo, AreAsked, AreInRange, number_in}
 use Rattle.lincheck.specs.Request.{AnswersKind, AreTaken, IsAnswerTo, IsRequestOf}
 use Rattle.lincheck.specs.declared.request.Request.{Request}
-use Rattle.lincheck.specs.declared.request.Request.TheVariants.{Run, Explain, Each, Help, Version, Refused}
+use Rattle.lincheck.specs.declared.request.Request.TheVariants.{Run, Explain, Each, ExplainEach, Help, Version, Refused}
 use Rattle.lincheck.specs.declared.request.TheConstants.{DEFAULT_WORKERS, DEFAULT_SHARDS}
 
 -- One more argument, which takes such a number where it has the name.
@@ -239,16 +238,17 @@ request_answers : (words : List Text) (o : Options) (explain each : Bool) (r : R
 request_answers words o explain each (Run p) is taken asked = (subst (AreTaken words false) is.2 (subst (λ e. AreTaken words e each) is.1 taken), subst (AreAsked (matches_of program words)) (sym is.0) asked)
 request_answers words o explain each (Explain p) is taken asked = (subst (AreTaken words true) is.2 (subst (λ e. AreTaken words e each) is.1 taken), subst (AreAsked (matches_of program words)) (sym is.0) asked)
 request_answers words o explain each (Each p) is taken asked = (subst (AreTaken words false) is.2 (subst (λ e. AreTaken words e each) is.1 taken), subst (AreAsked (matches_of program words)) (sym is.0) asked)
+request_answers words o explain each (ExplainEach p) is taken asked = (subst (AreTaken words true) is.2 (subst (λ e. AreTaken words e each) is.1 taken), subst (AreAsked (matches_of program words)) (sym is.0) asked)
 request_answers words o explain each (Help text) is taken asked = absurd is
 request_answers words o explain each (Version text) is taken asked = absurd is
-request_answers words o explain each (Refused text) is taken asked = inr (subst (AreTaken words true) is.1 (subst (λ e. AreTaken words e each) is.0 taken))
+request_answers words o explain each (Refused text) is taken asked = absurd is
 
 -- Where the words are taken, the options are those that they ask for.
-pub run_answers : {E : Type 0} → (words : List Text) (c : Command) (m : ArgMatches) (o : Options) (explain each : Bool) (answer : Result Request E) → IsCommandLine c → HasMatchesOf (app_of c) words m
+pub run_answers : (words : List Text) (c : Command) (m : ArgMatches) (o : Options) (explain each : Bool) (r : Request) → IsCommandLine c → HasMatchesOf (app_of c) words m
     → (is_simple_and_free (app_of c) ≡ true → fault_of (app_of c) words ≡ []) → AreAsked (rows_of (found_of m)) o
     → IsFlagAsked (rows_of (found_of m)) (codes "explain") explain → IsFlagAsked (rows_of (found_of m)) (codes "each") each
-    → IfOk answer (IsRequestOf o explain each) → IfOk answer (IsAnswerTo words)
-run_answers words c m o explain each answer line matches fails asked told told_each is =
+    → IsRequestOf o explain each r → IsAnswerTo words r
+run_answers words c m o explain each r line matches fails asked told told_each is =
     let faults = fails (ap is_simple_and_free line.app ∙ is_plain_enough.1) in
     let rows = (matches (ap is_simple line.app ∙ is_plain_enough.0)).0 ∙ ap (λ a. matches_of a words) line.app in
     let taken : AreTaken words explain each = record {
@@ -256,7 +256,7 @@ run_answers words c m o explain each answer line matches fails asked told told_e
       explain_asked = subst (λ r. IsFlagAsked r (codes "explain") explain) rows told;
       each_asked = subst (λ r. IsFlagAsked r (codes "each") each) rows told_each;
     } in
-    IfOk-weaker answer _ _ (λ r is_r. request_answers words o explain each r is_r taken (subst (λ r. AreAsked r o) rows asked)) is
+    request_answers words o explain each r is taken (subst (λ r. AreAsked r o) rows asked)
 
 help_is_not_memory : kinds.DisplayHelp ≡ kinds.OutOfMemory → ⊥
 help_is_not_memory same = cc
@@ -274,12 +274,13 @@ other_answers {E} words c e r line fails answers =
     go (Ok (Run o)) answers kind = absurd answers
     go (Ok (Explain o)) answers kind = absurd answers
     go (Ok (Each o)) answers kind = absurd answers
+    go (Ok (ExplainEach o)) answers kind = absurd answers
     go (Ok (Help text)) answers (inl memory) = absurd (help_is_not_memory (sym answers ∙ memory))
     go (Ok (Help text)) answers (inr among) = subst (λ k. IsAmong k (fault_of program words)) answers among
     go (Ok (Version text)) answers (inl memory) = absurd (version_is_not_memory (sym answers ∙ memory))
     go (Ok (Version text)) answers (inr among) = subst (λ k. IsAmong k (fault_of program words)) answers among
     go (Ok (Refused text)) answers (inl memory) = absurd (answers.2 memory)
-    go (Ok (Refused text)) answers (inr among) = inl (kind_of e, answers.0, answers.1, among)
+    go (Ok (Refused text)) answers (inr among) = (kind_of e, answers.0, answers.1, among)
     go (Err fault) answers kind = tt
 
 -- A command to which the program's eight options were added, one after another.

@@ -5,7 +5,8 @@ use Rattle.lin_history.specs.Recorder.RecordedHistory.{RecordedHistory}
 use Rattle.lin_workers.specs.Bounds.{Bounds}
 use Rattle.lincheck.specs.declared.status.Status.{Status}
 use Rattle.lincheck.specs.Report.{name_of}
-use Rattle.lincheck.specs.Each.{IsStatusOf, AreStatusesOf, status_text, status_lines}
+use Rattle.lin_explain.specs.declared.core_text.CoreCall.{CoreCall}
+use Rattle.lincheck.specs.Each.{IsStatusOf, AreStatusesOf, IsToldBehind, AreToldFrom, told_text, status_text, status_lines}
 use Rattle.lincheck.proofs.ReportLemmas.{dropped_at, over}
 
 -- before the first object
@@ -46,3 +47,26 @@ lines_more h statuses old out new i s there w e = record {
 
 pub lines_all : (h : RecordedHistory) (statuses : List Status) (old out : List ℕ) (i : ℕ) → length statuses ≤ i → StatusesWritten h statuses old out i → out ≡ old ++ status_lines h 0 statuses
 lines_all h statuses old out i end w = sym (append-nil out) ∙ rw (over statuses i end) at w.lines
+
+-- ---- with what is told behind them
+
+-- what was written, with the lines of what is left, is what stood there with the lines of all
+pub record ToldWritten (h : RecordedHistory) (lines : List ℕ) (statuses : List Status) (old out : List ℕ) (i : ℕ) : Type 0 where
+  pub goes_on : (rest : List ℕ) → AreToldFrom h lines i (drop i statuses) rest → (all : List ℕ) × AreToldFrom h lines 0 statuses all × (out ++ rest ≡ old ++ all)
+
+pub told_none : (h : RecordedHistory) (lines : List ℕ) (statuses : List Status) (old : List ℕ) → ToldWritten h lines statuses old old 0
+told_none h lines statuses old = record { goes_on = λ rest told. (rest, told, refl) }
+
+pub told_more : (h : RecordedHistory) (lines : List ℕ) (statuses : List Status) (old out new : List ℕ) (i : ℕ) (s : Status) (behind : List CoreCall) → slice_get statuses i ≡ Some s → ToldWritten h lines statuses old out i
+    → IsToldBehind h i s behind → new ≡ out ++ told_text h lines i s behind → ToldWritten h lines statuses old new (i + 1)
+told_more h lines statuses old out new i s behind there w is e = record { goes_on = goes_on }
+  where
+    goes_on : (rest : List ℕ) → AreToldFrom h lines (i + 1) (drop (i + 1) statuses) rest → (all : List ℕ) × AreToldFrom h lines 0 statuses all × (new ++ rest ≡ old ++ all)
+    goes_on rest told =
+        let more = w.goes_on (told_text h lines i s behind ++ rest) (subst (λ (l : List Status). AreToldFrom h lines i l (told_text h lines i s behind ++ rest)) (sym (dropped_at statuses i s there)) (behind, is, rest, told, refl)) in
+        (more.0, more.1, ap (λ (l : List ℕ). l ++ rest) e ∙ (append_assoc out (told_text h lines i s behind) rest ∙ more.2))
+
+pub told_all : (h : RecordedHistory) (lines : List ℕ) (statuses : List Status) (old out : List ℕ) (i : ℕ) → length statuses ≤ i → ToldWritten h lines statuses old out i → (all : List ℕ) × AreToldFrom h lines 0 statuses all × (out ≡ old ++ all)
+told_all h lines statuses old out i end w =
+    let all = w.goes_on [] (subst (λ (l : List Status). AreToldFrom h lines i l []) (sym (over statuses i end)) refl) in
+    (all.0, all.1, sym (append-nil out) ∙ all.2)

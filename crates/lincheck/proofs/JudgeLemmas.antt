@@ -1,6 +1,6 @@
 -- From the search of one object's problem to the verdict on its history.
 use Rattle.std.proofs.Common.{◌≡◌, ℕ, zero, suc, ◌<◌, List, [], ◌∷◌, ◌++◌, length, Option, Some, None, refl, sym, subst, arith, ◌+◌, ◌⊎◌, length-append, inl, inr, ◌∙◌, ap, Break, ControlFlow}
-use Rattle.std.specs.Prelude.{pos, Vec}
+use Rattle.std.specs.Prelude.{pos, IsSome, Vec}
 use Rattle.std.specs.declared.alloc.Global.{Global}
 use Rattle.std.specs.List.{slice_get}
 use Rattle.std.specs.Option.{option_map, option_map_or, IsSomeAnd}
@@ -25,7 +25,7 @@ use Rattle.lin_history.specs.Locality.LocalityLemmas.{none_of_whole}
 use Rattle.lin_search.specs.LongestRun.{IsFirstLongest}
 use Rattle.lin_workers.specs.Bounds.{Bounds}
 use Rattle.lin_workers.specs.Verdict.{MayBeUndecided}
-use Rattle.lincheck.specs.declared.verdict.Verdict.TheVariants.{Yes, No, Undecided}
+use Rattle.lincheck.specs.declared.verdict.Verdict.TheVariants.{Yes, No, NoInTime, Undecided}
 use Rattle.lincheck.specs.Verdict.{AreLeastOf, IsVerdict}
 
 -- the problem of an object, as the search is problem_of it
@@ -94,6 +94,12 @@ pub verdict_no : (h : RecordedHistory) (orders : List (List ℕ)) (object : ℕ)
 verdict_no h orders object order run declared so_far none placed bounds = (
   (record { declared = declared; none = none.0; earlier = earlier_have h orders object so_far }, record { order = order; longest = none.1; placed = placed }),
   none_of_whole state_eq.it (whole_of h) object none.0,
+)
+
+pub verdict_no_in_time : (h : RecordedHistory) (orders : List (List ℕ)) (object : ℕ) → object < length h.objects → AreLeastOf h object orders → ((l : List ℕ) → IsLinearization (part_of h object) l → ⊥) → (bounds : Bounds) → IsSome bounds.seconds → IsVerdict h bounds (NoInTime object)
+verdict_no_in_time h orders object declared so_far none bounds timed = (
+  (record { declared = declared; none = none; earlier = earlier_have h orders object so_far }, timed),
+  none_of_whole state_eq.it (whole_of h) object none,
 )
 
 pub verdict_undecided : (h : RecordedHistory) (orders : List (List ℕ)) (object : ℕ) → object < length h.objects → AreLeastOf h object orders → (bounds : Bounds) → MayBeUndecided (part_of h object) bounds → IsVerdict h bounds (Undecided object)

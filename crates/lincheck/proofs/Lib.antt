@@ -8,3 +8,4 @@ pub mod CommandLineLemmas
 pub mod CommandLineFacts
 pub mod RunsLemmas
 pub mod EachLemmas
+pub mod ExplainedLemmas

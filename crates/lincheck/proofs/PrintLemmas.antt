@@ -14,7 +14,7 @@ use Rattle.lin_text.specs.Text.{MeansHistory, MeansFault}
 use Rattle.lin_workers.specs.Bounds.{Bounds}
 use Rattle.lin_workers.specs.Options.{Options, bounds_of}
 use Rattle.lincheck.specs.declared.answer_form.AnswerForm.{AnswerForm}
-use Rattle.lincheck.specs.declared.answer_form.AnswerForm.TheVariants.{Report, Explained, Each}
+use Rattle.lincheck.specs.declared.answer_form.AnswerForm.TheVariants.{Report, Explained, Each, EachExplained}
 use Rattle.lincheck.specs.declared.status.Status.{Status}
 use Rattle.lincheck.specs.declared.status.Status.TheVariants.{Yes, No, Undecided, Refused}
 use Rattle.lincheck.specs.declared.verdict.Verdict.{Verdict}
@@ -28,7 +28,7 @@ use Rattle.lincheck.specs.declared.fault.RunFault.TheVariants.{Read, Write, Memo
 use Rattle.lincheck.proofs.Bytes.{kept}
 use Rattle.lin_history.specs.declared.limits.TheConstants.{MAX_OBJECTS}
 use Rattle.lincheck.specs.Report.{with_stats}
-use Rattle.lincheck.specs.Explained.{WithExplanation, IsExplained}
+use Rattle.lincheck.specs.Explained.{IsExplained}
 use Rattle.std.specs.List.{list_any}
 use Rattle.std.specs.Prelude.{if◌then◌else◌}
 use Rattle.lincheck.specs.Each.{is_no, is_undecided}
@@ -81,24 +81,28 @@ placed_known h object s (c ∷ cs) [] p = absurd p
 pub verdict_of : (h : RecordedHistory) (bounds : Bounds) (v : Verdict) → IsVerdict h bounds v → IsOf h v
 verdict_of h bounds (verdicts.Yes l) v = replayed_known h (start_at h) l v.1.legal
 verdict_of h bounds (verdicts.No object run) v = (v.0.0.declared, placed_known h object (start_at h object) v.0.1.order run.items v.0.1.placed)
+verdict_of h bounds (verdicts.NoInTime object) v = v.0.0.declared
 verdict_of h bounds (verdicts.Undecided object) v = v.declared
 
 -- the report of a right verdict, with what is told after it, is the report of the history
-report_of_verdict : (lines : Option (List ℕ)) (h : RecordedHistory) (bounds : Bounds) (v : Verdict) (report printed : List ℕ) → IsVerdict h bounds v → report ≡ report_of h v → IsExplained lines h v report printed → IsReport lines bounds h (status_of v) (judged_of h v) printed
-report_of_verdict lines h bounds (verdicts.Yes l) report printed v p e = ((v.0.0, l, v.0.1, v.0.2, v.1, e ∙ p), refl)
-report_of_verdict lines h bounds (verdicts.No object run) report printed v p e = (object, (run.items, v.0.0, v.0.1, subst (λ (r : List ℕ). WithExplanation lines h object v.0.1.order r printed) p (e v.0.1)), v.1, refl)
-report_of_verdict lines h bounds (verdicts.Undecided object) report printed v p e = (object, (v, e ∙ p), refl)
+report_of_verdict : (lines : Option (List ℕ)) (h : RecordedHistory) (bounds : Bounds) (v : Verdict) (printed : List ℕ) → IsVerdict h bounds v → IsExplained lines h v printed → IsReport lines bounds h (status_of v) (judged_of h v) printed
+report_of_verdict lines h bounds (verdicts.Yes l) printed v e = ((v.0.0, l, v.0.1, v.0.2, v.1, e), refl)
+report_of_verdict lines h bounds (verdicts.No object run) printed v e = (object, inl (run.items, v.0.0, v.0.1, e), v.1, refl)
+report_of_verdict lines h bounds (verdicts.NoInTime object) printed v e = (object, inr (v.0.0, v.0.1, e), v.1, refl)
+report_of_verdict lines h bounds (verdicts.Undecided object) printed v e = (object, (v, e), refl)
 
--- where no lines are given, the report stays as it is
-pub explained_not : (h : RecordedHistory) (v : Verdict) (report : List ℕ) → IsExplained None h v report report
-explained_not h (verdicts.Yes l) report = refl
-explained_not h (verdicts.No object run) report = λ longest. refl
-explained_not h (verdicts.Undecided object) report = refl
+-- where no lines are given, it is the report
+pub explained_not : (h : RecordedHistory) (v : Verdict) (printed : List ℕ) → printed ≡ report_of h v → IsExplained None h v printed
+explained_not h (verdicts.Yes l) printed e = e
+explained_not h (verdicts.No object run) printed e = e
+explained_not h (verdicts.NoInTime object) printed e = e
+explained_not h (verdicts.Undecided object) printed e = e
 
 -- no more objects are judged than there are
 pub judged_few : (h : RecordedHistory) (bounds : Bounds) (v : Verdict) (most : ℕ) → IsVerdict h bounds v → length h.objects ≤ most → judged_of h v ≤ most
 judged_few h bounds (verdicts.Yes l) most v few = few
 judged_few h bounds (verdicts.No object run) most v few = let d = v.0.0.declared in omega (arith, d, few)
+judged_few h bounds (verdicts.NoInTime object) most v few = let d = v.0.0.declared in omega (arith, d, few)
 judged_few h bounds (verdicts.Undecided object) most v few = let d = v.declared in omega (arith, d, few)
 
 -- the statistics, where the number is told
@@ -108,8 +112,8 @@ stats_told true h n (Some stored) report printed e told few = (stored, told.is_s
 stats_told true h n None report printed e told few = absurd (let q = told.is_told few in cc)
 
 -- and the history prints it, with the statistics after it
-pub prints_verdict : (h : RecordedHistory) (options : Options) (lines : Option (List ℕ)) (v : Verdict) (report told printed : List ℕ) → IsVerdict h (bounds_of options) v → report ≡ report_of h v → IsExplained lines h v report told → WithStats options.stats h (judged_of h v) told printed → PrintsWith options lines h (status_of v) printed
-prints_verdict h options lines v report told printed right is why stats = (judged_of h v, told, report_of_verdict lines h (bounds_of options) v report told right is why, stats)
+pub prints_verdict : (h : RecordedHistory) (options : Options) (lines : Option (List ℕ)) (v : Verdict) (told printed : List ℕ) → IsVerdict h (bounds_of options) v → IsExplained lines h v told → WithStats options.stats h (judged_of h v) told printed → PrintsWith options lines h (status_of v) printed
+prints_verdict h options lines v told printed right why stats = (judged_of h v, told, report_of_verdict lines h (bounds_of options) v told right why, stats)
 
 -- what the history prints is what the text prints that means it
 pub prints_report : (text : List ℕ) (h : RecordedHistory) (options : Options) (status : Status) (printed : List ℕ) → MeansHistory text h → PrintsWith options None h status printed → Prints options Report text status printed
@@ -130,11 +134,17 @@ some_status true undecided e = cc
 some_status false true e = cc
 some_status false false e = cc
 
-pub prints_each : (text : List ℕ) (h : RecordedHistory) (options : Options) (status : Status) (printed : List ℕ) → MeansHistory text h → PrintsEach options h status printed → Prints options Each text status printed
+pub prints_each : (text : List ℕ) (h : RecordedHistory) (options : Options) (status : Status) (printed : List ℕ) → MeansHistory text h → PrintsEach options None h status printed → Prints options Each text status printed
 prints_each text h options Yes printed m p = (h, m, p)
 prints_each text h options No printed m p = (h, m, p)
 prints_each text h options Undecided printed m p = (h, m, p)
 prints_each text h options Refused printed m p = absurd (some_status (list_any is_no p.statuses) (list_any is_undecided p.statuses) p.together)
+
+pub prints_each_explained : (text : List ℕ) (h : RecordedHistory) (lines : List ℕ) (options : Options) (status : Status) (printed : List ℕ) → MeansHistory text h → AreEventLines text h.events lines → PrintsEach options (Some lines) h status printed → Prints options EachExplained text status printed
+prints_each_explained text h lines options Yes printed m are p = (h, m, (lines, are, p))
+prints_each_explained text h lines options No printed m are p = (h, m, (lines, are, p))
+prints_each_explained text h lines options Undecided printed m are p = (h, m, (lines, are, p))
+prints_each_explained text h lines options Refused printed m are p = absurd (some_status (list_any is_no p.statuses) (list_any is_undecided p.statuses) p.together)
 
 -- ---- a run on what was read
 

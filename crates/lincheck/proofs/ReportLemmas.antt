@@ -30,20 +30,20 @@ call_within h (y ∷ ys) zero x known e = let same : y ≡ x = cc in known x.cal
 call_within h (y ∷ ys) (suc i) x known e = call_within h ys i x (λ a there. known a (inr there)) e
 
 -- the lines so far and the lines of what is left are the lines of all
-pub record CallsWritten (h : RecordedHistory) (order : List (Placed Reply)) (old out : List ℕ) (i : ℕ) : Type 0 where
-  pub lines : out ++ call_lines h (i + 1) (drop i order) ≡ old ++ call_lines h 1 order
+pub record CallsWritten (h : RecordedHistory) (order : List (Placed Reply)) (before : ℕ) (old out : List ℕ) (i : ℕ) : Type 0 where
+  pub lines : out ++ call_lines h (i + 1) (drop i order) ≡ old ++ call_lines h (before + 1) (drop before order)
 
-pub calls_none : (h : RecordedHistory) (order : List (Placed Reply)) (old : List ℕ) → CallsWritten h order old old 0
-calls_none h order old = record { lines = refl }
+pub calls_none : (h : RecordedHistory) (order : List (Placed Reply)) (before : ℕ) (old : List ℕ) → CallsWritten h order before old old before
+calls_none h order before old = record { lines = refl }
 
-pub calls_more : (h : RecordedHistory) (order : List (Placed Reply)) (old out new : List ℕ) (i : ℕ) (x : Placed Reply) → slice_get order i ≡ Some x → CallsWritten h order old out i
-    → new ≡ out ++ call_line h (i + 1) x.reply (slice_get h.calls x.call) → CallsWritten h order old new (i + 1)
-calls_more h order old out new i x there w e = record {
+pub calls_more : (h : RecordedHistory) (order : List (Placed Reply)) (before : ℕ) (old out new : List ℕ) (i : ℕ) (x : Placed Reply) → slice_get order i ≡ Some x → CallsWritten h order before old out i
+    → new ≡ out ++ call_line h (i + 1) x.reply (slice_get h.calls x.call) → CallsWritten h order before old new (i + 1)
+calls_more h order before old out new i x there w e = record {
   lines = rw (e, append_assoc) (rw (dropped_at order i x there) at w.lines);
 }
 
-pub calls_all : (h : RecordedHistory) (order : List (Placed Reply)) (old out : List ℕ) (i : ℕ) → length order ≤ i → CallsWritten h order old out i → out ≡ old ++ call_lines h 1 order
-calls_all h order old out i end w = sym (append-nil out) ∙ rw (over order i end) at w.lines
+pub calls_all : (h : RecordedHistory) (order : List (Placed Reply)) (before : ℕ) (old out : List ℕ) (i : ℕ) → length order ≤ i → CallsWritten h order before old out i → out ≡ old ++ call_lines h (before + 1) (drop before order)
+calls_all h order before old out i end w = sym (append-nil out) ∙ rw (over order i end) at w.lines
 
 -- ---- the calls that are dropped
 

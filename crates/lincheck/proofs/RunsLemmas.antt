@@ -1,6 +1,6 @@
 -- Problems with the same runs have the same verdicts.
 use Rattle.std.proofs.Common.{◌≡◌, ℕ, Option, Some, None, List, [], ◌∷◌, ◌⊎◌, inl, inr}
-use Rattle.std.specs.Prelude.{IsSome, IsSomeAnd}
+use Rattle.std.specs.Prelude.{IfSome, IsSome, IsSomeAnd}
 use Rattle.lin_history.specs.Problems.Lists.{IsLeast}
 use Rattle.lin_history.specs.Problems.Problem.{Problem}
 use Rattle.lin_history.specs.Problems.Linearizations.{IsRun, IsLinearization}
@@ -9,8 +9,10 @@ use Rattle.lin_search.specs.Size.{EachOf, HasMoreThan}
 use Rattle.lin_unseen.specs.SameRuns.{HasRunsOf}
 use Rattle.lin_workers.specs.declared.verdict.ObjectVerdict.{ObjectVerdict}
 use Rattle.lin_workers.specs.declared.verdict.ObjectVerdict.TheVariants.{Yes, No, Undecided}
-use Rattle.lin_workers.specs.Bounds.{Bounds}
-use Rattle.lin_workers.specs.Verdict.{IsNumberStored, IsObjectVerdict}
+use Rattle.lin_workers.specs.declared.verdict.Alone.{Alone}
+use Rattle.lin_workers.specs.declared.verdict.Alone.TheVariants.{Decided, Stalled, LimitMet, TimeUp}
+use Rattle.lin_workers.specs.Bounds.{Bounds, unbounded, without_time}
+use Rattle.lin_workers.specs.Verdict.{IsNumberStored, IsObjectVerdict, IsToldAlone}
 
 module _ (P Q : List ℕ → Type 0) (there : (l : List ℕ) → P l → Q l) (back : (l : List ℕ) → Q l → P l) where
   least_same : (l : List ℕ) → IsLeast P l → IsLeast Q l
@@ -35,6 +37,13 @@ module _ (P Q : List ℕ → Type 0) (there : (l : List ℕ) → P l → Q l) (b
   undecided_same bounds (inl timed) = inl timed
   undecided_same bounds (inr over) = inr (more_same bounds.limit over)
 
+-- a verdict within the limit alone is one within the limit and the time
+pub verdict_with_time : {State Op Reply : Type 0} (p : Problem State Op Reply) (bounds : Bounds) (v : ObjectVerdict) → IsObjectVerdict p (without_time bounds) v → IsObjectVerdict p bounds v
+verdict_with_time p bounds (Yes order) k = k
+verdict_with_time p bounds (No run) k = k
+verdict_with_time p bounds Undecided (inl timed) = absurd (let none = timed in cc)
+verdict_with_time p bounds Undecided (inr over) = inr over
+
 module _ {State Op Reply : Type 0} (p q : Problem State Op Reply) (same : HasRunsOf p q) where
   -- a verdict on the first problem is one on the second
   pub verdict_there : (bounds : Bounds) (v : ObjectVerdict) → IsObjectVerdict p bounds v → IsObjectVerdict q bounds v
@@ -51,3 +60,19 @@ module _ {State Op Reply : Type 0} (p q : Problem State Op Reply) (same : HasRun
   -- the first problem has at least as many configurations
   pub number_back : (n : ℕ) → IsNumberStored q n → IsNumberStored p n
   number_back n k = record { few = k.few; reachable = same.reachable n k.reachable }
+
+  -- what is told of the second problem by a search alone, with bounds of the same time, is told of the first
+  pub told_back : (bounds other : Bounds) → other.seconds ≡ bounds.seconds → (told : Alone) → IsToldAlone q other told → IsToldAlone p bounds told
+  told_back bounds other e (Decided verdict stored) k = (verdict_back unbounded verdict k.0, number_back stored k.1)
+  told_back bounds other e (Stalled lifts) k = tt
+  told_back bounds other e LimitMet k = tt
+  told_back bounds other e (TimeUp stored) k = (rw e at k.0, number_back stored k.1)
+
+  -- where there is a verdict, and where there is a number
+  pub some_verdict_back : (bounds : Bounds) (v : Option ObjectVerdict) → IfSome v (IsObjectVerdict q bounds) → IfSome v (IsObjectVerdict p bounds)
+  some_verdict_back bounds None k = tt
+  some_verdict_back bounds (Some v) k = verdict_back bounds v k
+
+  pub some_number_back : (n : Option ℕ) → IfSome n (IsNumberStored q) → IfSome n (IsNumberStored p)
+  some_number_back None k = tt
+  some_number_back (Some n) k = number_back n k

@@ -1,13 +1,15 @@
 -- What each object of a history is by itself, and how that is printed (this project's own).
-use Rattle.std.specs.Prelude.{◌≡◌, ℕ, ◌+◌, ◌++◌, Bool, true, false, Some, List, [], ◌∷◌, codes, length, slice_get, if◌then◌else◌}
+use Rattle.std.specs.Prelude.{◌≡◌, ℕ, ◌+◌, ◌++◌, Bool, true, false, Option, Some, None, List, [], ◌∷◌, codes, length, slice_get, if◌then◌else◌}
 use Rattle.std.specs.List.{list_any}
 use Rattle.lin_history.specs.Problems.Linearizations.{IsLinearization}
 use Rattle.lin_history.specs.Recorder.RecordedHistory.{RecordedHistory}
 use Rattle.lin_history.specs.Locality.RecordedWhole.{part_of}
+use Rattle.lin_explain.specs.declared.core_text.CoreCall.{CoreCall}
 use Rattle.lin_workers.specs.Bounds.{Bounds}
 use Rattle.lin_workers.specs.Verdict.{MayBeUndecided}
 use Rattle.lincheck.specs.declared.status.Status.{Status}
 use Rattle.lincheck.specs.declared.status.Status.TheVariants.{Yes, No, Undecided, Refused}
+use Rattle.lincheck.specs.Explained.{TellsCore, core_text_of}
 use Rattle.lincheck.specs.Report.{name_of}
 
 -- The status of an object by itself: it has a linearization; it has none; or the bounds may have ended its search.
@@ -33,6 +35,28 @@ status_text Refused = codes "refused"
 abbrev pub status_lines : RecordedHistory → ℕ → List Status → List ℕ
 status_lines h n [] = []
 status_lines h n (status ∷ statuses) = name_of h n ++ codes ": " ++ status_text status ++ codes "\n" ++ status_lines h (n + 1) statuses
+
+-- Behind the line of an object with this status these calls are told: those of a core, or none, where it is not linearizable; else none.
+abbrev pub IsToldBehind : RecordedHistory → ℕ → Status → List CoreCall → Type 0
+IsToldBehind h object Yes told = told ≡ []
+IsToldBehind h object No told = TellsCore h object told
+IsToldBehind h object Undecided told = told ≡ []
+IsToldBehind h object Refused told = told ≡ []
+
+-- The line of an object with this status, with these calls behind it.
+abbrev pub told_text : RecordedHistory → List ℕ → ℕ → Status → List CoreCall → List ℕ
+told_text h lines object status told = name_of h object ++ codes ": " ++ status_text status ++ codes "\n" ++ core_text_of h object lines told
+
+-- The lines of objects with these statuses, of which the first has index n, each with what is told behind it.
+abbrev pub AreToldFrom : RecordedHistory → List ℕ → ℕ → List Status → List ℕ → Type 0
+AreToldFrom h lines n [] printed = printed ≡ []
+AreToldFrom h lines n (status ∷ statuses) printed =
+    (told : List CoreCall) × IsToldBehind h n status told × (rest : List ℕ) × AreToldFrom h lines (n + 1) statuses rest × (printed ≡ told_text h lines n status told ++ rest)
+
+-- The lines of a history's objects; where the lines of the events are given, with the calls of cores.
+abbrev pub AreStatusLines : Option (List ℕ) → RecordedHistory → List Status → List ℕ → Type 0
+AreStatusLines None h statuses printed = printed ≡ status_lines h 0 statuses
+AreStatusLines (Some lines) h statuses printed = AreToldFrom h lines 0 statuses printed
 
 abbrev pub is_no : Status → Bool
 is_no Yes = false

@@ -2,6 +2,7 @@ pub mod Device
 pub mod Reading
 pub mod Report
 pub mod Verdict
+pub mod ObjectAnswer
 pub mod Explained
 pub mod Stored
 pub mod Each

@@ -1,5 +1,5 @@
 -- What a report shows (this project's own).
-use Rattle.std.specs.Prelude.{ℕ, ◌+◌, ◌==◌, ◌++◌, Bool, true, false, Option, Some, None, List, [], ◌∷◌, codes, length, slice_get, if◌then◌else◌}
+use Rattle.std.specs.Prelude.{ℕ, ◌+◌, ◌-◌, ◌==◌, ◌++◌, nat_le, Bool, true, false, Option, Some, None, List, [], ◌∷◌, codes, length, drop, slice_get, if◌then◌else◌}
 use Rattle.std.specs.List.{list_any}
 use Rattle.std.specs.Option.{option_map_or}
 use Rattle.std.specs.Fmt.{decimal}
@@ -9,6 +9,7 @@ use Rattle.lin_object.specs.PrintedForms.{op_text, reply_text}
 use Rattle.lin_history.specs.declared.locality.placed.Placed.{Placed}
 use Rattle.lin_history.specs.Recorder.Events.{Call}
 use Rattle.lin_history.specs.Recorder.RecordedHistory.{RecordedHistory, calls_on}
+use Rattle.lincheck.specs.declared.lines.TheConstants.{MAX_LISTED}
 
 -- The name of the object of this index.
 abbrev pub name_of : RecordedHistory → ℕ → List ℕ
@@ -65,6 +66,26 @@ length_line h object run = codes "longest run: " ++ decimal (length run) ++ code
 -- The report of a history whose object of this index has no linearization, and this longest run.
 abbrev pub no_report : RecordedHistory → ℕ → List (Placed Reply) → List ℕ
 no_report h object run = name_line h object ++ length_line h object run ++ call_lines h 1 run
+
+-- One call, and more.
+abbrev pub call_word : ℕ → List ℕ
+call_word count = if count == 1 then codes "call" else codes "calls"
+
+-- How many of so many calls come before the last ones, where there are any.
+abbrev pub before_line : ℕ → List ℕ
+before_line count = if nat_le count MAX_LISTED then [] else codes ".. " ++ decimal (count - MAX_LISTED) ++ codes " " ++ call_word (count - MAX_LISTED) ++ codes " before\n"
+
+-- The lines of the last calls of a run, each with its place there, and above them how many come before them.
+abbrev pub last_lines : RecordedHistory → List (Placed Reply) → List ℕ
+last_lines h run = before_line (length run) ++ call_lines h ((length run - MAX_LISTED) + 1) (drop (length run - MAX_LISTED) run)
+
+-- The line that says that the longest run was not found in time.
+abbrev pub not_found_line : List ℕ
+not_found_line = codes "longest run: not found in time\n"
+
+-- The report of a history whose object of this index has no linearization, and whose longest run was not found in time.
+abbrev pub no_report_in_time : RecordedHistory → ℕ → List ℕ
+no_report_in_time h object = name_line h object ++ not_found_line
 
 -- The line that says how many configurations were stored.
 abbrev pub stored_line : Option ℕ → List ℕ

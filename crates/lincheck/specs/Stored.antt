@@ -5,7 +5,7 @@ use Rattle.lin_history.specs.Locality.RecordedWhole.{part_of}
 use Rattle.lin_history.specs.Recorder.RecordedHistory.{RecordedHistory}
 use Rattle.lin_workers.specs.Verdict.{IsNumberStored}
 use Rattle.lincheck.specs.declared.verdict.Verdict.{Verdict}
-use Rattle.lincheck.specs.declared.verdict.Verdict.TheVariants.{Yes, No, Undecided}
+use Rattle.lincheck.specs.declared.verdict.Verdict.TheVariants.{Yes, No, NoInTime, Undecided}
 
 -- One number for each of the first n objects, in the order of declaration: so many configurations were stored for the object.
 pub record AreStoredOf (h : RecordedHistory) (n : ℕ) (numbers : List ℕ) : Type 0 where
@@ -25,4 +25,5 @@ pub record IsStoredTold (h : RecordedHistory) (n : ℕ) (told : Option ℕ) : Ty
 abbrev pub judged_of : RecordedHistory → Verdict → ℕ
 judged_of h (Yes l) = length h.objects
 judged_of h (No object run) = object + 1
+judged_of h (NoInTime object) = object + 1
 judged_of h (Undecided object) = object + 1

@@ -6,33 +6,34 @@ ghost use Rattle.lin_history.specs.Locality.RecordedWhole.{part_of};
 ghost use Rattle.lin_history.specs.Recorder.RecordedHistory.{RecordedHistory};
 ghost use Rattle.lin_workers.specs.Bounds.{Bounds as BoundsOf};
 ghost use Rattle.lin_workers.specs.Options.{bounds_of};
-ghost use Rattle.lin_workers.specs.Verdict.{IsObjectVerdict};
 ghost use Rattle.lincheck.specs.Each.{is_no, is_undecided, status_lines, status_of_all, status_text, AreStatusesOf, IsStatusOf};
+ghost use Rattle.lincheck.specs.ObjectAnswer.{IsObjectAnswer};
 ghost use Rattle.lincheck.specs.Report.{name_of};
 ghost use Rattle.lincheck.specs.Stored.{IsStoredTold};
 
 use crate::check_watcher::CheckWatcher;
 use crate::judgement::{judge_object, options_here, with_more};
 use crate::listener::{Listener, NoListener};
+use crate::object_answer::{ObjectAnswer, Question};
 use crate::setting::Setting;
 use crate::status::Status;
 use crate::verdict::CheckedEach;
 use lin_history::History;
-use lin_workers::{Bounds, CheckFault, Gate, ObjectVerdict, Options, Watcher};
+use lin_workers::{Bounds, CheckFault, Gate, Options, Watcher};
 use std::alloc::{AllocError, AllocGlobal, Global};
 use std::thread::Threads;
 use std::time::Clock;
 
-// The status that a verdict on an object gives.
-fn status_by(verdict: &ObjectVerdict) -> Status
-    ensures { (h : RecordedHistory) (bounds : BoundsOf) (object : ℕ)
-        → IsObjectVerdict (part_of h object) bounds verdict.now
+// The status that an answer for an object gives.
+fn status_by(answer: &ObjectAnswer) -> Status
+    ensures { (h : RecordedHistory) (question : Question) (bounds : BoundsOf) (object : ℕ)
+        → IsObjectAnswer (part_of h object) question bounds answer.now
         → IsStatusOf h bounds object result }
 {
-    match verdict {
-        ObjectVerdict::Yes(_) => Status::Yes,
-        ObjectVerdict::No(_) => Status::No,
-        ObjectVerdict::Undecided => Status::Undecided,
+    match answer {
+        ObjectAnswer::Yes(_) => Status::Yes,
+        ObjectAnswer::No(_) => Status::No,
+        ObjectAnswer::Undecided => Status::Undecided,
     }
 }
 
@@ -50,9 +51,10 @@ fn judge_each<R: AllocGlobal + Threads + Sync, G: Gate, W: Watcher>(
     let mut statuses = Vec::new(setting.rt.alloc());
     let mut stored = Some(0);
     for object in 0..problems.len() {
-        let (verdict, more) = judge_object(setting, history, object, &problems[object])?;
+        let problem = &problems[object];
+        let (answer, more) = judge_object(setting, history, object, problem, Question::Verdict)?;
         stored = with_more(stored, more);
-        statuses.push(status_by(&verdict))?;
+        statuses.push(status_by(&answer))?;
     }
     Ok(CheckedEach { statuses, stored })
 }
@@ -114,8 +116,8 @@ fn status_text(status: Status) -> &'static str
     }
 }
 
-// Appends the line of the object of this index.
-fn write_status(
+/// Appends the line of the object of this index.
+pub(crate) fn write_status(
     out: &mut String,
     history: &History,
     object: usize,

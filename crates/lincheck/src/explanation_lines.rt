@@ -1,79 +1,157 @@
-//! The lines behind the report of a history that is not linearizable.
-ghost use Rattle.std.specs.Prelude.{◌≡◌, ◌++◌, ◌<◌, ℕ, List, Some, option_map, length, IfOk};
+//! What is printed of a history that is not linearizable, where it is asked for why.
+ghost use Rattle.std.specs.Prelude.{◌≡◌, ◌++◌, ◌<◌, ℕ, List, Some, option_map, length, string_bytes, IfOk, OnOk};
 ghost use Rattle.lin_object.specs.declared.state.ObjState.{ObjState as State};
 ghost use Rattle.lin_history.specs.Problems.LegalLists.{Legal};
 ghost use Rattle.lin_history.specs.Locality.JoinedOrder.{Places};
+ghost use Rattle.lin_history.specs.Recorder.Parts.{part_calls};
 ghost use Rattle.lin_history.specs.Locality.RecordedWhole.{whole_of, start_at, part_of};
+ghost use Rattle.lin_history.specs.Verifier.Flags.{AreKnown};
 ghost use Rattle.lin_explain.specs.RunExplained.{IsExplainedBy};
 ghost use Rattle.lin_workers.specs.Bounds.{Bounds};
-ghost use Rattle.lincheck.specs.Explained.{IsExplained};
+ghost use Rattle.lincheck.specs.Explained.{head_text, end_text, IsExplained, WithCore, WithExplanation};
 ghost use Rattle.lincheck.specs.Verdict.{IsVerdict};
 
+use crate::core_lines::core_calls;
+use crate::lines::{report, write_last_calls, write_length, write_name, write_not_found};
 use crate::verdict::Verdict;
-use lin_explain::write_run_explained;
-use lin_history::{History, Placed};
+use lin_explain::{CoreCall, write_core, write_run_explained};
+use lin_history::{History, Placed, ProblemCall};
+use lin_object::{Op, Reply};
 use std::alloc::{AllocError, Global};
 
-// The report, and behind it the lines that say why this run of the object ends.
-fn with_lines(
+// Appends the line that names an object without a linearization, and below it the calls of a core of the calls on it.
+fn write_head(
+    out: &mut String,
+    history: &History,
+    object: usize,
+    calls: &[ProblemCall<Op, Reply>],
+    lines: &[u64],
+    core: &[CoreCall],
+) -> Result<(), AllocError>
+    requires declared { object < length history.now.objects }
+    requires calls { calls.now ≡ part_calls history.now object }
+    ensures { OnOk result (string_bytes out.new
+        ≡ string_bytes out.old ++ head_text history.now object lines.now core.now) }
+{
+    write_name(out, history, object)?;
+    let name = history.object(object).name;
+    write_core(out, name, calls, lines, core)
+}
+
+// Appends the length of this run of the object, its last calls, and why it ends.
+fn write_end(
+    alloc: Global,
+    out: &mut String,
+    history: &History,
+    object: usize,
+    run: &[Placed],
+    lines: &[u64],
+) -> Result<(), AllocError>
+    requires object { object < length history.now.objects }
+    requires known { AreKnown (whole_of history.now) run.now }
+    requires run { (order : List ℕ) × ((t : State) × Legal (part_of history.now object)
+        (start_at history.now object) order t)
+        × Places (whole_of history.now) object (start_at history.now object) order run.now }
+    ensures { OnOk result ((why : List ℕ) × IsExplainedBy history.now object run.now lines.now why
+        × (string_bytes out.new
+        ≡ string_bytes out.old ++ end_text history.now object run.now why)) }
+{
+    write_length(out, history, object, run)?;
+    write_last_calls(out, history, run)?;
+    write_run_explained(alloc, out, history, object, run, lines)
+}
+
+// What is printed of an object without a linearization, with this longest run.
+fn no_explained(
     alloc: Global,
     history: &History,
     object: usize,
     run: &[Placed],
     lines: &[u64],
-    mut report: Vec<u8>,
 ) -> Result<Vec<u8>, AllocError>
     requires object { object < length history.now.objects }
+    requires known { AreKnown (whole_of history.now) run.now }
     requires run { (order : List ℕ) × ((t : State) × Legal (part_of history.now object)
         (start_at history.now object) order t)
         × Places (whole_of history.now) object (start_at history.now object) order run.now }
-    ensures { IfOk result (λ printed. (order : List ℕ)
-        → Places (whole_of history.now) object (start_at history.now object) order run.now
-        → (bytes : List ℕ) × IsExplainedBy history.now object order lines.now bytes
-        × (printed.items ≡ report.items ++ bytes)) }
+    ensures { IfOk result (λ printed. WithExplanation (Some lines.now) history.now object run.now
+        printed.items) }
 {
-    let mut text = String::new(alloc);
-    write_run_explained(alloc, &mut text, history, object, run, lines)?;
-    report.extend_from_slice(text.as_bytes())?;
-    Ok(report)
+    let problem = history.problem(alloc, object)?;
+    let core = core_calls(alloc, history, object, &problem)?;
+    let mut out = String::new(alloc);
+    write_head(
+        &mut out,
+        history,
+        object,
+        problem.calls(),
+        lines,
+        core.as_slice(),
+    )?;
+    write_end(alloc, &mut out, history, object, run, lines)?;
+    Ok(out.into_bytes())
 }
 
-// The report of the verdict, with what shows after it why the longest run ends, where there is one. Condition: the verdict is right.
-fn with_lines_of(
+// What is printed of an object without a linearization whose longest run was not found in time.
+fn no_in_time_explained(
+    alloc: Global,
+    history: &History,
+    object: usize,
+    lines: &[u64],
+) -> Result<Vec<u8>, AllocError>
+    requires { object < length history.now.objects }
+    ensures { IfOk result (λ printed. WithCore (Some lines.now) history.now object printed.items) }
+{
+    let problem = history.problem(alloc, object)?;
+    let core = core_calls(alloc, history, object, &problem)?;
+    let mut out = String::new(alloc);
+    write_head(
+        &mut out,
+        history,
+        object,
+        problem.calls(),
+        lines,
+        core.as_slice(),
+    )?;
+    write_not_found(&mut out)?;
+    Ok(out.into_bytes())
+}
+
+// What is printed of the verdict, with what explains it where it is no. Condition: the verdict is right.
+fn report_with_lines(
     alloc: Global,
     history: &History,
     verdict: &Verdict,
     lines: &[u64],
-    report: Vec<u8>,
 ) -> Result<Vec<u8>, AllocError>
     requires { (bounds : Bounds) × IsVerdict history.now bounds verdict.now }
     ensures { IfOk result (λ printed. IsExplained (Some lines.now) history.now verdict.now
-        report.items printed.items) }
+        printed.items) }
 {
     match verdict {
-        Verdict::No { object, run } => {
-            with_lines(alloc, history, *object, run.as_slice(), lines, report)
-        }
-        Verdict::Yes(_) => Ok(report),
-        Verdict::Undecided { .. } => Ok(report),
+        Verdict::No { object, run } => no_explained(alloc, history, *object, run.as_slice(), lines),
+        Verdict::NoInTime { object } => no_in_time_explained(alloc, history, *object, lines),
+        Verdict::Yes(_) => report(alloc, history, verdict),
+        Verdict::Undecided { .. } => report(alloc, history, verdict),
     }
 }
 
-// The report of the verdict; and where the lines of the events are given, with what shows after it why the longest run ends, where
-// there is one. Condition: the verdict is right.
-pub(crate) fn with_explanation(
+/// What is printed of the verdict: its report; where the lines of the events are given, of a verdict that is no with the calls of a
+/// core, where one is found, the last calls of the longest run, and why it ends. `AllocError` where memory was refused.
+///
+/// Condition: the verdict is right.
+pub(crate) fn report_explained(
     alloc: Global,
     history: &History,
     verdict: &Verdict,
     lines: Option<&[u64]>,
-    report: Vec<u8>,
 ) -> Result<Vec<u8>, AllocError>
     requires { (bounds : Bounds) × IsVerdict history.now bounds verdict.now }
     ensures { IfOk result (λ printed. IsExplained (option_map (λ l. l.now) lines.entry)
-        history.now verdict.now report.items printed.items) }
+        history.now verdict.now printed.items) }
 {
     match lines {
-        Some(lines) => with_lines_of(alloc, history, verdict, lines, report),
-        None => Ok(report),
+        Some(lines) => report_with_lines(alloc, history, verdict, lines),
+        None => report(alloc, history, verdict),
     }
 }

@@ -43,19 +43,16 @@ done, with the state after them) were kept, which tells how hard the search was"
 
 /// What `--explain` is good for.
 pub(crate) const EXPLAIN: &str =
-    "Say after `not linearizable` why the longest run ends: the state after it, each call
-that could come next and what it would answer there, and which calls put or took
-the value that it asks for, each with the lines of the input on which it stands";
+    "Say after `not linearizable` which few calls alone have no order, where that is found,
+and why the longest run ends: its last calls, the state after it, each call that could
+come next and what it would answer there, and which calls put or took the value that it
+asks for or should have found, each with the lines of the input on which it stands.
+With --each the few calls alone are told";
 
 /// What `--each` is good for.
 pub(crate) const EACH: &str =
     "Check each object, also after one that is not linearizable, and print a line for each
 in place of the report: `x: linearizable`, `x: not linearizable` or `x: undecided`";
-
-/// What is said where both `--each` and `--explain` are given.
-pub(crate) const EACH_EXPLAINED: &str =
-    "error: --each prints no longest run that --explain could tell of: give one of them
-";
 
 /// What is read, what is printed, and how the program ends.
 pub(crate) const MANUAL: &str = "\
@@ -113,6 +110,9 @@ Example: an item that is in the set is added once more, and that returns true.
     '{\"event\":\"return\",\"process\":1,\"object\":\"e\",\"result\":true}' | lincheck --explain
 prints
   not linearizable: e
+  these 2 calls on key 1 alone have no order:
+    1 e add(1) = true (lines 2 and 3)
+    1 e add(1) = true (lines 4 and 5)
   longest run: 1 of 2 calls
   1 1 e add(1) = true
   after the run: e = {1}

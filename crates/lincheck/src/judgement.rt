@@ -6,81 +6,102 @@ ghost use Rattle.lin_history.specs.Locality.RecordedWhole.{part_of};
 ghost use Rattle.lin_history.specs.Problems.Linearizations.{IsLinearization};
 ghost use Rattle.lin_history.specs.Problems.Lists.{IsLeast};
 ghost use Rattle.lin_history.specs.Recorder.Parts.{start_of, part_calls};
-ghost use Rattle.lin_ahead.specs.AnyProblem.{any_problem};
 ghost use Rattle.lin_workers.specs.Bounds.{Bounds as BoundsOf};
 ghost use Rattle.lin_workers.specs.Options.{bounds_of};
-ghost use Rattle.lin_workers.specs.Verdict.{IsNumberStored, IsObjectVerdict};
+ghost use Rattle.lin_workers.specs.Verdict.{IsNumberStored};
+ghost use Rattle.lincheck.specs.ObjectAnswer.{IsObjectAnswer};
 ghost use Rattle.lincheck.specs.Stored.{IsStoredTold, judged_of};
 ghost use Rattle.lincheck.specs.Verdict.{AreLeastOf, IsVerdict};
 
 use crate::check_watcher::CheckWatcher;
 use crate::listener::{Listener, NoListener};
-use crate::object_search::verdict_by_searches;
+use crate::object_answer::{ObjectAnswer, Question};
+use crate::object_check::answer_object;
 use crate::setting::Setting;
 use crate::verdict::{Checked, Verdict};
-use crate::verdict_ahead::verdict_ahead;
 use lin_history::{History, Order, Problem, join, place};
 use lin_object::AnyObject;
-use lin_workers::{Bounds, CheckFault, Gate, ObjectVerdict, Options, Watcher};
+use lin_workers::{Bounds, CheckFault, Gate, Options, Watcher};
 use std::alloc::{AllocError, Global};
 use std::ops::ControlFlow;
 use std::thread;
 use std::thread::Threads;
 use std::time::Clock;
 
-// The verdict on the object of this index, where the part of the history on it is known; and how many configurations were
-// stored: none where the verdict is told ahead, which is tried unless workers are wanted at once.
+// The answer for the object of this index, where the part of the history on it is known; and how many configurations were stored.
 pub(crate) fn judge_object<R: AllocGlobal + Threads + Sync, G: Gate, W: Watcher>(
     setting: &Setting<'_, '_, R, G, W>,
     history: &History,
     object: usize,
     problem: &Problem<AnyObject>,
-) -> Result<(ObjectVerdict, Option<u64>), AllocError>
+    question: Question,
+) -> Result<(ObjectAnswer, Option<u64>), AllocError>
     requires start { option_map start_of (slice_get history.now.objects object)
         ≡ Some problem.now.start }
     requires calls { problem.now.calls ≡ part_calls history.now object }
-    ensures verdict { IfOk result (λ judged. IsObjectVerdict (part_of history.now object)
+    ensures answer { IfOk result (λ judged. IsObjectAnswer (part_of history.now object) question
         setting.now.bounds judged.0) }
     ensures stored { IfOk result (λ judged. IsSomeAnd judged.1
         (IsNumberStored (part_of history.now object))) }
 {
     setting.bounds.watcher().begin(object, problem.len());
-    if !setting.gate.wants_workers() {
-        if let Some(told) = verdict_ahead(setting.rt.alloc(), problem, &setting.bounds)? {
-            return Ok((told, Some(0)));
-        }
-    }
-    let (verdict, stored) = verdict_by_searches(setting, problem)?;
-    Ok((verdict, Some(stored)))
+    let (answer, stored) = answer_object(setting, problem, question)?;
+    Ok((answer, Some(stored)))
 }
 
-// What the verdict on the object of this index is to the check: the object's least order, with which the check goes on, or
+// The verdict on the history where the object of this index has no linearization, and each before has one.
+fn verdict_no(
+    alloc: Global,
+    history: &History,
+    object: usize,
+    run: Option<Order>,
+) -> Result<Verdict, AllocError>
+    requires declared { object < length history.now.objects }
+    requires right { (bounds : BoundsOf) × IsObjectAnswer (part_of history.now object)
+        Question.LongestRun bounds (ObjectAnswer.No run) }
+    ensures right { IfOk result (λ verdict. (orders : List (List ℕ)) (bounds : BoundsOf)
+        → AreLeastOf history.now object orders
+        → IsObjectAnswer (part_of history.now object) Question.LongestRun bounds
+        (ObjectAnswer.No run)
+        → IsVerdict history.now bounds verdict) }
+    ensures judged { IfOk result (λ verdict. judged_of history.now verdict ≡ object + 1) }
+{
+    match run {
+        Some(order) => {
+            let run = place(alloc, history, object, &order)?;
+            Ok(Verdict::No { object, run })
+        }
+        None => Ok(Verdict::NoInTime { object }),
+    }
+}
+
+// What the answer for the object of this index is to the check: the object's least order, with which the check goes on, or
 // the verdict on the history, where each object before has an order.
 fn order_or_end(
     alloc: Global,
     history: &History,
     object: usize,
-    verdict: ObjectVerdict,
+    answer: ObjectAnswer,
 ) -> Result<ControlFlow<Verdict, Order>, AllocError>
     requires declared { object < length history.now.objects }
     requires right { (bounds : BoundsOf)
-        × IsObjectVerdict (part_of history.now object) bounds verdict }
+        × IsObjectAnswer (part_of history.now object) Question.LongestRun bounds answer }
     ensures order { IfOk result (λ next. ForContinue next (λ order.
         IsLeast (IsLinearization (part_of history.now object)) order)) }
     ensures end { IfOk result (λ next. (orders : List (List ℕ)) (bounds : BoundsOf)
         → AreLeastOf history.now object orders
-        → IsObjectVerdict (part_of history.now object) bounds verdict
+        → IsObjectAnswer (part_of history.now object) Question.LongestRun bounds answer
         → ForBreak next (IsVerdict history.now bounds)) }
     ensures judged { IfOk result (λ next. ForBreak next (λ verdict.
         judged_of history.now verdict ≡ object + 1)) }
 {
-    match verdict {
-        ObjectVerdict::Yes(order) => Ok(ControlFlow::Continue(order)),
-        ObjectVerdict::No(order) => {
-            let run = place(alloc, history, object, &order)?;
-            Ok(ControlFlow::Break(Verdict::No { object, run }))
+    match answer {
+        ObjectAnswer::Yes(order) => Ok(ControlFlow::Continue(order)),
+        ObjectAnswer::No(run) => {
+            let verdict = verdict_no(alloc, history, object, run)?;
+            Ok(ControlFlow::Break(verdict))
         }
-        ObjectVerdict::Undecided => Ok(ControlFlow::Break(Verdict::Undecided { object })),
+        ObjectAnswer::Undecided => Ok(ControlFlow::Break(Verdict::Undecided { object })),
     }
 }
 
@@ -109,9 +130,10 @@ fn judge<R: AllocGlobal + Threads + Sync, G: Gate, W: Watcher>(
     let mut orders = Vec::new(alloc);
     let mut stored = Some(0);
     for object in 0..problems.len() {
-        let (verdict, more) = judge_object(setting, history, object, &problems[object])?;
+        let problem = &problems[object];
+        let (answer, more) = judge_object(setting, history, object, problem, Question::LongestRun)?;
         stored = with_more(stored, more);
-        match order_or_end(alloc, history, object, verdict)? {
+        match order_or_end(alloc, history, object, answer)? {
             ControlFlow::Continue(order) => orders.push(order)?,
             ControlFlow::Break(verdict) => return Ok(Checked { verdict, stored }),
         }

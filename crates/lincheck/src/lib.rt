@@ -2,23 +2,24 @@
 #![tactic(auto)]
 
 mod answer_form;
-mod by_prefixes;
 mod check_watcher;
+mod core_lines;
 mod device;
 mod each;
+mod each_explained;
 mod explanation_lines;
 mod fault;
 mod help;
 mod judgement;
 mod lines;
 mod listener;
-mod object_search;
+mod object_answer;
+mod object_check;
 mod pipeline;
 mod request;
 mod setting;
 mod status;
 mod verdict;
-mod verdict_ahead;
 
 pub use answer_form::AnswerForm;
 pub use device::{DeviceFault, Sink, Source, StdSink, StdSource};

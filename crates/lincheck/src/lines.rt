@@ -1,11 +1,11 @@
 //! The lines of an answer.
 
-ghost use Rattle.std.specs.Prelude.{◌≡◌, ℕ, ◌<◌, ◌++◌, length, slice_get, slice_index_or, vec_len, string_bytes, false, IfOk, OnOk, Some};
+ghost use Rattle.std.specs.Prelude.{◌≡◌, ℕ, ◌+◌, ◌<◌, ◌++◌, drop, length, slice_get, slice_index_or, vec_len, string_bytes, false, IfOk, OnOk, Some};
 ghost use Rattle.lin_object.specs.declared.op.Op.{Op};
 ghost use Rattle.lin_object.specs.declared.reply.Reply.{Reply};
 ghost use Rattle.lin_history.specs.Recorder.Events.{Call};
 ghost use Rattle.lin_history.specs.Recorder.RecordedHistory.{calls_on};
-ghost use Rattle.lincheck.specs.Report.{mark_of, call_line, call_lines, dropped_line, dropped_lines, is_placed, name_line, length_line, yes_report, no_report, undecided_report, stored_line, with_stats};
+ghost use Rattle.lincheck.specs.Report.{mark_of, call_line, call_lines, call_word, before_line, last_lines, dropped_line, dropped_lines, is_placed, name_line, length_line, yes_report, not_found_line, no_report, no_report_in_time, undecided_report, stored_line, with_stats};
 ghost use Rattle.lin_history.specs.Locality.RecordedWhole.{whole_of};
 ghost use Rattle.lin_history.specs.Verifier.Flags.{AreKnown};
 ghost use Rattle.lincheck.specs.Verdict.{IsOf, report_of};
@@ -14,6 +14,10 @@ use crate::verdict::Verdict;
 use lin_history::{History, Placed};
 use lin_object::Reply;
 use std::alloc::{AllocError, Global};
+
+/// The most calls of a longest run that are listed where it is told why it ends: that is in its last calls, and an answer should fit
+/// on a screen.
+pub(crate) const MAX_LISTED: usize = 16;
 
 // What says that a call is pending in the history.
 fn mark_of(returned: &Option<(u32, Reply)>) -> &'static str
@@ -58,16 +62,54 @@ fn write_dropped(out: &mut String, history: &History, index: usize) -> Result<()
     write!(out, "dropped {process} {name} {op}\n")
 }
 
-// Appends the lines of the calls of an order.
-fn write_calls(out: &mut String, history: &History, order: &[Placed]) -> Result<(), AllocError>
+// Appends the lines of the calls of an order, but for so many at its begin.
+fn write_calls(
+    out: &mut String,
+    history: &History,
+    order: &[Placed],
+    before: usize,
+) -> Result<(), AllocError>
     requires { AreKnown (whole_of history.now) order.now }
     ensures { OnOk result (string_bytes out.new
-        ≡ string_bytes out.old ++ call_lines history.now 1 order.now) }
+        ≡ string_bytes out.old ++ call_lines history.now (before + 1) (drop before order.now)) }
 {
-    for (index, placed) in order.iter().enumerate() {
-        write_call(out, history, index + 1, placed)?;
+    for index in before..order.len() {
+        write_call(out, history, index + 1, &order[index])?;
     }
     Ok(())
+}
+
+// The word for one call, or for more.
+fn call_word(count: usize) -> &'static str
+    ensures { result.now ≡ call_word count }
+{
+    if count == 1 { "call" } else { "calls" }
+}
+
+// Appends how many of so many calls come before the last ones, where there are any.
+fn write_before(out: &mut String, count: usize) -> Result<(), AllocError>
+    ensures { OnOk result (string_bytes out.new ≡ string_bytes out.old ++ before_line count) }
+{
+    if count <= MAX_LISTED {
+        return Ok(());
+    }
+    let before = count - MAX_LISTED;
+    let word = call_word(before);
+    write!(out, ".. {before} {word} before\n")
+}
+
+/// Appends the lines of the last calls of a run, and above them how many come before them.
+pub(crate) fn write_last_calls(
+    out: &mut String,
+    history: &History,
+    run: &[Placed],
+) -> Result<(), AllocError>
+    requires { AreKnown (whole_of history.now) run.now }
+    ensures { OnOk result (string_bytes out.new
+        ≡ string_bytes out.old ++ last_lines history.now run.now) }
+{
+    write_before(out, run.len())?;
+    write_calls(out, history, run, run.len().saturating_sub(MAX_LISTED))
 }
 
 // For each call whether it is in the order.
@@ -116,7 +158,7 @@ fn write_yes(
         ≡ string_bytes out.old ++ yes_report history.now order.now) }
 {
     out.push_str("linearizable\n")?;
-    write_calls(out, history, order)?;
+    write_calls(out, history, order, 0)?;
     write_drops(alloc, out, history, order)
 }
 
@@ -133,8 +175,12 @@ fn calls_on(history: &History, object: usize) -> usize
     count
 }
 
-// Appends the line that names an object without a linearization.
-fn write_name(out: &mut String, history: &History, object: usize) -> Result<(), AllocError>
+/// Appends the line that names an object without a linearization.
+pub(crate) fn write_name(
+    out: &mut String,
+    history: &History,
+    object: usize,
+) -> Result<(), AllocError>
     requires { object < length history.now.objects }
     ensures { OnOk result (string_bytes out.new
         ≡ string_bytes out.old ++ name_line history.now object) }
@@ -143,8 +189,8 @@ fn write_name(out: &mut String, history: &History, object: usize) -> Result<(), 
     write!(out, "not linearizable: {name}\n")
 }
 
-// Appends the line that says the length of a run of the object.
-fn write_length(
+/// Appends the line that says the length of a run of the object.
+pub(crate) fn write_length(
     out: &mut String,
     history: &History,
     object: usize,
@@ -172,7 +218,24 @@ fn write_no(
 {
     write_name(out, history, object)?;
     write_length(out, history, object, run)?;
-    write_calls(out, history, run)
+    write_calls(out, history, run, 0)
+}
+
+/// Appends the line that says that the longest run was not found in time.
+pub(crate) fn write_not_found(out: &mut String) -> Result<(), AllocError>
+    ensures { OnOk result (string_bytes out.new ≡ string_bytes out.old ++ not_found_line) }
+{
+    out.push_str("longest run: not found in time\n")
+}
+
+// Appends the report of an object that has no linearization, whose longest run was not found in time.
+fn write_no_in_time(out: &mut String, history: &History, object: usize) -> Result<(), AllocError>
+    requires { object < length history.now.objects }
+    ensures { OnOk result (string_bytes out.new
+        ≡ string_bytes out.old ++ no_report_in_time history.now object) }
+{
+    write_name(out, history, object)?;
+    write_not_found(out)
 }
 
 // Appends the report of an object that is not decided.
@@ -223,6 +286,7 @@ pub fn report(alloc: Global, history: &History, verdict: &Verdict) -> Result<Vec
     match verdict {
         Verdict::Yes(order) => write_yes(alloc, &mut out, history, order.placed())?,
         Verdict::No { object, run } => write_no(&mut out, history, *object, run.as_slice())?,
+        Verdict::NoInTime { object } => write_no_in_time(&mut out, history, *object)?,
         Verdict::Undecided { object } => write_undecided(&mut out, history, *object)?,
     }
     Ok(out.into_bytes())

@@ -11,11 +11,12 @@ ghost use Rattle.lincheck.specs.Reading.{IsReadOf, TakesAtMost};
 
 use crate::answer_form::AnswerForm;
 use crate::device::{DeviceFault, Sink, Source};
-use crate::each::{check_each_with, report_each, status_of_all};
-use crate::explanation_lines::with_explanation;
+use crate::each::{check_each_with, status_of_all};
+use crate::each_explained::report_each_explained;
+use crate::explanation_lines::report_explained;
 use crate::fault::RunFault;
 use crate::judgement::check_with;
-use crate::lines::{report, with_stats};
+use crate::lines::with_stats;
 use crate::listener::{Listener, NoListener};
 use crate::status::Status;
 use crate::verdict::Verdict;
@@ -81,12 +82,12 @@ fn status_of(verdict: &Verdict) -> Status
     match verdict {
         Verdict::Yes(_) => Status::Yes,
         Verdict::No { .. } => Status::No,
+        Verdict::NoInTime { .. } => Status::No,
         Verdict::Undecided { .. } => Status::Undecided,
     }
 }
 
-// What a history is answered: the status, and what is printed, with why the longest run ends where the lines of the events are
-// given.
+// What a history is answered: the status, and what is printed, with what explains it where the lines of the events are given.
 fn verdict_printed<R: AllocGlobal + Threads + Clock + Sync, L: Listener + Sync>(
     rt: &R,
     history: &History,
@@ -101,8 +102,7 @@ fn verdict_printed<R: AllocGlobal + Threads + Clock + Sync, L: Listener + Sync>(
     let Ok(checked) = check_with(rt, history, options, &FreeGate, listener) else {
         return Err(AllocError);
     };
-    let reported = report(rt.alloc(), history, &checked.verdict)?;
-    let explained = with_explanation(rt.alloc(), history, &checked.verdict, lines, reported)?;
+    let explained = report_explained(rt.alloc(), history, &checked.verdict, lines)?;
     let printed = with_stats(rt.alloc(), explained, options.stats(), checked.stored)?;
     Ok((status_of(&checked.verdict), printed))
 }
@@ -145,22 +145,25 @@ fn answer_explained<R: AllocGlobal + Threads + Clock + Sync, L: Listener + Sync>
     }
 }
 
-// What a history is answered with a line for each object: the status, and what is printed.
+// What a history is answered with a line for each object: the status, and what is printed, with cores where the lines of the events
+// are given.
 fn each_printed<R: AllocGlobal + Threads + Clock + Sync, L: Listener + Sync>(
     rt: &R,
     history: &History,
     options: &Options,
+    lines: Option<&[u64]>,
     listener: &L,
 ) -> Result<(Status, Vec<u8>), AllocError>
     ensures { IfOk result (λ answer. (text : List ℕ) → MeansHistory text history.now
-        → PrintsEach options.now history.now answer.0 answer.1.items) }
+        → PrintsEach options.now (option_map (λ l. l.now) lines.entry) history.now answer.0
+        answer.1.items) }
 {
     let Ok(checked) = check_each_with(rt, history, options, &FreeGate, listener) else {
         return Err(AllocError);
     };
     let statuses = checked.statuses.as_slice();
-    let lines = report_each(rt.alloc(), history, statuses)?;
-    let printed = with_stats(rt.alloc(), lines, options.stats(), checked.stored)?;
+    let told = report_each_explained(rt.alloc(), history, statuses, lines)?;
+    let printed = with_stats(rt.alloc(), told, options.stats(), checked.stored)?;
     Ok((status_of_all(statuses), printed))
 }
 
@@ -175,7 +178,29 @@ fn answer_each<R: AllocGlobal + Threads + Clock + Sync, L: Listener + Sync>(
         answer.1.items) }
 {
     match read_history(rt.alloc(), text) {
-        Ok(history) => each_printed(rt, &history, options, listener),
+        Ok(history) => each_printed(rt, &history, options, None, listener),
+        Err(fault) => refused(rt.alloc(), &fault),
+    }
+}
+
+// The same with cores.
+fn answer_each_explained<R: AllocGlobal + Threads + Clock + Sync, L: Listener + Sync>(
+    rt: &R,
+    text: &[u8],
+    options: &Options,
+    listener: &L,
+) -> Result<(Status, Vec<u8>), AllocError>
+    ensures { IfOk result (λ answer. Prints options.now AnswerForm.EachExplained text.now answer.0
+        answer.1.items) }
+{
+    match read_history_and_lines(rt.alloc(), text) {
+        Ok((history, lines)) => each_printed(
+            rt,
+            &history,
+            options,
+            Some(lines.as_slice()),
+            listener,
+        ),
         Err(fault) => refused(rt.alloc(), &fault),
     }
 }
@@ -194,6 +219,7 @@ fn answer<R: AllocGlobal + Threads + Clock + Sync, L: Listener + Sync>(
         AnswerForm::Report => answer_by_report(rt, text, options, listener),
         AnswerForm::Explained => answer_explained(rt, text, options, listener),
         AnswerForm::Each => answer_each(rt, text, options, listener),
+        AnswerForm::EachExplained => answer_each_explained(rt, text, options, listener),
     }
 }
 
@@ -229,7 +255,8 @@ fn tell_refusal<L: Listener + Sync>(listener: &L, status: Status, text: &[u8], a
     }
 }
 
-/// Does what `run`, `run_explained` or `run_each` does, as this form says, while a listener is told how far the check has come, what
+/// Does what `run`, `run_explained` or `run_each` does, as this form says, or what `run_each` does and tells behind each object that is
+/// not linearizable a few calls that alone have no order, where such are found; while a listener is told how far the check has come, what
 /// it took, and which text was refused. What is written is the same.
 /// Conditions, faults and what is left after them are those of `run`.
 pub fn run_with<R: AllocGlobal + Threads + Clock + Sync, S: Source, W: Sink, L: Listener + Sync>(
@@ -287,8 +314,9 @@ pub fn run<R: AllocGlobal + Threads + Clock + Sync, S: Source, W: Sink>(
     run_with(rt, source, sink, options, AnswerForm::Report, &NoListener)
 }
 
-/// Does what `run` does, and shows behind the report of a history that is not linearizable why the longest run ends: the state
-/// after it, each call that could come next with what it would answer there, and on which lines of the text the calls are.
+/// Does what `run` does, and shows of a history that is not linearizable a few calls that alone have no order, where such are found,
+/// and why the longest run ends: its last calls, the state after it, and each call that could come next with what it would answer
+/// there. Each call is shown with the lines of the text on which it is.
 /// Conditions, faults and what is left after them are those of `run`.
 pub fn run_explained<R: AllocGlobal + Threads + Clock + Sync, S: Source, W: Sink>(
     rt: &R,

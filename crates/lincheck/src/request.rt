@@ -22,10 +22,12 @@ pub const DEFAULT_SHARDS: u64 = 16;
 pub enum Request {
     /// A check with these options.
     Run(Options),
-    /// A check with these options that says why the longest run ends of a history that is not linearizable.
+    /// A check with these options that says of a history that is not linearizable why.
     Explain(Options),
     /// A check with these options of each object by itself.
     Each(Options),
+    /// The same that says of each object that is not linearizable why.
+    ExplainEach(Options),
     /// This text, which says how the program is used.
     Help(String),
     /// This text, which says the program's name and version.
@@ -124,21 +126,15 @@ fn is_each_asked(matches: &ArgMatches<'_>) -> bool
     matches.get_flag("each")
 }
 
-// The request for a check with these options, with an explanation or a line for each object where that is asked for. Both
-// together are refused.
-fn request_of(
-    alloc: Global,
-    options: Options,
-    explain: bool,
-    each: bool,
-) -> Result<Request, AllocError>
-    ensures { IfOk result (IsRequestOf options explain each) }
+// The request for a check with these options, with an explanation and a line for each object where that is asked for.
+fn request_of(options: Options, explain: bool, each: bool) -> Request
+    ensures { IsRequestOf options explain each result }
 {
     match (explain, each) {
-        (false, false) => Ok(Request::Run(options)),
-        (true, false) => Ok(Request::Explain(options)),
-        (false, true) => Ok(Request::Each(options)),
-        (true, true) => Ok(Request::Refused(String::from_str(alloc, help::EACH_EXPLAINED)?)),
+        (false, false) => Request::Run(options),
+        (true, false) => Request::Explain(options),
+        (false, true) => Request::Each(options),
+        (true, true) => Request::ExplainEach(options),
     }
 }
 
@@ -157,18 +153,17 @@ fn answer_to(alloc: Global, error: &Error) -> Result<Request, AllocError>
 
 /// What the words after the program's name ask for: `--workers N` (1 to `MAX_WORKERS`, 4 where absent), `--shards N` (1
 /// to `MAX_SHARDS`, 16), `--limit N` (1 to `MAX_LIMIT`, none), `--seconds N` (1 to `MAX_SECONDS`, none), `--stats`, `--explain`, `--each`, `--progress`, each at most once and in any order; or
-/// `--help`, or `--version`. Each number is read as a `u64`. `--explain` and `--each` together are refused, and so are any other words.
-/// The texts are `clap`'s, but for those two. `AllocError` where memory was refused.
+/// `--help`, or `--version`. Each number is read as a `u64`. Any other words are refused.
+/// The texts are `clap`'s. `AllocError` where memory was refused.
 pub fn options_of(alloc: Global, words: &[String]) -> Result<Request, AllocError>
     ensures { IfOk result (IsAnswerTo (map string_bytes words.entry.now)) }
 {
     match command_line(alloc)?.try_get_matches_from(words) {
-        Ok(matches) => request_of(
-            alloc,
+        Ok(matches) => Ok(request_of(
             options_asked(&matches),
             is_explain_asked(&matches),
             is_each_asked(&matches),
-        ),
+        )),
         Err(error) => answer_to(alloc, &error),
     }
 }

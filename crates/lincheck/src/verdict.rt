@@ -15,6 +15,12 @@ pub enum Verdict {
         /// Its longest run, the first of those of the greatest length.
         run: Vec<Placed>,
     },
+    /// It is not: the object of this index is the first without a linearization. Its longest run was not found before the time was
+    /// up.
+    NoInTime {
+        /// The index of the object.
+        object: usize,
+    },
     /// The search of the object of this index met its limit, or the time was up; each object before it has a linearization.
     Undecided {
         /// The index of the object.

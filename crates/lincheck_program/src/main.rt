@@ -41,9 +41,14 @@ fn check<R: AllocGlobal + Threads + Clock + Sync>(
     let mut sink = StdSink::new(io::writer(rt));
     let answer = run_with(threads, &mut source, &mut sink, options, form, &listener);
     if let Ok(Status::Undecided) = answer {
-        listener.say_why_undecided(options, form == AnswerForm::Each);
+        listener.say_why_undecided(options, is_of_each(form));
     }
     answer
+}
+
+// Whether a line is printed for each object in this form.
+fn is_of_each(form: AnswerForm) -> bool {
+    matches!(form, AnswerForm::Each | AnswerForm::EachExplained)
 }
 
 // The exit status of an answer; a fault is told on standard error.
@@ -64,6 +69,9 @@ fn carry_out<R: AllocGlobal + Threads + Clock + Sync>(
         Request::Run(options) => ended(rt, check(rt, threads, options, AnswerForm::Report)),
         Request::Explain(options) => ended(rt, check(rt, threads, options, AnswerForm::Explained)),
         Request::Each(options) => ended(rt, check(rt, threads, options, AnswerForm::Each)),
+        Request::ExplainEach(options) => {
+            ended(rt, check(rt, threads, options, AnswerForm::EachExplained))
+        }
         Request::Help(text) | Request::Version(text) => match print!(rt; "{text}") {
             Ok(()) => ExitCode::SUCCESS,
             Err(_) => ended(rt, Err(RunFault::Write)),

@@ -9,6 +9,7 @@ ghost use Rattle.lin_parts.specs.Keys.KeyedCalls.{AreKeyNumbers};
 ghost use Rattle.lin_parts.specs.Keys.Products.{AreListsOfKeys};
 ghost use Rattle.lin_parts.specs.Keys.PartOrder.{AreFullOrders};
 
+use crate::at_times::AtTimes;
 use crate::keys::calls_of_key::CallsOfKey;
 use crate::keys::key_answer::KeyAnswer;
 use crate::keys::key_calls::calls_of_keys;
@@ -16,9 +17,10 @@ use crate::keys::key_numbers::{KeyNumbers, key_numbers};
 use crate::keys::key_parts::parts_of_keys;
 use crate::keys::merge::{end_of_completed, merged};
 use crate::keys::part_answer::PartOrders;
-use crate::keys::part_orders::orders_of_parts;
+use crate::keys::part_orders::{PartBounds, orders_of_parts};
 use lin_history::{Order, Problem};
 use lin_object::{AnyObject, map_law, set_law};
+use lin_search::Stop;
 use std::alloc::{AllocError, Global};
 
 // The least linearization of the whole: the orders of the keys, merged, up to the last call that has returned.
@@ -47,13 +49,15 @@ fn whole_order(
 /// as a problem of its own; or that it has none, where one of them has none. `None` where that is not known: of a problem of
 /// another kind, or that does not start empty; where a call is no operation of the kind; and where the search of a key's calls
 /// would have taken more lifts than it may make. None of these searches makes more lifts than the limit allows, where there is
-/// one. `AllocError` where memory was refused.
+/// one; the stop is asked before each 256th lift of those that keep what they refuted, and where it answers nothing is known.
+/// `AllocError` where memory was refused.
 ///
 /// The time is that of the searches, and O(n log n) for n calls, however many keys there are.
-pub fn search_by_key(
+pub fn search_by_key<S: Stop>(
     alloc: Global,
     problem: &Problem<AnyObject>,
     limit: Option<u64>,
+    stop: &mut S,
 ) -> Result<Option<KeyAnswer>, AllocError>
     ensures { IfOk result (λ answer. IfSome answer (IsKeyAnswer (any_problem problem.now))) }
 {
@@ -65,7 +69,15 @@ pub fn search_by_key(
     let numbers = known.numbers.as_slice();
     let lists = calls_of_keys(alloc, numbers, known.keys.len())?;
     let parts = parts_of_keys(alloc, problem, numbers, lists.as_slice())?;
-    match orders_of_parts(alloc, problem, lists.as_slice(), parts.as_slice(), limit)? {
+    let stop = AtTimes::new(stop);
+    let mut bounds = PartBounds { limit, stop };
+    match orders_of_parts(
+        alloc,
+        problem,
+        lists.as_slice(),
+        parts.as_slice(),
+        &mut bounds,
+    )? {
         PartOrders::Found(orders) => {
             let order = whole_order(alloc, problem, &known, lists.as_slice(), orders.as_slice())?;
             Ok(Some(KeyAnswer::Found(order)))

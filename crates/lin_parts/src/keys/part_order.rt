@@ -12,7 +12,7 @@ use crate::keys::part_answer::PartAnswer;
 use lin_ahead::{FirstAnswer, KnownAhead, known_ahead, search_first};
 use lin_history::{Order, Problem};
 use lin_object::{AnyObject, lawful};
-use lin_search::{Config, NoStop, Outcome, OwnMemo, search};
+use lin_search::{Config, Outcome, OwnMemo, Stop, search};
 use std::alloc::{AllocError, Global};
 
 // The most lifts of a first search for each call of a part.
@@ -28,7 +28,16 @@ const MORE_LIFTS: u64 = 4_000;
 fn budget(calls: usize, for_a_call: u64, more: u64, limit: Option<u64>) -> u64
     ensures { IfSome limit (λ most. result ≤ most) }
 {
-    let lifts = for_a_call.saturating_mul(calls as u64).saturating_add(more);
+    within(
+        for_a_call.saturating_mul(calls as u64).saturating_add(more),
+        limit,
+    )
+}
+
+/// So many lifts, but never more than the limit.
+pub(crate) fn within(lifts: u64, limit: Option<u64>) -> u64
+    ensures { IfSome limit (λ most. result ≤ most) }
+{
     match limit {
         Some(most) => most.min(lifts),
         None => lifts,
@@ -66,10 +75,11 @@ fn told_by(outcome: Outcome) -> PartAnswer
 }
 
 // What a search says that keeps what it refuted.
-fn full_answer(
+fn full_answer<S: Stop>(
     alloc: Global,
     part: &Problem<AnyObject>,
     limit: Option<u64>,
+    stop: &mut S,
 ) -> Result<PartAnswer, AllocError>
     ensures { IfOk result (IsAnswerTo (any_problem part.now)) }
 {
@@ -77,16 +87,17 @@ fn full_answer(
     let lifts = budget(part.len(), LIFTS_FOR_A_CALL, MORE_LIFTS, limit);
     let root = Config::root(alloc, part)?;
     let mut memo = OwnMemo::new(alloc, part);
-    let outcome = search(alloc, part, &root, &mut memo, Some(lifts), &mut NoStop)?;
+    let outcome = search(alloc, part, &root, &mut memo, Some(lifts), stop)?;
     Ok(told_by(outcome))
 }
 
 // What searches of the part show: a first search where something is known ahead, and where that says nothing, one that keeps
 // what it refuted.
-fn answer_to(
+fn answer_to<S: Stop>(
     alloc: Global,
     part: &Problem<AnyObject>,
     limit: Option<u64>,
+    stop: &mut S,
 ) -> Result<PartAnswer, AllocError>
     ensures { IfOk result (IsAnswerTo (any_problem part.now)) }
 {
@@ -95,7 +106,7 @@ fn answer_to(
         None => PartAnswer::Unknown,
     };
     match answer {
-        PartAnswer::Unknown => full_answer(alloc, part, limit),
+        PartAnswer::Unknown => full_answer(alloc, part, limit, stop),
         known => Ok(known),
     }
 }
@@ -114,13 +125,14 @@ fn full_order(alloc: Global, kept: &[usize], order: Order) -> Result<Option<Orde
 }
 
 /// What searches of the part of these calls show: its least linearization and behind it the pending calls that it lacks, by
-/// their numbers in the whole; or that it has none; or nothing. `AllocError` where memory was refused.
-pub(crate) fn order_of_part(
+/// their numbers in the whole; or that it has none; or nothing, and so where the stop answers. `AllocError` where memory was refused.
+pub(crate) fn order_of_part<S: Stop>(
     alloc: Global,
     problem: &Problem<AnyObject>,
     kept: &[usize],
     part: &Problem<AnyObject>,
     limit: Option<u64>,
+    stop: &mut S,
 ) -> Result<PartAnswer, AllocError>
     requires { IsRising kept.now }
     ensures { IfOk result (IsPartOrder (any_problem problem.now) kept.now) }
@@ -128,7 +140,7 @@ pub(crate) fn order_of_part(
     if !is_part(problem, kept, part) {
         return Ok(PartAnswer::Unknown);
     }
-    let order = match answer_to(alloc, part, limit)? {
+    let order = match answer_to(alloc, part, limit, stop)? {
         PartAnswer::Found(order) => order,
         PartAnswer::Refuted => return Ok(PartAnswer::Refuted),
         PartAnswer::Unknown => return Ok(PartAnswer::Unknown),

@@ -107,10 +107,21 @@ fn each_run(alloc: Global) -> Result<bool, AllocError> {
     asks_of_each(alloc, &["--each"], &usual)
 }
 
+// Whether an explanation of each object is taken.
+fn explained_each_run(alloc: Global) -> Result<bool, AllocError> {
+    let Ok(usual) = Options::new(4, 16, None, false) else {
+        return Ok(false);
+    };
+    match &request(alloc, &["--each", "--explain"])? {
+        Request::ExplainEach(options) => Ok(options == &usual),
+        _ => Ok(false),
+    }
+}
+
 #[test]
 fn words_ask_for_each_object(rt: HostRuntime) {
     assert!(rt; matches!(each_run(rt.alloc()), Ok(true)));
-    assert!(rt; matches!(is_refused(rt.alloc(), &["--each", "--explain"]), Ok(true)));
+    assert!(rt; matches!(explained_each_run(rt.alloc()), Ok(true)));
 }
 
 #[test]

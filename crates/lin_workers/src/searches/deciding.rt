@@ -3,6 +3,7 @@ ghost use Rattle.std.specs.Prelude.{◌≡◌, ℕ, ◌++◌, length, IfOk, IfSo
 ghost use Rattle.lin_history.specs.Problems.Problem.{problem_of};
 ghost use Rattle.lin_history.specs.Problems.Configurations.{IsReachable};
 ghost use Rattle.lin_search.specs.Answer.{HasNoCompletion, IsAnswer};
+ghost use Rattle.lin_workers.specs.Bounds.{without_time};
 ghost use Rattle.lin_workers.specs.Cut.{DecideBy, IsCut};
 ghost use Rattle.lin_workers.specs.Outcomes.{AreOutcomes};
 ghost use Rattle.lin_workers.specs.Verdict.{IsNextTask, IsObjectVerdict};
@@ -33,7 +34,7 @@ pub(crate) fn verdict_of_tasks<O: SeqObject, M: Memo<O>, W: Watcher>(
     requires outcomes { AreOutcomes (problem_of O.after O.State.eq O.Reply.eq problem.now) tasks.now
         bounds.now.limit outcomes.old }
     ensures verdict { IfOk result (IsObjectVerdict
-        (problem_of O.after O.State.eq O.Reply.eq problem.now) bounds.now) }
+        (problem_of O.after O.State.eq O.Reply.eq problem.now) (without_time bounds.now)) }
     ensures memo { M.changes memo.old memo.new }
 {
     lawful::<O>();
@@ -85,7 +86,8 @@ fn verdict_of_task<O: SeqObject, W: Watcher>(
     requires answer { IsAnswer (problem_of O.after O.State.eq O.Reply.eq problem.now)
         task.now.config.lifted task.now.config.state bounds.now.limit (λ told. ⊥) outcome }
     ensures verdict { IfOk result (λ decided. IfSome decided
-        (IsObjectVerdict (problem_of O.after O.State.eq O.Reply.eq problem.now) bounds.now)) }
+        (IsObjectVerdict (problem_of O.after O.State.eq O.Reply.eq problem.now)
+        (without_time bounds.now))) }
     ensures refuted { IfOk result (λ decided. IfNone decided (HasNoCompletion
         (problem_of O.after O.State.eq O.Reply.eq problem.now) task.now.config.lifted
         task.now.config.state)) }

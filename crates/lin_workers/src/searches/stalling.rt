@@ -1,5 +1,6 @@
 //! The search of the calling thread by itself, which ends where it makes no progress.
-ghost use Rattle.std.specs.Prelude.{◌≡◌, ℕ, IfOk, IfSome};
+ghost use Rattle.std.specs.Prelude.{◌≡◌, ℕ, IfOk};
+ghost use Rattle.std.specs.ControlFlow.{ForContinue};
 ghost use Rattle.lin_history.specs.Problems.Configurations.{IsReachable};
 ghost use Rattle.lin_history.specs.Problems.Problem.{problem_of};
 ghost use Rattle.lin_search.specs.Answer.{IsAnswer};
@@ -15,22 +16,26 @@ use lin_history::Problem;
 use lin_object::SeqObject;
 use lin_search::{CallSet, Memo, NoStop, Outcome};
 use std::alloc::Global;
+use std::ops::ControlFlow;
 use std::sync::atomic::AtomicBool;
 
-// A search stalls at the earliest when so many lifts in a row have made no progress.
-const LIFTS_IN_VAIN: u64 = 500_000;
+/// After so many lifts in vain workers share a search. A shorter search costs less than threads, and one that has come so far without
+/// progress most likely has far more to refute.
+pub(crate) const LIFTS_BEFORE_WORKERS: u64 = 500_000;
 
 /// How long the calling thread goes on by itself.
 #[derive(Clone, Copy, Debug)]
 pub enum Patience {
-    /// Until its search stalls: the last 500,000 lifts and the last third of all have made no progress.
-    UntilStalled,
+    /// Until its search stalls: so many lifts in a row, and the last third of all, have made no progress.
+    UntilStalled(u64),
+    /// For so many lifts, with progress or without.
+    ForLifts(u64),
     /// To the end of its search.
     ToTheEnd,
 }
 
 // The outcomes of the tasks of a cut before they are taken in their order: of a thread that goes on to the end none; else that
-// of the first, of its search over the memo, or `None` where that search stalls.
+// of the first, of its search over the memo. Where that search stalls, how many lifts it made.
 pub(crate) fn outcomes_unless_stalled<O: SeqObject, M: Memo<O>, W: Watcher>(
     alloc: Global,
     problem: &Problem<O>,
@@ -38,22 +43,23 @@ pub(crate) fn outcomes_unless_stalled<O: SeqObject, M: Memo<O>, W: Watcher>(
     memo: &mut M,
     patience: Patience,
     bounds: &Bounds<'_, W>,
-) -> Result<Option<Vec<Option<Outcome>>>, Unfinished>
+) -> Result<ControlFlow<u64, Vec<Option<Outcome>>>, Unfinished>
     requires { (k : ℕ) × IsCut (problem_of O.after O.State.eq O.Reply.eq problem.now) k tasks.now }
-    ensures outcomes { IfOk result (λ found. IfSome found (λ outcomes. AreOutcomes
+    ensures outcomes { IfOk result (λ brought. ForContinue brought (λ outcomes. AreOutcomes
         (problem_of O.after O.State.eq O.Reply.eq problem.now) tasks.now bounds.now.limit outcomes.items)) }
     ensures memo { M.changes memo.old memo.new }
 {
     let mut outcomes = no_outcomes(alloc, tasks.len())?;
     if let Patience::ToTheEnd = patience {
-        return Ok(Some(outcomes));
+        return Ok(ControlFlow::Continue(outcomes));
     }
-    let outcome = search_until_stalled(alloc, problem, &tasks[0], memo, bounds)?;
+    let mut progress = Progress::none(patience);
+    let outcome = search_until_stalled(alloc, problem, &tasks[0], memo, &mut progress, bounds)?;
     if was_stopped(&outcome) {
-        return Ok(None);
+        return Ok(ControlFlow::Break(progress.lifts));
     }
     place_value(outcomes.as_mut_slice(), 0, outcome);
-    Ok(Some(outcomes))
+    Ok(ControlFlow::Continue(outcomes))
 }
 
 // Searches the configuration of the task over the memo, and is stopped where it stalls.
@@ -62,6 +68,7 @@ fn search_until_stalled<O: SeqObject, M: Memo<O>, W: Watcher>(
     problem: &Problem<O>,
     task: &Task<O>,
     memo: &mut M,
+    progress: &mut Progress,
     bounds: &Bounds<'_, W>,
 ) -> Result<Outcome, Unfinished>
     requires reachable { IsReachable (problem_of O.after O.State.eq O.Reply.eq problem.now)
@@ -71,15 +78,14 @@ fn search_until_stalled<O: SeqObject, M: Memo<O>, W: Watcher>(
     ensures memo { M.changes memo.old memo.new }
 {
     let has_stalled = AtomicBool::new(false);
-    let mut progress = Progress::none();
-    let mut memo = WatchedMemo::new(memo, &mut progress, &has_stalled);
+    let mut memo = WatchedMemo::new(memo, progress, &has_stalled);
     let mut none = NoStop;
     let mut stop = UntilOver::new(&mut none, &has_stalled, &Unwatched);
     search_unless_starved(alloc, problem, &task.config, &mut memo, bounds, &mut stop)
 }
 
 // How far a search has come: the greatest sum of the numbers of lifted calls, how many lifts it has made, and how many of
-// them since it came there. One that goes on to a linearization comes further all the time, but for short ways back; one that
+// them since it came there; and how long it goes on. One that goes on to a linearization comes further all the time, but for short ways back; one that
 // finds none has soon been as far as it can come, and refutes from there on. So one that has stalled most likely has much to
 // refute, which workers share well.
 #[derive(Drop)]
@@ -87,15 +93,17 @@ struct Progress {
     furthest: u64,
     lifts: u64,
     in_vain: u64,
+    patience: Patience,
 }
 
 impl Progress {
     // Of a search that begins.
-    fn none() -> Progress {
+    fn none(patience: Patience) -> Progress {
         Progress {
             furthest: 0,
             lifts: 0,
             in_vain: 0,
+            patience,
         }
     }
 
@@ -109,9 +117,14 @@ impl Progress {
         }
     }
 
-    // Whether the search has made no progress for long, and for a third of all its lifts.
+    // Whether the search is to end: it has made no progress for long, and for a third of all its lifts; or it has made its lifts.
     fn has_stalled(&self) -> bool {
-        self.in_vain >= LIFTS_IN_VAIN && self.in_vain >= self.lifts / 3
+        match self.patience {
+            Patience::UntilStalled(lifts) => self.in_vain >= lifts
+                && self.in_vain >= self.lifts / 3,
+            Patience::ForLifts(lifts) => self.lifts >= lifts,
+            Patience::ToTheEnd => false,
+        }
     }
 }
 

@@ -12,8 +12,8 @@ use std::sync::atomic::Ordering::SeqCst;
 // How many lifts a search makes from one look at the flag to the next.
 const LIFTS_BETWEEN: u32 = 64;
 
-// How many lifts it makes from one look at the clock to the next.
-const LIFTS_TO_CLOCK: u32 = 4_096;
+// How many lifts it makes from one look at the clock to the next. Where thousands of calls overlap, a lift may take a millisecond.
+const LIFTS_TO_CLOCK: u32 = 256;
 
 /// What watches a search, by what it asks of its memo and what it is answered.
 pub(crate) trait Watch {
@@ -203,7 +203,7 @@ impl<'a, 'b, 'c, S: Stop, W: Watcher> Stop for UntilOver<'a, 'b, 'c, S, W> {
     ) };
 }
 
-// How many lifts were made since the clock was last asked, which is asked at the first and after each 4,096 lifts.
+// How many lifts were made since the clock was last asked, which is asked at the first and after each 256 lifts.
 fn made_before(lifts: u32) -> u64 {
     if lifts == 0 {
         0

@@ -4,6 +4,7 @@ ghost use Rattle.lin_history.specs.Problems.Problem.{problem_of};
 ghost use Rattle.lin_workers.specs.Cut.{IsCut, IsLastLevel, IsWidestMade, DecideBy};
 ghost use Rattle.lin_workers.specs.Levels.{AreLevels};
 
+use crate::bounds::{Unfinished, Unwatched, Watcher};
 use crate::tasks::level::{first_level, has_complete, next_level};
 use crate::tasks::task::Task;
 use lin_history::Problem;
@@ -24,12 +25,13 @@ struct Levels<O: SeqObject> {
 impl<O: SeqObject> Levels<O> {
     // Makes the next level, where the last has fewer configurations than are wanted and none that is complete, and the next
     // has some. Answers whether it did.
-    fn make_next(
+    fn make_next<W: Watcher>(
         &mut self,
         alloc: Global,
         problem: &Problem<O>,
         want: usize,
-    ) -> Result<bool, AllocError>
+        watcher: &W,
+    ) -> Result<bool, Unfinished>
         requires { (n : ℕ) × (n < LAST_LEVEL)
             × AreLevels (problem_of O.after O.State.eq O.Reply.eq problem.now) want n
             self.old.widest.items self.old.last.items }
@@ -49,7 +51,7 @@ impl<O: SeqObject> Levels<O> {
         if self.last.len() >= want || has_complete(problem, self.last.as_slice()) {
             return Ok(false);
         }
-        let next = next_level(alloc, problem, self.last.as_slice())?;
+        let next = next_level(alloc, problem, self.last.as_slice(), watcher)?;
         if next.is_empty() {
             return Ok(false);
         }
@@ -106,17 +108,37 @@ pub fn cut<O: SeqObject>(
     ensures decides { IfOk result (λ tasks. DecideBy
         (problem_of O.after O.State.eq O.Reply.eq problem.now) tasks.items) }
 {
+    match cut_in_time(alloc, problem, want, &Unwatched) {
+        Ok(tasks) => Ok(tasks),
+        Err(_) => Err(AllocError),
+    }
+}
+
+/// The same within a time. `Unfinished` where memory was refused or the time was up.
+pub(crate) fn cut_in_time<O: SeqObject, W: Watcher>(
+    alloc: Global,
+    problem: &Problem<O>,
+    want: usize,
+    watcher: &W,
+) -> Result<Vec<Task<O>>, Unfinished>
+    ensures cut { IfOk result (λ tasks. (k : ℕ)
+        × IsCut (problem_of O.after O.State.eq O.Reply.eq problem.now) k tasks.items
+        × IsWidestMade (problem_of O.after O.State.eq O.Reply.eq problem.now) LAST_LEVEL want k) }
+    ensures decides { IfOk result (λ tasks. DecideBy
+        (problem_of O.after O.State.eq O.Reply.eq problem.now) tasks.items) }
+{
     lawful::<O>();
-    let levels = all_levels(alloc, problem, want)?;
+    let levels = all_levels(alloc, problem, want, watcher)?;
     Ok(levels.into_widest())
 }
 
 // The levels that a cut is chosen of: one after another, up to the last that is made.
-fn all_levels<O: SeqObject>(
+fn all_levels<O: SeqObject, W: Watcher>(
     alloc: Global,
     problem: &Problem<O>,
     want: usize,
-) -> Result<Levels<O>, AllocError>
+    watcher: &W,
+) -> Result<Levels<O>, Unfinished>
     ensures { IfOk result (λ levels. (n : ℕ)
         × AreLevels (problem_of O.after O.State.eq O.Reply.eq problem.now) want n
         levels.widest.items levels.last.items
@@ -128,7 +150,7 @@ fn all_levels<O: SeqObject>(
         last: first_level(alloc, problem)?,
     };
     for _ in 0..LAST_LEVEL {
-        if !levels.make_next(alloc, problem, want)? {
+        if !levels.make_next(alloc, problem, want, watcher)? {
             return Ok(levels);
         }
     }

@@ -9,6 +9,7 @@ ghost use Rattle.lin_search.specs.NextCall.{HasEveryCompleted};
 ghost use Rattle.lin_workers.specs.Cut.{Task as TaskOf, IsTask, AreLevel, HasNoComplete, IsAtLevel, configurations_of};
 ghost use Rattle.lin_workers.specs.NextLevel.{IsFilled};
 
+use crate::bounds::{Unfinished, Watcher};
 use crate::tasks::task::Task;
 use lin_history::{Order, Problem};
 use lin_object::{SeqObject, lawful};
@@ -37,12 +38,13 @@ pub(crate) fn first_level<O: SeqObject>(
     Ok(tasks)
 }
 
-// The level that one call leads to from this one.
-pub(crate) fn next_level<O: SeqObject>(
+// The level that one call leads to from this one. `Unfinished` where memory was refused or the time was up.
+pub(crate) fn next_level<O: SeqObject, W: Watcher>(
     alloc: Global,
     problem: &Problem<O>,
     level: &[Task<O>],
-) -> Result<Vec<Task<O>>, AllocError>
+    watcher: &W,
+) -> Result<Vec<Task<O>>, Unfinished>
     requires { (k : ℕ) × AreLevel (problem_of O.after O.State.eq O.Reply.eq problem.now) k
         level.now }
     ensures { IfOk result (λ next. (k : ℕ)
@@ -53,20 +55,21 @@ pub(crate) fn next_level<O: SeqObject>(
     let mut entries = Entries::new(alloc, problem)?;
     let mut next = Vec::new(alloc);
     for parent in level {
-        add_children(alloc, problem, parent, &mut entries, &mut next)?;
+        add_children(alloc, problem, parent, &mut entries, &mut next, watcher)?;
     }
     Ok(next)
 }
 
 // Adds what each call leads to from the parent. The entries are those of all calls, before, and after unless
-// memory was refused.
-fn add_children<O: SeqObject>(
+// memory was refused or the time was up.
+fn add_children<O: SeqObject, W: Watcher>(
     alloc: Global,
     problem: &Problem<O>,
     parent: &Task<O>,
     entries: &mut Entries<'_, O>,
     next: &mut Vec<Task<O>>,
-) -> Result<(), AllocError>
+    watcher: &W,
+) -> Result<(), Unfinished>
     requires whole { entries.old ≡ record { problem = problem.now; lifted = [] } }
     requires task { (k : ℕ) × IsTask (problem_of O.after O.State.eq O.Reply.eq problem.now) k
         parent.now }
@@ -83,6 +86,9 @@ fn add_children<O: SeqObject>(
     lift_run(entries, run);
     let mut candidate = entries.first_minimal();
     while let Some(call) = candidate {
+        if watcher.is_up() {
+            return Err(Unfinished::Time);
+        }
         add_child(alloc, problem, parent, call, next)?;
         candidate = entries.next_minimal(call);
     }

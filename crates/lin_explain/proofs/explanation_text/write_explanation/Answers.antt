@@ -6,7 +6,7 @@ use Rattle.lin_explain.proofs.explanation_text.write_explanation.Goals as goal
 
 pub returns : goal.returns
 returns c =
-    let keys : c.as_slice.result.now ≡ keys_with c.args.shown.now.calls.now [] c.args.explanation.now.next.items = c.as_slice.ensures.value ∙ rw c.as_slice-next.ensures.value at c.in_ok-keys.ensures in
+    let keys : c.as_slice.result.now ≡ keys_with c.args.shown.now.calls.now [] c.args.next.now = c.as_slice.ensures.value ∙ c.in_ok-keys.ensures in
     let first = rw keys at c.in_ok-write_state_line.ensures in
-    on_ok_weaker c.write_next_lines.result (λ second. behind_both _ _ _ (state_line c.args.name.now (keys_with c.args.shown.now.calls.now [] c.args.explanation.now.next.items) c.args.explanation.now.state) _ first second)
-    (rw c.as_slice-next.ensures.value at c.write_next_lines.ensures)
+    on_ok_weaker c.write_next_lines.result (λ second. behind_both _ _ _ (state_line c.args.name.now (keys_with c.args.shown.now.calls.now [] c.args.next.now) c.args.shown.now.state.now) _ first second)
+    c.write_next_lines.ensures

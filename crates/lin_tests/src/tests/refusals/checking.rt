@@ -62,6 +62,7 @@ fn is_verdict(verdict: &Verdict, row: Row) -> bool {
     match verdict {
         Verdict::Yes(order) => row.1 && are_calls(order.placed(), row.2),
         Verdict::No { object, run } => !row.1 && *object == 0 && are_calls(run.as_slice(), row.2),
+        Verdict::NoInTime { .. } => false,
         Verdict::Undecided { .. } => false,
     }
 }
@@ -306,6 +307,7 @@ fn are_same(one: &Request, other: &Request) -> bool {
         (Request::Run(a), Request::Run(b)) => a == b,
         (Request::Explain(a), Request::Explain(b)) => a == b,
         (Request::Each(a), Request::Each(b)) => a == b,
+        (Request::ExplainEach(a), Request::ExplainEach(b)) => a == b,
         (Request::Help(a), Request::Help(b)) => a.as_str() == b.as_str(),
         (Request::Refused(a), Request::Refused(b)) => a.as_str() == b.as_str(),
         _ => false,

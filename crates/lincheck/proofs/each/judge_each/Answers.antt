@@ -10,9 +10,9 @@ loop-object-init g c = (rw c.new-statuses.ensures.items (statuses_none c.args.hi
 
 pub loop-object-preserved : goal.loop-object-preserved
 loop-object-preserved g c = (
-  rw c.in_ok-push.ensures.items (statuses_more c.args.history.now c.args.setting.now.bounds c.loop-object.object c.loop-object.statuses.items c.status_by.result c.loop-object.invariant.0 (c.status_by.ensures c.args.history.now c.args.setting.now.bounds c.loop-object.object c.in_ok-verdict.ensures.verdict)),
+  rw c.in_ok-push.ensures.items (statuses_more c.args.history.now c.args.setting.now.bounds c.loop-object.object c.loop-object.statuses.items c.status_by.result c.loop-object.invariant.0 (c.status_by.ensures c.args.history.now _ c.args.setting.now.bounds c.loop-object.object c.in_ok-answer.ensures.answer)),
   c.loop-object.invariant.1,
-  stored_more c.args.history.now c.loop-object.object c.loop-object.stored c.in_ok-verdict.more c.with_more-stored.result c.loop-object.invariant.2 c.in_ok-verdict.ensures.stored c.with_more-stored.ensures.sum c.with_more-stored.ensures.told,
+  stored_more c.args.history.now c.loop-object.object c.loop-object.stored c.in_ok-answer.more c.with_more-stored.result c.loop-object.invariant.2 c.in_ok-answer.ensures.stored c.with_more-stored.ensures.sum c.with_more-stored.ensures.told,
 )
 
 pub returns-clause-statuses : goal.returns-clause-statuses

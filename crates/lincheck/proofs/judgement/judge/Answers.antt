@@ -5,7 +5,7 @@ use Rattle.lincheck.proofs.JudgeLemmas.{least_none, least_more, linearizations, 
 use Rattle.lincheck.proofs.judgement.judge.Goals as goal
 
 pub order_or_end-requires-clause-right : goal.order_or_end-requires-clause-right
-order_or_end-requires-clause-right g c = (c.args.setting.now.bounds, c.in_ok-verdict.ensures.verdict)
+order_or_end-requires-clause-right g c = (c.args.setting.now.bounds, c.in_ok-answer.ensures.answer)
 
 pub loop-object-init : goal.loop-object-init
 loop-object-init g c = (rw c.new-orders.ensures.items (least_none c.args.history.now), refl, stored_none c.args.history.now)
@@ -13,15 +13,15 @@ loop-object-init g c = (rw c.new-orders.ensures.items (least_none c.args.history
 pub returns-in-Break-clause-stored : goal.returns-in-Break-clause-stored
 returns-in-Break-clause-stored g c =
     subst (λ n. IsStoredTold c.args.history.now n c.with_more-stored.result) (sym (c.in_ok-order.ensures.judged c.in-Break.verdict c.in-Break.is))
-    (stored_more c.args.history.now c.loop-object.object c.loop-object.stored c.in_ok-verdict.more c.with_more-stored.result c.loop-object.invariant.2 c.in_ok-verdict.ensures.stored c.with_more-stored.ensures.sum c.with_more-stored.ensures.told)
+    (stored_more c.args.history.now c.loop-object.object c.loop-object.stored c.in_ok-answer.more c.with_more-stored.result c.loop-object.invariant.2 c.in_ok-answer.ensures.stored c.with_more-stored.ensures.sum c.with_more-stored.ensures.told)
 
 pub returns-in-Break-clause-verdict : goal.returns-in-Break-clause-verdict
 returns-in-Break-clause-verdict g c =
-    c.in_ok-order.ensures.end c.loop-object.orders.items c.args.setting.now.bounds c.loop-object.invariant.0 c.in_ok-verdict.ensures.verdict c.in-Break.verdict c.in-Break.is
+    c.in_ok-order.ensures.end c.loop-object.orders.items c.args.setting.now.bounds c.loop-object.invariant.0 c.in_ok-answer.ensures.answer c.in-Break.verdict c.in-Break.is
 
 pub loop-object-preserved : goal.loop-object-preserved
 loop-object-preserved g c =
-    (rw c.in_ok-push-in-Continue.ensures.items (least_more c.args.history.now c.loop-object.orders.items c.in-Continue.order c.loop-object.object c.loop-object.invariant.0 (c.in_ok-order.ensures.order c.in-Continue.order c.in-Continue.is)), c.loop-object.invariant.1, stored_more c.args.history.now c.loop-object.object c.loop-object.stored c.in_ok-verdict.more c.with_more-stored.result c.loop-object.invariant.2 c.in_ok-verdict.ensures.stored c.with_more-stored.ensures.sum c.with_more-stored.ensures.told)
+    (rw c.in_ok-push-in-Continue.ensures.items (least_more c.args.history.now c.loop-object.orders.items c.in-Continue.order c.loop-object.object c.loop-object.invariant.0 (c.in_ok-order.ensures.order c.in-Continue.order c.in-Continue.is)), c.loop-object.invariant.1, stored_more c.args.history.now c.loop-object.object c.loop-object.stored c.in_ok-answer.more c.with_more-stored.result c.loop-object.invariant.2 c.in_ok-answer.ensures.stored c.with_more-stored.ensures.sum c.with_more-stored.ensures.told)
 
 pub join-requires-clause-each : goal.join-requires-clause-each
 join-requires-clause-each g c =

@@ -6,7 +6,7 @@ use Rattle.lin_parts.proofs.keys.part_orders.orders_of_parts.Given as goal
 
 -- each part so far has a full order
 abbrev pub invariant-loop-key : goal.invariant-loop-key
-invariant-loop-key l = record {
+invariant-loop-key g l = record {
   count : length l.orders.items ≡ l.key;
   each : (k : ℕ) → k < l.key → IsFullOrder (any_problem l.problem) (order_at l.lists k) (order_at l.orders.items k);
 }

@@ -4,7 +4,7 @@ use Rattle.lin_search.specs.SameLemmas.{alike_itself}
 use Rattle.lin_workers.proofs.tasks.level.next_level.Goals as goal
 
 pub add_children-requires-clause-task : goal.add_children-requires-clause-task
-add_children-requires-clause-task g c = (c.requires.0, task_at _ _ _ _ _ c.requires.1.each (item_at _ _ _ c.loop-parent-test.true c.parent-item.is))
+add_children-requires-clause-task g c κs sync = (c.requires.0, task_at _ _ _ _ _ c.requires.1.each (item_at _ _ _ c.loop-parent-test.true c.parent-item.is))
 
 pub loop-parent-init : goal.loop-parent-init
 loop-parent-init g c = record { whole = c.in_ok-entries.ensures; filled = λ k level. rw c.new-next.ensures.items (filled_none _ k c.args.level.now) }

@@ -1,0 +1,128 @@
+//! A line for each object of a history, with the calls of a core behind that of one that is not linearizable.
+
+ghost use Rattle.std.specs.Prelude.{◌≡◌, ◌++◌, ◌<◌, ℕ, List, Some, length, option_map, slice_get, string_bytes, IfOk, OnOk};
+ghost use Rattle.lin_history.specs.Recorder.Parts.{start_of, part_calls};
+ghost use Rattle.lin_explain.specs.declared.core_text.CoreCall.{CoreCall as Told};
+ghost use Rattle.lincheck.specs.Each.{told_text, AreStatusLines, AreToldFrom, IsToldBehind};
+
+use crate::core_lines::core_calls;
+use crate::each::{report_each, write_status};
+use crate::status::Status;
+use lin_explain::{CoreCall, write_core};
+use lin_history::{History, Problem};
+use lin_object::AnyObject;
+use std::alloc::{AllocError, Global};
+
+// The calls that are told behind the line of the object of this index, of which the problem is the part of the history on it.
+fn told_behind(
+    alloc: Global,
+    history: &History,
+    object: usize,
+    problem: &Problem<AnyObject>,
+    status: Status,
+) -> Result<Vec<CoreCall>, AllocError>
+    requires start { option_map start_of (slice_get history.now.objects object)
+        ≡ Some problem.now.start }
+    requires calls { problem.now.calls ≡ part_calls history.now object }
+    ensures { IfOk result (λ told. IsToldBehind history.now object status told.items) }
+{
+    match status {
+        Status::No => core_calls(alloc, history, object, problem),
+        Status::Yes => Ok(Vec::new(alloc)),
+        Status::Undecided => Ok(Vec::new(alloc)),
+        Status::Refused => Ok(Vec::new(alloc)),
+    }
+}
+
+// The line of the object of this index, with what is told behind it.
+fn told_of(
+    alloc: Global,
+    history: &History,
+    object: usize,
+    problem: &Problem<AnyObject>,
+    status: Status,
+    lines: &[u64],
+) -> Result<String, AllocError>
+    requires declared { object < length history.now.objects }
+    requires start { option_map start_of (slice_get history.now.objects object)
+        ≡ Some problem.now.start }
+    requires calls { problem.now.calls ≡ part_calls history.now object }
+    ensures { IfOk result (λ text. (told : List Told) × IsToldBehind history.now object status told
+        × (string_bytes text ≡ told_text history.now lines.now object status told)) }
+{
+    let told = told_behind(alloc, history, object, problem, status)?;
+    let mut out = String::new(alloc);
+    write_status(&mut out, history, object, status)?;
+    let name = history.object(object).name;
+    write_core(&mut out, name, problem.calls(), lines, told.as_slice())?;
+    Ok(out)
+}
+
+// Appends the lines of the objects, each with what is told behind it.
+fn write_told(
+    alloc: Global,
+    out: &mut String,
+    history: &History,
+    problems: &[Problem<AnyObject>],
+    statuses: &[Status],
+    lines: &[u64],
+) -> Result<(), AllocError>
+    requires statuses { length statuses.now ≡ length history.now.objects }
+    requires problems { length problems.now ≡ length history.now.objects }
+    requires starts { (object : ℕ) (problem : _) → slice_get problems.now object ≡ Some problem
+        → option_map start_of (slice_get history.now.objects object) ≡ Some problem.start }
+    requires calls { (object : ℕ) (problem : _) → slice_get problems.now object ≡ Some problem
+        → problem.calls ≡ part_calls history.now object }
+    ensures { OnOk result ((all : List ℕ) × AreToldFrom history.now lines.now 0 statuses.now all
+        × (string_bytes out.new ≡ string_bytes out.old ++ all)) }
+{
+    for (object, status) in statuses.iter().enumerate() {
+        let told = told_of(alloc, history, object, &problems[object], *status, lines)?;
+        out.push_str(told.as_str())?;
+    }
+    Ok(())
+}
+
+// The lines of the objects, each with what is told behind it.
+fn report_told(
+    alloc: Global,
+    history: &History,
+    statuses: &[Status],
+    lines: &[u64],
+) -> Result<Vec<u8>, AllocError>
+    requires { length statuses.now ≡ length history.now.objects }
+    ensures { IfOk result (λ text. AreToldFrom history.now lines.now 0 statuses.now text.items) }
+{
+    let problems = history.problems(alloc)?;
+    let mut out = String::new(alloc);
+    write_told(
+        alloc,
+        &mut out,
+        history,
+        problems.as_slice(),
+        statuses,
+        lines,
+    )?;
+    Ok(out.into_bytes())
+}
+
+/// The lines of the objects of a history with these statuses, as `report_each` gives them; where the lines of the events are given,
+/// with the calls of a core behind that of each object that is not linearizable, where one is found. `AllocError` where memory was
+/// refused.
+///
+/// Condition: there is a status for each object.
+pub(crate) fn report_each_explained(
+    alloc: Global,
+    history: &History,
+    statuses: &[Status],
+    lines: Option<&[u64]>,
+) -> Result<Vec<u8>, AllocError>
+    requires { length statuses.now ≡ length history.now.objects }
+    ensures { IfOk result (λ text. AreStatusLines (option_map (λ l. l.now) lines.entry) history.now
+        statuses.now text.items) }
+{
+    match lines {
+        Some(lines) => report_told(alloc, history, statuses, lines),
+        None => report_each(alloc, history, statuses),
+    }
+}

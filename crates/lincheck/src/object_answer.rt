@@ -1,0 +1,23 @@
+//! What is asked of one object, and what is answered.
+
+use lin_history::Order;
+
+/// What is asked of an object.
+#[derive(Clone, Copy, PartialEq, Eq, Debug)]
+pub(crate) enum Question {
+    /// Whether it has a linearization.
+    Verdict,
+    /// That, and where it has none the first of its longest runs.
+    LongestRun,
+}
+
+/// What was found of an object.
+#[derive(Drop)]
+pub(crate) enum ObjectAnswer {
+    /// Its least linearization.
+    Yes(Order),
+    /// It has none. The first of its longest runs, where that was asked for and was found in time.
+    No(Option<Order>),
+    /// The bounds ended its search.
+    Undecided,
+}
