@@ -5,14 +5,14 @@ ghost use Rattle.lin_history.specs.Problems.Linearizations.{IsLinearization};
 ghost use Rattle.lin_ahead.specs.AnyProblem.{any_problem};
 ghost use Rattle.lin_ahead.specs.Behind.{IsRightAhead};
 ghost use Rattle.lin_parts.specs.Parts.{IsRising};
-ghost use Rattle.lin_prefixes.specs.Prefixes.{HasNoRunOf};
+ghost use Rattle.lin_prefixes.specs.Prefixes.{HasNoRunWith};
 ghost use Rattle.lin_prefixes.specs.PartAnswer.{answer_of, IsAnswerTo, IsPartAnswer};
 
 use crate::call_lists::kept_calls;
 use crate::crossed_calls::some_cross;
 use crate::part_answer::PartAnswer;
 use crate::part_search::PartSearch;
-use crate::parts_anew::{is_loose_prefix, is_part, made_anew};
+use crate::parts_anew::{Wanted, is_loose_prefix, is_part, made_anew};
 use lin_ahead::{
     FirstAnswer, KnownAhead, known_ahead, search_first, some_came_too_early, some_push_crosses,
     some_was_taken_twice,
@@ -286,7 +286,12 @@ impl<'a, S: Stop> AnewSearch<'a, S> {
         requires { IsRising kept.now }
         ensures { IfOk result (IsPartAnswer (any_problem problem.now) kept.now) }
     {
-        let Some(part) = made_anew(alloc, problem, self.events.as_slice(), kept, u64::MAX)? else {
+        let wanted = Wanted {
+            calls: kept,
+            until: u64::MAX,
+            returned: &[],
+        };
+        let Some(part) = made_anew(alloc, problem, self.events.as_slice(), wanted)? else {
             return Ok(PartAnswer::Unknown);
         };
         if !is_part(problem, kept, &part) {
@@ -296,24 +301,29 @@ impl<'a, S: Stop> AnewSearch<'a, S> {
         Ok(answer)
     }
 
-    // Whether it is known that the call has no run.
-    fn has_none(
+    // Whether it is known that the call has no run with these calls.
+    fn has_none_with(
         &mut self,
         alloc: Global,
         problem: &Problem<AnyObject>,
         call: usize,
+        calls: &[usize],
     ) -> Result<bool, AllocError>
         requires { call < length problem.now.calls }
-        ensures { IfOk result (λ none. IsTrue none → HasNoRunOf (any_problem problem.now) call) }
+        ensures { IfOk result (λ none. IsTrue none
+            → HasNoRunWith (any_problem problem.now) call calls.now) }
     {
         let _calls = problem.calls();
         let kept = kept_calls(alloc, call, &[])?;
-        let until = u64::from(problem.call(call).called);
-        let events = self.events.as_slice();
-        let Some(part) = made_anew(alloc, problem, events, kept.as_slice(), until)? else {
+        let wanted = Wanted {
+            calls: kept.as_slice(),
+            until: u64::from(problem.call(call).called),
+            returned: calls,
+        };
+        let Some(part) = made_anew(alloc, problem, self.events.as_slice(), wanted)? else {
             return Ok(false);
         };
-        if !is_loose_prefix(problem, call, &part) {
+        if !is_loose_prefix(problem, call, calls, &part) {
             return Ok(false);
         }
         match self.answer_within_rounds(alloc, &part, ROUNDS_FOR_A_BOUND)? {
@@ -334,12 +344,18 @@ impl<'a, S: Stop> PartSearch<AnyObject> for AnewSearch<'a, S> {
         self.answer_to_part(alloc, problem, kept)
     }
 
-    fn has_no_run_of(
+    fn has_no_run_with(
         &mut self,
         alloc: Global,
         problem: &Problem<AnyObject>,
         call: usize,
+        calls: &[usize],
     ) -> Result<bool, AllocError> {
-        self.has_none(alloc, problem, call)
+        self.has_none_with(alloc, problem, call, calls)
+    }
+
+    fn may_go_on(&mut self, steps: u64) -> bool {
+        self.take(steps);
+        self.lifts > 0 && self.stop.ask().is_none()
     }
 }

@@ -18,6 +18,8 @@ mod anew_search;
 mod by_prefixes;
 mod call_lists;
 mod candidate;
+mod choices;
+mod conflicts;
 mod crossed_calls;
 mod part_answer;
 mod part_search;

@@ -4,6 +4,7 @@ ghost use Rattle.std.specs.Prelude.{◌≡◌, ◌⊎◌, ◌+◌, ◌<◌, ◌�
 ghost use Rattle.lin_ahead.specs.AnyProblem.{any_problem};
 ghost use Rattle.lin_prefixes.specs.Prefixes.{IsLoosePrefix};
 
+use crate::call_lists::has_call;
 use lin_history::{Problem, ProblemCall, ProblemEvent};
 use lin_object::{AnyObject, Op, Reply, SeqObject};
 use std::alloc::{AllocError, Global};
@@ -69,14 +70,16 @@ pub(crate) fn is_part(
     true
 }
 
-// Whether the problem has the calls up to this one, those pending that do not precede it.
+// Whether the problem has the calls up to this one, those pending that do not precede it and are not in the list.
 pub(crate) fn is_loose_prefix(
     problem: &Problem<AnyObject>,
     call: usize,
+    kept: &[usize],
     part: &Problem<AnyObject>,
 ) -> bool
     requires { call < length problem.now.calls }
-    ensures { IsTrue result → IsLoosePrefix (any_problem problem.now) call part.now.calls }
+    ensures { IsTrue result
+        → IsLoosePrefix (any_problem problem.now) call kept.now part.now.calls }
 {
     let _calls = problem.calls();
     let event = problem.call(call).called;
@@ -84,20 +87,29 @@ pub(crate) fn is_loose_prefix(
         return false;
     }
     for c in 0..part.len() {
-        if !same_or_pending(part.call(c), problem.call(c), event) {
+        if !same_or_pending(part.call(c), problem.call(c), event)
+            && !(has_call(kept, c) && same_call(part.call(c), problem.call(c)))
+        {
             return false;
         }
     }
     true
 }
 
-// Adds the event of the whole's call, if it is one of those kept and no return from the event `until` on. `false` where it
-// was refused.
+/// Which calls a part has, in increasing order, and which of their returns: those before the event `until`, and those of the
+/// calls that are to have theirs.
+#[derive(Clone, Copy)]
+pub(crate) struct Wanted<'a> {
+    pub(crate) calls: &'a [usize],
+    pub(crate) until: u64,
+    pub(crate) returned: &'a [usize],
+}
+
+// Adds the event of the whole's call, if it is one of those wanted. `false` where it was refused.
 fn add_event(
     part: &mut Problem<AnyObject>,
     problem: &Problem<AnyObject>,
-    kept: &[usize],
-    until: u64,
+    wanted: Wanted<'_>,
     event: &ProblemEvent,
 ) -> bool
     ensures { part.new.start ≡ part.old.start }
@@ -107,7 +119,7 @@ fn add_event(
             let Some(made) = problem.calls().get(*call) else {
                 return false;
             };
-            if kept.binary_search(call).is_err() {
+            if wanted.calls.binary_search(call).is_err() {
                 return true;
             }
             part.add_call(made.process, made.op, made.called).is_ok()
@@ -116,11 +128,13 @@ fn add_event(
             let Some(made) = problem.calls().get(*call) else {
                 return false;
             };
-            let Ok(index) = kept.binary_search(call) else {
+            let Ok(index) = wanted.calls.binary_search(call) else {
                 return true;
             };
             match &made.returned {
-                Some((number, reply)) if u64::from(*number) < until => {
+                Some((number, reply))
+                    if u64::from(*number) < wanted.until || has_call(wanted.returned, *call) =>
+                {
                     part.add_return(index, *reply, *number).is_ok()
                 }
                 _ => true,
@@ -129,21 +143,20 @@ fn add_event(
     }
 }
 
-// The problem of these calls, which are in increasing order, by the events of the whole in the order of their numbers; the
-// returns from the event `until` on are left out. `None` where an event was refused.
+// The problem of these calls and returns, by the events of the whole in the order of their numbers. `None` where an event was
+// refused.
 pub(crate) fn made_anew(
     alloc: Global,
     problem: &Problem<AnyObject>,
     events: &[ProblemEvent],
-    kept: &[usize],
-    until: u64,
+    wanted: Wanted<'_>,
 ) -> Result<Option<Problem<AnyObject>>, AllocError>
     ensures { IfOk result (λ answer. IfSome answer (λ part. part.start ≡ problem.now.start)) }
 {
     let start = problem.object().copy_state(alloc, problem.start())?;
     let mut part = Problem::new(alloc, AnyObject, start);
     for event in events {
-        if !add_event(&mut part, problem, kept, until, event) {
+        if !add_event(&mut part, problem, wanted, event) {
             return Ok(None);
         }
     }
