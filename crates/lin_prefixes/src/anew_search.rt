@@ -34,6 +34,12 @@ const ROUNDS: usize = 16;
 
 const ROUNDS_FOR_A_BOUND: usize = 2;
 
+// What counts as a lift beside the lifts: of a part that is made so many calls, and of what is done between searches so many looks
+// at a call. Both take about as long.
+const CALLS_FOR_A_LIFT: u64 = 8;
+
+const LOOKS_FOR_A_LIFT: u64 = 256;
+
 // How many lifts a search makes from one time that the stop is asked to the next.
 const LIFTS_BETWEEN: u32 = 4_096;
 
@@ -190,8 +196,8 @@ fn shows_none(
 
 /// Searches of parts of a problem of the seven kinds, each made anew: first searches where something is known ahead, searches by
 /// key of maps and sets, and searches that keep what they refuted for other parts. Each makes no more lifts than are left of
-/// those that were given at the start, where a search by key counts the lifts for each key alone. Where the stop answers, they
-/// say nothing.
+/// those that were given at the start, where a search by key counts the lifts for each key alone. Work that makes no lifts is
+/// taken off them too. Where none are left or the stop answers, they say nothing.
 #[derive(Drop)]
 pub(crate) struct AnewSearch<'a, S> {
     events: Vec<ProblemEvent>,
@@ -219,6 +225,11 @@ impl<'a, S: Stop> AnewSearch<'a, S> {
         let lifts = wanted.min(self.lifts);
         self.lifts = self.lifts.saturating_sub(lifts);
         lifts
+    }
+
+    // Whether lifts are left and the stop does not answer.
+    fn may_search(&mut self) -> bool {
+        self.lifts > 0 && self.stop.ask().is_none()
     }
 
     // What is told of the problem, by searches of more and more lifts.
@@ -255,7 +266,8 @@ impl<'a, S: Stop> AnewSearch<'a, S> {
     ) -> Result<PartAnswer, AllocError>
         ensures { IfOk result (IsAnswerTo (any_problem part.now)) }
     {
-        if self.stop.ask().is_some() {
+        self.take(part.len() as u64 / CALLS_FOR_A_LIFT);
+        if !self.may_search() {
             return Ok(PartAnswer::Unknown);
         }
         let known = known_ahead(alloc, part)?;
@@ -354,8 +366,8 @@ impl<'a, S: Stop> PartSearch<AnyObject> for AnewSearch<'a, S> {
         self.has_none_with(alloc, problem, call, calls)
     }
 
-    fn may_go_on(&mut self, steps: u64) -> bool {
-        self.take(steps);
-        self.lifts > 0 && self.stop.ask().is_none()
+    fn may_go_on(&mut self, looks: u64) -> bool {
+        self.take(looks / LOOKS_FOR_A_LIFT + 1);
+        self.may_search()
     }
 }

@@ -9,7 +9,7 @@ ghost use Rattle.lin_search.specs.LongestRun.{IsFirstLongest};
 ghost use Rattle.lin_prefixes.specs.Prefixes.{IsBeaten, IsConflict, IsRunOf, IsRunLacking, AreOpen, HasNoRunOf};
 
 use crate::choices::{Choice, try_open};
-use crate::conflicts::{Conflict, Cut, first_conflicts};
+use crate::conflicts::{Conflict, Cut, first_conflicts, least_lacking};
 use crate::part_search::PartSearch;
 use lin_history::{Order, Problem};
 use lin_object::SeqObject;
@@ -84,7 +84,8 @@ fn try_levels<O: SeqObject, S: PartSearch<O>>(
         → IsRunOf (problem_of O.after O.State.eq O.Reply.eq problem.now) cut.call r
         → IsBeaten best.new r) }
 {
-    for lacking in 0..cut.open.len() + 1 {
+    let least = least_lacking(problem, cut, conflicts.as_slice());
+    for lacking in least..cut.open.len() + 1 {
         if !may_be_best(best, cut.call, lacking) {
             return Ok(true);
         }

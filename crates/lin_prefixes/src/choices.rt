@@ -56,8 +56,8 @@ fn try_dropped<O: SeqObject, S: PartSearch<O>>(
     try_part(alloc, problem, search, choice.cut.call, choice.dropped, best)
 }
 
-// About how many steps it takes to look for a conflict among the calls.
-fn steps(conflicts: &[Conflict], late: &[usize]) -> u64 {
+// About how many looks at a call it takes to find a conflict that is missed.
+fn looks(conflicts: &[Conflict], late: &[usize]) -> u64 {
     (conflicts.len() as u64).saturating_mul(late.len() as u64)
 }
 
@@ -89,7 +89,7 @@ pub(crate) fn try_open<O: SeqObject, S: PartSearch<O>>(
     }
     let mut late = Vec::from_slice(alloc, choice.late)?;
     while !late.is_empty() {
-        if !search.may_go_on(steps(conflicts.as_slice(), late.as_slice())) {
+        if !search.may_go_on(looks(conflicts.as_slice(), late.as_slice())) {
             return Ok(false);
         }
         if some_missed(conflicts.as_slice(), choice.dropped, late.as_slice()) {

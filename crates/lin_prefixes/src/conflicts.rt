@@ -4,9 +4,9 @@
 ghost use Rattle.std.specs.Prelude.{◌≡◌, ◌<◌, ◌≤◌, ◌×◌, ◌^◌, ◌+◌, ◌∷◌, [], ℕ, List, All, IfOk, IfSome, IsTrue, length};
 ghost use Rattle.lin_history.specs.Problems.Lists.{In};
 ghost use Rattle.lin_history.specs.Problems.Problem.{problem_of};
-ghost use Rattle.lin_prefixes.specs.Prefixes.{AreCompletedUpTo, IsConflict, IsMissed, SomeMissed};
+ghost use Rattle.lin_prefixes.specs.Prefixes.{AreCompletedUpTo, IsConflict, IsMissed, IsRunOf, IsSingle, Lacks, SomeMissed};
 
-use crate::call_lists::{has_call, without};
+use crate::call_lists::has_call;
 use crate::part_search::PartSearch;
 use lin_history::Problem;
 use lin_object::SeqObject;
@@ -217,15 +217,19 @@ fn conflicts_again<O: SeqObject, S: PartSearch<O>>(
     Ok(conflicts)
 }
 
-// The calls that are conflicts of their own.
-fn single_calls(alloc: Global, conflicts: &[Conflict]) -> Result<Vec<usize>, AllocError> {
-    let mut calls = Vec::new(alloc);
-    for conflict in conflicts {
-        if let [call] = conflict.calls() {
-            calls.push(*call)?;
+// The calls of the list that are no conflicts of their own.
+fn not_single(
+    alloc: Global,
+    calls: &[usize],
+    conflicts: &[Conflict],
+) -> Result<Vec<usize>, AllocError> {
+    let mut left = Vec::new(alloc);
+    for c in calls {
+        if !is_in_no_run(conflicts, *c) {
+            left.push(*c)?;
         }
     }
-    Ok(calls)
+    Ok(left)
 }
 
 /// The conflicts of the cut to begin with: those that are given as hints, of another one, and are conflicts here too; and the
@@ -243,17 +247,63 @@ pub(crate) fn first_conflicts<O: SeqObject, S: PartSearch<O>>(
         conflicts.items) }
 {
     let mut conflicts = conflicts_again(alloc, problem, search, cut.call, hints)?;
-    let singles = single_calls(alloc, conflicts.as_slice())?;
-    let left = without(alloc, cut.open, singles.as_slice())?;
+    let left = not_single(alloc, cut.open, conflicts.as_slice())?;
     add_single_conflicts(alloc, problem, search, cut.call, left.as_slice(), &mut conflicts)?;
     Ok(conflicts)
+}
+
+// Whether the conflict has no other call than this one.
+fn is_alone(conflict: &Conflict, call: usize) -> bool
+    ensures { IsTrue result → (c : ℕ) → In c conflict.now → c ≡ call }
+{
+    let calls = conflict.calls();
+    for c in calls {
+        if *c != call {
+            return false;
+        }
+    }
+    true
+}
+
+// Whether the call is a conflict of its own.
+fn is_in_no_run(conflicts: &[Conflict], call: usize) -> bool
+    ensures { IsTrue result → IsSingle conflicts.now call }
+{
+    for conflict in conflicts {
+        if is_alone(conflict, call) {
+            return true;
+        }
+    }
+    false
+}
+
+/// How many of the open calls each run lacks at least: those that are conflicts of their own.
+pub(crate) fn least_lacking<O: SeqObject>(
+    problem: &Problem<O>,
+    cut: Cut<'_>,
+    conflicts: &[Conflict],
+) -> usize
+    requires { All (IsConflict (problem_of O.after O.State.eq O.Reply.eq problem.now) cut.call)
+        conflicts.now }
+    ensures { (r : List ℕ) (d : ℕ)
+        → IsRunOf (problem_of O.after O.State.eq O.Reply.eq problem.now) cut.call r
+        → Lacks r cut.open.now d → result ≤ d }
+{
+    let mut least = 0;
+    for c in cut.open {
+        if is_in_no_run(conflicts, *c) {
+            least += 1;
+        }
+    }
+    least
 }
 
 // Whether no call of the conflict is in either list.
 fn is_missed(conflict: &Conflict, dropped: &[usize], late: &[usize]) -> bool
     ensures { IsTrue result → IsMissed conflict.now dropped.now late.now }
 {
-    for c in conflict.calls() {
+    let calls = conflict.calls();
+    for c in calls {
         if has_call(dropped, *c) || has_call(late, *c) {
             return false;
         }

@@ -44,6 +44,6 @@ pub trait PartSearch<O: SeqObject> {
         ensures { IfOk result (λ none. IsTrue none → HasNoRunWith
             (problem_of O.after O.State.eq O.Reply.eq problem.now) call calls.now) };
 
-    /// Whether so many steps of work that makes no lifts may be done. They count with the lifts.
-    fn may_go_on(&mut self, steps: u64) -> bool;
+    /// Whether the search may go on, after so many looks at a call that were made between two questions.
+    fn may_go_on(&mut self, looks: u64) -> bool;
 }
