@@ -74,18 +74,18 @@ fn try_levels<O: SeqObject, S: PartSearch<O>>(
     requires call { cut.call < length problem.now.calls }
     requires few { cut.call + 1 < 2 ^ 64 }
     requires open { AreOpen (problem_of O.after O.State.eq O.Reply.eq problem.now) cut.call
-        (cut.call + 1) cut.open.now }
+        (cut.call + 1) cut.open_calls.now }
     requires run { IsRun (problem_of O.after O.State.eq O.Reply.eq problem.now) best.old }
     requires conflicts { All (IsConflict (problem_of O.after O.State.eq O.Reply.eq problem.now)
         cut.call) conflicts.old.items }
     ensures run { IsRun (problem_of O.after O.State.eq O.Reply.eq problem.now) best.new }
     ensures better { IfOk result (λ known. IsBeaten best.new best.old) }
     ensures known { IfOk result (λ known. IsTrue known → (r : List ℕ)
-        → IsRunOf (problem_of O.after O.State.eq O.Reply.eq problem.now) cut.call r
+        → IsRunOf (problem_of O.after O.State.eq O.Reply.eq problem.now) cut.entry.call r
         → IsBeaten best.new r) }
 {
     let least = least_lacking(problem, cut, conflicts.as_slice());
-    for lacking in least..cut.open.len() + 1 {
+    for lacking in least..cut.open_calls.len() + 1 {
         if !may_be_best(best, cut.call, lacking) {
             return Ok(true);
         }
@@ -95,7 +95,7 @@ fn try_levels<O: SeqObject, S: PartSearch<O>>(
         let choice = Choice {
             cut,
             dropped: &[],
-            late: cut.open,
+            late: cut.open_calls,
             lacking,
         };
         if !try_open(alloc, problem, search, choice, conflicts, best)? {
@@ -127,7 +127,7 @@ fn try_call<O: SeqObject, S: PartSearch<O>>(
     let open = open_calls(alloc, problem, call)?;
     let cut = Cut {
         call,
-        open: open.as_slice(),
+        open_calls: open.as_slice(),
     };
     let mut conflicts = first_conflicts(alloc, problem, search, cut, hints.as_slice())?;
     let known = try_levels(alloc, problem, search, cut, &mut conflicts, best)?;

@@ -48,7 +48,7 @@ fn try_dropped<O: SeqObject, S: PartSearch<O>>(
     if some_missed(conflicts.as_slice(), choice.dropped, &[]) {
         return Ok(true);
     }
-    let kept = without(alloc, choice.cut.open, choice.dropped)?;
+    let kept = without(alloc, choice.cut.open_calls, choice.dropped)?;
     add_conflict(alloc, problem, search, choice.cut.call, kept.as_slice(), conflicts)?;
     if some_missed(conflicts.as_slice(), choice.dropped, &[]) {
         return Ok(true);

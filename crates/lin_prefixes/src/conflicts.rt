@@ -1,7 +1,7 @@
 //! Conflicts of a call: completed calls up to it of which each of its runs lacks one.
 //!
 //! Which calls are asked of is a hint. A conflict is made only of calls for which the search tells that no run has all of them.
-ghost use Rattle.std.specs.Prelude.{◌≡◌, ◌<◌, ◌≤◌, ◌×◌, ◌^◌, ◌+◌, ◌∷◌, [], ℕ, List, All, IfOk, IfSome, IsTrue, length};
+ghost use Rattle.std.specs.Prelude.{◌≡◌, ◌<◌, ◌≤◌, ◌^◌, ◌+◌, ◌∷◌, [], ℕ, List, All, IfOk, IfSome, IsTrue, length};
 ghost use Rattle.lin_history.specs.Problems.Lists.{In};
 ghost use Rattle.lin_history.specs.Problems.Problem.{problem_of};
 ghost use Rattle.lin_prefixes.specs.Prefixes.{AreCompletedUpTo, IsConflict, IsMissed, IsRunOf, IsSingle, Lacks, SomeMissed};
@@ -17,7 +17,7 @@ use std::marker::Model;
 #[derive(Clone, Copy)]
 pub(crate) struct Cut<'a> {
     pub(crate) call: usize,
-    pub(crate) open: &'a [usize],
+    pub(crate) open_calls: &'a [usize],
 }
 
 /// Calls, by their numbers. What they are in conflict with is said where they are made.
@@ -88,6 +88,29 @@ fn conflict_of<O: SeqObject, S: PartSearch<O>>(
     Ok(Some(conflict))
 }
 
+// Adds these calls as a conflict, where it is known that they are one.
+fn add_known<O: SeqObject, S: PartSearch<O>>(
+    alloc: Global,
+    problem: &Problem<O>,
+    search: &mut S,
+    call: usize,
+    calls: &[usize],
+    conflicts: &mut Vec<Conflict>,
+) -> Result<(), AllocError>
+    requires call { call < length problem.now.calls }
+    requires conflicts { All (IsConflict (problem_of O.after O.State.eq O.Reply.eq problem.now) call)
+        conflicts.old.items }
+    ensures { IfOk result (λ done. All
+        (IsConflict (problem_of O.after O.State.eq O.Reply.eq problem.now) call)
+        conflicts.new.items) }
+{
+    let Some(conflict) = conflict_of(alloc, problem, search, call, calls)? else {
+        return Ok(());
+    };
+    conflicts.push(conflict)?;
+    Ok(())
+}
+
 // How many of the first calls are known to be a conflict, as few as are, but at least `needed`. The calls together are one.
 fn fewest_in_conflict<O: SeqObject, S: PartSearch<O>>(
     alloc: Global,
@@ -137,7 +160,7 @@ fn few_in_conflict<O: SeqObject, S: PartSearch<O>>(
     Ok(few)
 }
 
-/// Adds a conflict among these calls, where one is known: the calls, or few of them.
+/// Adds a conflict among these calls, where one is known: as few of them as still are one.
 pub(crate) fn add_conflict<O: SeqObject, S: PartSearch<O>>(
     alloc: Global,
     problem: &Problem<O>,
@@ -153,15 +176,11 @@ pub(crate) fn add_conflict<O: SeqObject, S: PartSearch<O>>(
         (IsConflict (problem_of O.after O.State.eq O.Reply.eq problem.now) call)
         conflicts.new.items) }
 {
-    let Some(all) = conflict_of(alloc, problem, search, call, calls)? else {
+    if !search.has_no_run_with(alloc, problem, call, calls)? {
         return Ok(());
-    };
-    let few = few_in_conflict(alloc, problem, search, call, calls)?;
-    match conflict_of(alloc, problem, search, call, few.as_slice())? {
-        Some(conflict) => conflicts.push(conflict)?,
-        None => conflicts.push(all)?,
     }
-    Ok(())
+    let few = few_in_conflict(alloc, problem, search, call, calls)?;
+    add_known(alloc, problem, search, call, few.as_slice(), conflicts)
 }
 
 // Adds those of the calls that no run has, as far as that is known, each as a conflict of its own: the calls are halved where no
@@ -181,14 +200,10 @@ fn add_single_conflicts<O: SeqObject, S: PartSearch<O>>(
         (IsConflict (problem_of O.after O.State.eq O.Reply.eq problem.now) call)
         conflicts.new.items) }
 {
-    if calls.is_empty() {
-        return Ok(());
+    if calls.len() <= 1 {
+        return add_known(alloc, problem, search, call, calls, conflicts);
     }
-    let Some(conflict) = conflict_of(alloc, problem, search, call, calls)? else {
-        return Ok(());
-    };
-    if calls.len() == 1 {
-        conflicts.push(conflict)?;
+    if !search.has_no_run_with(alloc, problem, call, calls)? {
         return Ok(());
     }
     let (first, second) = calls.split_at(calls.len() / 2);
@@ -210,9 +225,7 @@ fn conflicts_again<O: SeqObject, S: PartSearch<O>>(
 {
     let mut conflicts = Vec::new(alloc);
     for hint in hints {
-        if let Some(conflict) = conflict_of(alloc, problem, search, call, hint.calls())? {
-            conflicts.push(conflict)?;
-        }
+        add_known(alloc, problem, search, call, hint.calls(), &mut conflicts)?;
     }
     Ok(conflicts)
 }
@@ -243,11 +256,11 @@ pub(crate) fn first_conflicts<O: SeqObject, S: PartSearch<O>>(
 ) -> Result<Vec<Conflict>, AllocError>
     requires { cut.call < length problem.now.calls }
     ensures { IfOk result (λ conflicts. All
-        (IsConflict (problem_of O.after O.State.eq O.Reply.eq problem.now) cut.call)
+        (IsConflict (problem_of O.after O.State.eq O.Reply.eq problem.now) cut.entry.call)
         conflicts.items) }
 {
     let mut conflicts = conflicts_again(alloc, problem, search, cut.call, hints)?;
-    let left = not_single(alloc, cut.open, conflicts.as_slice())?;
+    let left = not_single(alloc, cut.open_calls, conflicts.as_slice())?;
     add_single_conflicts(alloc, problem, search, cut.call, left.as_slice(), &mut conflicts)?;
     Ok(conflicts)
 }
@@ -286,11 +299,11 @@ pub(crate) fn least_lacking<O: SeqObject>(
     requires { All (IsConflict (problem_of O.after O.State.eq O.Reply.eq problem.now) cut.call)
         conflicts.now }
     ensures { (r : List ℕ) (d : ℕ)
-        → IsRunOf (problem_of O.after O.State.eq O.Reply.eq problem.now) cut.call r
-        → Lacks r cut.open.now d → result ≤ d }
+        → IsRunOf (problem_of O.after O.State.eq O.Reply.eq problem.now) cut.entry.call r
+        → Lacks r cut.entry.open_calls.now d → result ≤ d }
 {
     let mut least = 0;
-    for c in cut.open {
+    for c in cut.open_calls {
         if is_in_no_run(conflicts, *c) {
             least += 1;
         }
