@@ -49,11 +49,25 @@ fn try_dropped<O: SeqObject, S: PartSearch<O>>(
         return Ok(true);
     }
     let kept = without(alloc, choice.cut.open_calls, choice.dropped)?;
-    add_conflict(alloc, problem, search, choice.cut.call, kept.as_slice(), conflicts)?;
+    add_conflict(
+        alloc,
+        problem,
+        search,
+        choice.cut.call,
+        kept.as_slice(),
+        conflicts,
+    )?;
     if some_missed(conflicts.as_slice(), choice.dropped, &[]) {
         return Ok(true);
     }
-    try_part(alloc, problem, search, choice.cut.call, choice.dropped, best)
+    try_part(
+        alloc,
+        problem,
+        search,
+        choice.cut.call,
+        choice.dropped,
+        best,
+    )
 }
 
 // About how many looks at a call it takes to find a conflict that is missed.

@@ -261,7 +261,14 @@ pub(crate) fn first_conflicts<O: SeqObject, S: PartSearch<O>>(
 {
     let mut conflicts = conflicts_again(alloc, problem, search, cut.call, hints)?;
     let left = not_single(alloc, cut.open_calls, conflicts.as_slice())?;
-    add_single_conflicts(alloc, problem, search, cut.call, left.as_slice(), &mut conflicts)?;
+    add_single_conflicts(
+        alloc,
+        problem,
+        search,
+        cut.call,
+        left.as_slice(),
+        &mut conflicts,
+    )?;
     Ok(conflicts)
 }
 
@@ -338,7 +345,11 @@ pub(crate) fn some_missed(conflicts: &[Conflict], dropped: &[usize], late: &[usi
 
 // How many calls of the conflict are in the list.
 fn count_in(conflict: &Conflict, late: &[usize]) -> usize {
-    conflict.calls().iter().filter(|c| has_call(late, **c)).count()
+    conflict
+        .calls()
+        .iter()
+        .filter(|c| has_call(late, **c))
+        .count()
 }
 
 /// The place of a call in the list that is to be left out next: one of a conflict that has none of those dropped, of which few

@@ -133,8 +133,7 @@ fn add_event(
             };
             match &made.returned {
                 Some((number, reply))
-                    if u64::from(*number) < wanted.until || has_call(wanted.returned, *call) =>
-                {
+                    if u64::from(*number) < wanted.until || has_call(wanted.returned, *call) => {
                     part.add_return(index, *reply, *number).is_ok()
                 }
                 _ => true,

@@ -39,8 +39,8 @@ loop-alloc-preserved g t c = record {
     | inr left ↦ elim (lacking_at (problem_of g.O.SeqObject.after g.O.State.PartialEq.eq g.O.Reply.PartialEq.eq c.args.problem.now) c.args.choice.cut.call c.args.choice.dropped.now c.in_ok-more.more.items c.loop-alloc.late.items c.min.result c.remove-next.result c.args.choice.lacking (c.args.choice.lacking - 1) r
         (let a = c.min.ensures in let b = c.len.ensures in let v = c.loop-alloc.late.ok.0 in let d = c.remove-next.ensures.len in place_within c.next_place-place.result c.len.result (length c.loop-alloc.late.items) c.min.result a (omega (arith, b, v)) (omega (arith, d, v)))
         c.remove-next.ensures.value c.in_ok-more.ensures (let h = c.if-choice-eq0.false in omega (arith, h)) left) [
-      | inl there ↦ inr (rw c.remove-next.ensures.items there)
-      | inr out ↦ inl (c.in_ok-try_open.ensures.known c.if-not-branch.false r (rw (c.as_slice-in-loop-alloc-6.ensures.value, c.as_slice-in-loop-alloc-7.ensures.value, c.remove-next.ensures.items) out))
-    ]
+          | inl there ↦ inr (rw c.remove-next.ensures.items there)
+          | inr out ↦ inl (c.in_ok-try_open.ensures.known c.if-not-branch.false r (rw (c.as_slice-in-loop-alloc-6.ensures.value, c.as_slice-in-loop-alloc-7.ensures.value, c.remove-next.ensures.items) out))
+        ]
   ];
 }
