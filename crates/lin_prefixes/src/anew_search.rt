@@ -10,9 +10,10 @@ ghost use Rattle.lin_prefixes.specs.PartAnswer.{answer_of, IsAnswerTo, IsPartAns
 
 use crate::call_lists::kept_calls;
 use crate::crossed_calls::some_cross;
+use crate::open_takers::open_takers;
 use crate::part_answer::PartAnswer;
 use crate::part_search::PartSearch;
-use crate::parts_anew::{Wanted, is_loose_prefix, is_part, made_anew};
+use crate::parts_anew::{Loosened, Wanted, is_loose_prefix, is_part, made_anew};
 use lin_ahead::{
     FirstAnswer, KnownAhead, known_ahead, search_first, some_came_too_early, some_push_crosses,
     some_was_taken_twice,
@@ -302,6 +303,7 @@ impl<'a, S: Stop> AnewSearch<'a, S> {
             calls: kept,
             until: u64::MAX,
             returned: &[],
+            takers: &[],
         };
         let Some(part) = made_anew(alloc, problem, self.events.as_slice(), wanted)? else {
             return Ok(PartAnswer::Unknown);
@@ -327,15 +329,22 @@ impl<'a, S: Stop> AnewSearch<'a, S> {
     {
         let _calls = problem.calls();
         let kept = kept_calls(alloc, call, &[])?;
+        let takers = open_takers(alloc, problem, call, calls)?;
         let wanted = Wanted {
             calls: kept.as_slice(),
             until: u64::from(problem.call(call).called),
             returned: calls,
+            takers: takers.as_slice(),
         };
         let Some(part) = made_anew(alloc, problem, self.events.as_slice(), wanted)? else {
             return Ok(false);
         };
-        if !is_loose_prefix(problem, call, calls, &part) {
+        let loosened = Loosened {
+            call,
+            kept: calls,
+            takers: takers.as_slice(),
+        };
+        if !is_loose_prefix(problem, loosened, &part) {
             return Ok(false);
         }
         match self.answer_within_rounds(alloc, &part, ROUNDS_FOR_A_BOUND)? {

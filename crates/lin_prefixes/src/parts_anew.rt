@@ -2,9 +2,10 @@
 //! compared with the whole, call by call.
 ghost use Rattle.std.specs.Prelude.{◌≡◌, ◌⊎◌, ◌+◌, ◌<◌, ◌≤◌, ◌^◌, ℕ, None, Some, IfOk, IfSome, IsTrue, IsSome, IsSomeAnd, length, slice_get, slice_index};
 ghost use Rattle.lin_ahead.specs.AnyProblem.{any_problem};
-ghost use Rattle.lin_prefixes.specs.Prefixes.{IsLoosePrefix};
+ghost use Rattle.lin_prefixes.specs.Freed.{IsLoosened, IsLoosePrefix};
 
 use crate::call_lists::has_call;
+use crate::open_takers::{are_takers, may_be_freed};
 use lin_history::{Problem, ProblemCall, ProblemEvent};
 use lin_object::{AnyObject, Op, Reply, SeqObject};
 use std::alloc::{AllocError, Global};
@@ -37,18 +38,6 @@ fn same_call(a: &ProblemCall<Op, Reply>, b: &ProblemCall<Op, Reply>) -> bool
     same_start(a, b) && same_return(&a.returned, &b.returned)
 }
 
-// Whether the call is the other one made pending, or the same and returned before the event.
-fn same_or_pending(own: &ProblemCall<Op, Reply>, call: &ProblemCall<Op, Reply>, event: u32) -> bool
-    ensures { IsTrue result
-        → ((own.now ≡ call.now) × IsSomeAnd call.now.returned (λ r. r.0 < event))
-        ⊎ (own.now ≡ record call.now { returned = None }) }
-{
-    match &own.returned {
-        None => same_start(own, call),
-        Some((number, _)) => same_call(own, call) && *number < event,
-    }
-}
-
 // Whether the problem has just these calls.
 pub(crate) fn is_part(
     problem: &Problem<AnyObject>,
@@ -70,26 +59,55 @@ pub(crate) fn is_part(
     true
 }
 
-// Whether the problem has the calls up to this one, those pending that do not precede it and are not in the list.
+/// The calls up to one, those of them that are to stay as they are, though they do not precede it, and the dequeues that are to
+/// stay out.
+#[derive(Clone, Copy)]
+pub(crate) struct Loosened<'a> {
+    pub(crate) call: usize,
+    pub(crate) kept: &'a [usize],
+    pub(crate) takers: &'a [usize],
+}
+
+// Whether the part has the whole's call as it is, where it has to be there; or made pending; or, in place of a dequeue that is to
+// stay out, one that did not return.
+fn is_loosened(
+    problem: &Problem<AnyObject>,
+    loosened: Loosened<'_>,
+    own: &ProblemCall<Op, Reply>,
+    c: usize,
+) -> bool
+    requires last { loosened.call < length problem.now.calls }
+    requires call { c < length problem.now.calls }
+    ensures { IsTrue result → IsLoosened (any_problem problem.now) loosened.entry.call
+        loosened.entry.kept.now loosened.entry.takers.now c own.now }
+{
+    let call = problem.call(c);
+    match &own.returned {
+        None => has_call(loosened.takers, c) || same_start(own, call),
+        Some((number, _)) => {
+            same_call(own, call)
+                && (*number < problem.call(loosened.call).called || has_call(loosened.kept, c))
+                && !may_be_freed(problem, loosened.takers, c)
+        }
+    }
+}
+
+// Whether the part has the calls up to this one, loosened.
 pub(crate) fn is_loose_prefix(
     problem: &Problem<AnyObject>,
-    call: usize,
-    kept: &[usize],
+    loosened: Loosened<'_>,
     part: &Problem<AnyObject>,
 ) -> bool
-    requires { call < length problem.now.calls }
-    ensures { IsTrue result
-        → IsLoosePrefix (any_problem problem.now) call kept.now part.now.calls }
+    requires { loosened.call < length problem.now.calls }
+    ensures { IsTrue result → IsLoosePrefix (any_problem problem.now) loosened.entry.call
+        loosened.entry.kept.now loosened.entry.takers.now part.now.calls }
 {
     let _calls = problem.calls();
-    let event = problem.call(call).called;
-    if part.len() != call + 1 {
+    if part.len() != loosened.call + 1 || !are_takers(problem, loosened.takers) {
         return false;
     }
     for c in 0..part.len() {
-        if !same_or_pending(part.call(c), problem.call(c), event)
-            && !(has_call(kept, c) && same_call(part.call(c), problem.call(c)))
-        {
+        if !is_loosened(problem, loosened, part.call(c), c) {
             return false;
         }
     }
@@ -97,13 +115,17 @@ pub(crate) fn is_loose_prefix(
 }
 
 /// Which calls a part has, in increasing order, and which of their returns: those before the event `until`, and those of the
-/// calls that are to have theirs.
+/// calls that are to have theirs; but none of the takers, which never make a step, and of the calls that put in what these took.
 #[derive(Clone, Copy)]
 pub(crate) struct Wanted<'a> {
     pub(crate) calls: &'a [usize],
     pub(crate) until: u64,
     pub(crate) returned: &'a [usize],
+    pub(crate) takers: &'a [usize],
 }
+
+// An operation with no step at a queue.
+const NO_STEP: Op = Op::Read;
 
 // Adds the event of the whole's call, if it is one of those wanted. `false` where it was refused.
 fn add_event(
@@ -122,7 +144,12 @@ fn add_event(
             if wanted.calls.binary_search(call).is_err() {
                 return true;
             }
-            part.add_call(made.process, made.op, made.called).is_ok()
+            let op = if has_call(wanted.takers, *call) {
+                NO_STEP
+            } else {
+                made.op
+            };
+            part.add_call(made.process, op, made.called).is_ok()
         }
         ProblemEvent::Return(call) => {
             let Some(made) = problem.calls().get(*call) else {
