@@ -127,6 +127,14 @@ pub(crate) struct Wanted<'a> {
 // An operation with no step at a queue.
 const NO_STEP: Op = Op::Read;
 
+// Whether the return of the call, at this event, is one of those wanted.
+fn has_return(problem: &Problem<AnyObject>, wanted: Wanted<'_>, call: usize, event: u32) -> bool {
+    if call >= problem.len() || may_be_freed(problem, wanted.takers, call) {
+        return false;
+    }
+    u64::from(event) < wanted.until || has_call(wanted.returned, call)
+}
+
 // Adds the event of the whole's call, if it is one of those wanted. `false` where it was refused.
 fn add_event(
     part: &mut Problem<AnyObject>,
@@ -159,8 +167,7 @@ fn add_event(
                 return true;
             };
             match &made.returned {
-                Some((number, reply))
-                    if u64::from(*number) < wanted.until || has_call(wanted.returned, *call) => {
+                Some((number, reply)) if has_return(problem, wanted, *call, *number) => {
                     part.add_return(index, *reply, *number).is_ok()
                 }
                 _ => true,
