@@ -157,8 +157,9 @@ fn answer_within<S: Stop>(
     }
 }
 
-// Whether some calls cross, of a queue by what they need, and of a stack by what lies on it.
-fn some_calls_cross(
+// Whether what is known ahead shows that there is no linearization: some calls were in vain, or they cross, of a queue by what they
+// need, and of a stack by what lies on it.
+fn are_in_vain(
     alloc: Global,
     part: &Problem<AnyObject>,
     ahead: &KnownAhead,
@@ -167,7 +168,7 @@ fn some_calls_cross(
     ensures { IfOk result (λ crossed. IsTrue crossed
         → (l : List ℕ) → IsLinearization (any_problem part.now) l → ⊥) }
 {
-    if some_push_crosses(alloc, part, ahead)? {
+    if ahead.in_vain || some_push_crosses(alloc, part, ahead)? {
         return Ok(true);
     }
     some_cross(alloc, part, &ahead.needs)
@@ -190,7 +191,7 @@ fn shows_none(
         return Ok(true);
     }
     match known {
-        Some(ahead) => some_calls_cross(alloc, part, ahead),
+        Some(ahead) => are_in_vain(alloc, part, ahead),
         None => Ok(false),
     }
 }
