@@ -686,7 +686,7 @@ FAMILIES = {
     },
     **{
         f"stale_{processes}_{stale}_few": Family(
-            f"the same of 10 keys, with values 0 to 4, and {stale} old ones", "calls", [900, 4000], 1, forgetful_map(processes, 10, stale, 5)
+            f"the same of 10 keys, with values 0 to 4, and {stale} old ones", "calls", [900, 3600], 1, forgetful_map(processes, 10, stale, 5)
         )
         for processes in (16, 32)
         for stale in (1, 3, 9)
