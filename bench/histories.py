@@ -142,6 +142,45 @@ class Map:
         return "true" if self.values.pop(value, None) is not None else "false"
 
 
+class ForgetfulMap(Map):
+    """A map whose gets, so many from the middle of the history on, find what their key had long ago. Its values are put once
+    each, or are the numbers below `values`."""
+
+    LONG = 200  # calls
+
+    def __init__(self, keys, calls, stale, values=None):
+        super().__init__(keys)
+        self.middle, self.stale, self.below, self.calls, self.old = calls // 2, stale, values, 0, {}
+
+    def choose(self, chance, number):
+        op, value = super().choose(chance, number)
+        return (op, (value[0], number % self.below)) if op == "put" and self.below else (op, value)
+
+    def reply(self, op, value):
+        self.calls += 1
+        if self.calls == self.middle - self.LONG:
+            self.old = dict(self.values)
+        if op == "get" and self.stale and self.calls >= self.middle and self.old.get(value) != self.values.get(value):
+            self.stale -= 1
+            return self.old.get(value, "null")
+        return super().reply(op, value)
+
+
+class ForgetfulQueue(FilledQueue):
+    """A queue that is filled and emptied, and that forgets so many of its first items in the middle of the history, as soon as
+    it has them."""
+
+    def __init__(self, most, calls, forgotten):
+        super().__init__(most)
+        self.middle, self.forgotten, self.calls = calls // 2, forgotten, 0
+
+    def reply(self, op, value):
+        self.calls += 1
+        if self.forgotten and self.calls >= self.middle and len(self.items) > self.forgotten:
+            self.items, self.forgotten = self.items[self.forgotten :], 0
+        return super().reply(op, value)
+
+
 class Set:
     """A set of some items."""
 
@@ -254,6 +293,17 @@ def with_impossible_reply(events, op, tenths):
     places = [place for place, event in enumerate(events) if event.op == op and event.reply is not None]
     place = places[min(len(places) * tenths // 10, len(places) - 1)]
     events[place] = events[place]._replace(reply=NEVER)
+    return events
+
+
+def with_results_in_turn(events, op, count):
+    """So many results of the operation in the middle, each in the place of the next."""
+    places = [place for place, event in enumerate(events) if event.op == op and isinstance(event.reply, int)]
+    first = len(places) // 2
+    chosen = places[first : first + 8 * count : 8]
+    replies = [events[place].reply for place in chosen]
+    for place, reply in zip(chosen, [*replies[1:], replies[0]]):
+        events[place] = events[place]._replace(reply=reply)
     return events
 
 
@@ -465,6 +515,36 @@ def maps_refuted(calls):
     yield returned(IMPOSSIBLE, "m", NEVER)
 
 
+def forgetful_map(processes, keys, stale, values=None):
+    return lambda calls: lines("m", "map", simulated(ForgetfulMap(keys, calls, stale, values), processes, calls))
+
+
+def forgetful_queue(processes, most, forgotten):
+    return lambda calls: lines("q", "queue", simulated(ForgetfulQueue(most, calls, forgotten), processes, calls))
+
+
+def wrong_in_turn(model, processes, take, count):
+    return lambda calls: lines("x", model.kind, with_results_in_turn(simulated(model(), processes, calls), take, count))
+
+
+def unseen_at_once(kind, put, take, key=None):
+    """So many items put at once, beside as many calls that each found what nobody put, and then a call that finds each."""
+
+    def history(count):
+        yield declared("x", kind)
+        for item in range(count):
+            yield call(item, "x", put, item if key is None else (key, item))
+            yield call(count + item, "x", take, key)
+        for item in range(count):
+            yield returned(item, "x", OKAY)
+            yield returned(count + item, "x", NEVER - item)
+        for item in range(count):
+            yield call(item, "x", take, key)
+            yield returned(item, "x", item)
+
+    return history
+
+
 def buffer(model):
     return lambda calls: lines("b", model.kind, simulated(model(), 6, calls))
 
@@ -668,6 +748,36 @@ FAMILIES = {
         for tenths in (5, 10)
     },
     "map_no": Family("the same, and an impossible get", "calls", CALLS, 1, maps_refuted),
+    **{
+        f"stale_{processes}_{stale}": Family(
+            f"a map of 100 keys, {processes} processes, of which {stale} gets at once found old values", "calls", [900, 4000], 1, forgetful_map(processes, 100, stale)
+        )
+        for processes in (16, 32)
+        for stale in (1, 3, 9)
+    },
+    **{
+        f"stale_{processes}_{stale}_few": Family(
+            f"the same of 10 keys, with values 0 to 4, and {stale} old ones", "calls", [900, 3600], 1, forgetful_map(processes, 10, stale, 5)
+        )
+        for processes in (16, 32)
+        for stale in (1, 3, 9)
+    },
+    **{
+        f"forgot_{processes}_{forgotten}": Family(
+            f"a queue, {processes} processes, that forgot {forgotten} items at once", "calls", [1000, 4000], 1, forgetful_queue(processes, 40, forgotten)
+        )
+        for processes in (16, 24)
+        for forgotten in (1, 5, 20)
+    },
+    **{
+        f"{model.kind}_wrong_{count}": Family(f"a {model.kind}, 5 processes, {count} results wrong at once", "calls", [1000, 4000], 1, wrong_in_turn(model, 5, take, count))
+        for model, take in ((Register, "read"), (Queue, "deq"), (Stack, "pop"))
+        for count in (2, 3, 5)
+    },
+    "unseen_reads": Family("writes at once, beside reads of what nobody wrote", "writes", [8, 16, 20, 32], 1, unseen_at_once("register", "write", "read")),
+    "unseen_gets": Family("the same of a key", "puts", [8, 16, 20, 32], 1, unseen_at_once("map", "put", "get", 7)),
+    "unseen_deqs": Family("the same of a queue", "items", [8, 16, 20, 32], 1, unseen_at_once("queue", "enq", "deq")),
+    "unseen_pops": Family("the same of a stack", "items", [8, 16, 20, 32], 1, unseen_at_once("stack", "push", "pop")),
     "crashed": Family("pending writes before 1,000 calls, and an impossible read", "pending", [1, 2, 4, 6], 1, crashed),
     "additions": Family("concurrent additions of different numbers, and an impossible get", "additions", [14, 16, 18, 20], 1, additions),
     "shared_additions": Family(

@@ -14,7 +14,9 @@ use Rattle.lin_ahead.specs.AnyProblem.{any_problem}
 use Rattle.lin_prefixes.specs.declared.part_answer.PartAnswer.{PartAnswer}
 use Rattle.lin_prefixes.specs.declared.part_answer.PartAnswer.TheVariants.{Found, Refuted, Unknown}
 use Rattle.lin_parts.specs.Parts.{IsRising, part_of, name}
-use Rattle.lin_prefixes.specs.Prefixes.{IsLoosePrefix, HasNoRunOf}
+use Rattle.lin_prefixes.specs.Prefixes.{HasNoRunWith}
+use Rattle.lin_prefixes.specs.Freed.{IsLoosePrefix}
+use Rattle.lin_ahead.proofs.AnyLemmas.{of_any}
 use Rattle.lin_prefixes.specs.PartAnswer.{answer_of, IsPartAnswer, IsAnswerTo}
 use Rattle.lin_parts.specs.PartLemmas.{name_in}
 use Rattle.lin_prefixes.proofs.LooseLemmas.{no_run_by_loose}
@@ -43,5 +45,5 @@ module _ {Object : Type 0} (whole part : ProblemParts Object ObjState Op Reply) 
   part_answer kept rises count same (Found order) h = (part.calls, record { count = count; same = same; rises = rising_at kept rises }, at_part (λ p. IsAnswerTo p (Found order)) h)
   part_answer kept rises count same Refuted h = (part.calls, record { count = count; same = same; rises = rising_at kept rises }, at_part (λ p. IsAnswerTo p Refuted) h)
 
-  pub loose_answer : (k : ℕ) → k < length whole.calls → IsLoosePrefix (any_problem whole) k part.calls → IsAnswerTo (any_problem part) Refuted → HasNoRunOf (any_problem whole) k
-  loose_answer k last loose h = no_run_by_loose (any_problem whole) k part.calls loose last (at_part (λ p. IsAnswerTo p Refuted) h)
+  pub loose_answer : (k : ℕ) (kept takers : List ℕ) → k < length whole.calls → IsLoosePrefix (any_problem whole) k kept takers part.calls → IsAnswerTo (any_problem part) Refuted → HasNoRunWith (any_problem whole) k kept
+  loose_answer k kept takers last loose h = no_run_by_loose (any_problem whole) k kept takers part.calls loose last (of_any whole []) (at_part (λ p. IsAnswerTo p Refuted) h)

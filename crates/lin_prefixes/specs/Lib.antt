@@ -1,3 +1,4 @@
 pub mod Prefixes
+pub mod Freed
 pub mod PartAnswer
 pub mod WholeAnswer

@@ -5,14 +5,15 @@ ghost use Rattle.lin_history.specs.Problems.Linearizations.{IsLinearization};
 ghost use Rattle.lin_ahead.specs.AnyProblem.{any_problem};
 ghost use Rattle.lin_ahead.specs.Behind.{IsRightAhead};
 ghost use Rattle.lin_parts.specs.Parts.{IsRising};
-ghost use Rattle.lin_prefixes.specs.Prefixes.{HasNoRunOf};
+ghost use Rattle.lin_prefixes.specs.Prefixes.{HasNoRunWith};
 ghost use Rattle.lin_prefixes.specs.PartAnswer.{answer_of, IsAnswerTo, IsPartAnswer};
 
 use crate::call_lists::kept_calls;
 use crate::crossed_calls::some_cross;
+use crate::open_takers::open_takers;
 use crate::part_answer::PartAnswer;
 use crate::part_search::PartSearch;
-use crate::parts_anew::{is_loose_prefix, is_part, made_anew};
+use crate::parts_anew::{Loosened, Wanted, is_loose_prefix, is_part, made_anew};
 use lin_ahead::{
     FirstAnswer, KnownAhead, known_ahead, search_first, some_came_too_early, some_push_crosses,
     some_was_taken_twice,
@@ -37,6 +38,12 @@ const CALLS_FOR_A_LIFT: u64 = 64;
 const ROUNDS: usize = 16;
 
 const ROUNDS_FOR_A_BOUND: usize = 2;
+
+// What counts as a lift beside the lifts: of a part that is made so many calls, and of what is done between searches so many looks
+// at a call. Both take about as long.
+const CALLS_FOR_A_LIFT: u64 = 8;
+
+const LOOKS_FOR_A_LIFT: u64 = 256;
 
 // What a first search shows, with what is known ahead.
 fn first_answer(
@@ -117,8 +124,9 @@ fn answer_within<S: Stop>(
     }
 }
 
-// Whether some calls cross, of a queue by what they need, and of a stack by what lies on it.
-fn some_calls_cross(
+// Whether what is known ahead shows that there is no linearization: some calls were in vain, or they cross, of a queue by what they
+// need, and of a stack by what lies on it.
+fn are_in_vain(
     alloc: Global,
     part: &Problem<AnyObject>,
     ahead: &KnownAhead,
@@ -127,7 +135,7 @@ fn some_calls_cross(
     ensures { IfOk result (λ crossed. IsTrue crossed
         → (l : List ℕ) → IsLinearization (any_problem part.now) l → ⊥) }
 {
-    if some_push_crosses(alloc, part, ahead)? {
+    if ahead.in_vain || some_push_crosses(alloc, part, ahead)? {
         return Ok(true);
     }
     some_cross(alloc, part, &ahead.needs)
@@ -150,15 +158,15 @@ fn shows_none(
         return Ok(true);
     }
     match known {
-        Some(ahead) => some_calls_cross(alloc, part, ahead),
+        Some(ahead) => are_in_vain(alloc, part, ahead),
         None => Ok(false),
     }
 }
 
 /// Searches of parts of a problem of the seven kinds, each made anew: first searches where something is known ahead, searches by
 /// key of maps and sets, and searches that keep what they refuted for other parts. Each makes no more lifts than are left of
-/// those that were given at the start, where what goes before a search counts too, and a search by key counts the lifts for each key alone. Where the stop answers, they
-/// say nothing.
+/// those that were given at the start, where a search by key counts the lifts for each key alone. Work that makes no lifts is
+/// taken off them too. Where none are left or the stop answers, they say nothing.
 #[derive(Drop)]
 pub(crate) struct AnewSearch<'a, S> {
     events: Vec<ProblemEvent>,
@@ -186,6 +194,11 @@ impl<'a, S: Stop> AnewSearch<'a, S> {
         let lifts = wanted.min(self.lifts);
         self.lifts = self.lifts.saturating_sub(lifts);
         lifts
+    }
+
+    // Whether lifts are left and the stop does not answer.
+    fn may_search(&mut self) -> bool {
+        self.lifts > 0 && self.stop.ask().is_none()
     }
 
     // What is told of the problem, by searches of more and more lifts.
@@ -222,8 +235,8 @@ impl<'a, S: Stop> AnewSearch<'a, S> {
     ) -> Result<PartAnswer, AllocError>
         ensures { IfOk result (IsAnswerTo (any_problem part.now)) }
     {
-        let passes = 1 + part.len() as u64 / CALLS_FOR_A_LIFT;
-        if self.stop.ask().is_some() || self.take(passes) == 0 {
+        self.take(part.len() as u64 / CALLS_FOR_A_LIFT);
+        if !self.may_search() {
             return Ok(PartAnswer::Unknown);
         }
         let known = known_ahead(alloc, part)?;
@@ -254,7 +267,13 @@ impl<'a, S: Stop> AnewSearch<'a, S> {
         requires { IsRising kept.now }
         ensures { IfOk result (IsPartAnswer (any_problem problem.now) kept.now) }
     {
-        let Some(part) = made_anew(alloc, problem, self.events.as_slice(), kept, u64::MAX)? else {
+        let wanted = Wanted {
+            calls: kept,
+            until: u64::MAX,
+            returned: &[],
+            takers: &[],
+        };
+        let Some(part) = made_anew(alloc, problem, self.events.as_slice(), wanted)? else {
             return Ok(PartAnswer::Unknown);
         };
         if !is_part(problem, kept, &part) {
@@ -264,24 +283,36 @@ impl<'a, S: Stop> AnewSearch<'a, S> {
         Ok(answer)
     }
 
-    // Whether it is known that the call has no run.
-    fn has_none(
+    // Whether it is known that the call has no run with these calls.
+    fn has_none_with(
         &mut self,
         alloc: Global,
         problem: &Problem<AnyObject>,
         call: usize,
+        calls: &[usize],
     ) -> Result<bool, AllocError>
         requires { call < length problem.now.calls }
-        ensures { IfOk result (λ none. IsTrue none → HasNoRunOf (any_problem problem.now) call) }
+        ensures { IfOk result (λ none. IsTrue none
+            → HasNoRunWith (any_problem problem.now) call calls.now) }
     {
         let _calls = problem.calls();
         let kept = kept_calls(alloc, call, &[])?;
-        let until = u64::from(problem.call(call).called);
-        let events = self.events.as_slice();
-        let Some(part) = made_anew(alloc, problem, events, kept.as_slice(), until)? else {
+        let takers = open_takers(alloc, problem, call, calls)?;
+        let wanted = Wanted {
+            calls: kept.as_slice(),
+            until: u64::from(problem.call(call).called),
+            returned: calls,
+            takers: takers.as_slice(),
+        };
+        let Some(part) = made_anew(alloc, problem, self.events.as_slice(), wanted)? else {
             return Ok(false);
         };
-        if !is_loose_prefix(problem, call, &part) {
+        let loosened = Loosened {
+            call,
+            kept: calls,
+            takers: takers.as_slice(),
+        };
+        if !is_loose_prefix(problem, loosened, &part) {
             return Ok(false);
         }
         match self.answer_within_rounds(alloc, &part, ROUNDS_FOR_A_BOUND)? {
@@ -302,12 +333,18 @@ impl<'a, S: Stop> PartSearch<AnyObject> for AnewSearch<'a, S> {
         self.answer_to_part(alloc, problem, kept)
     }
 
-    fn has_no_run_of(
+    fn has_no_run_with(
         &mut self,
         alloc: Global,
         problem: &Problem<AnyObject>,
         call: usize,
+        calls: &[usize],
     ) -> Result<bool, AllocError> {
-        self.has_none(alloc, problem, call)
+        self.has_none_with(alloc, problem, call, calls)
+    }
+
+    fn may_go_on(&mut self, looks: u64) -> bool {
+        self.take(looks / LOOKS_FOR_A_LIFT + 1);
+        self.may_search()
     }
 }

@@ -10,6 +10,8 @@
 //! - `candidate`: the best run that lacks just these calls.
 //! - `by_prefixes`: the longest run, from the last call that a run may have downwards.
 //! - `parts_anew`: parts of a problem, made anew by their events; `anew_search`: searches of them, with a budget of lifts.
+//! - `conflicts`: groups of calls of which each run lacks one; `choices`: which calls are left out, by conflicts.
+//! - `open_takers`: open dequeues that may stay out of a run of a queue.
 //! - `crossed_calls`: two calls of which each would have to come before the other.
 //! - `whole_search`: the search of a whole problem by its prefixes; `whole_answer`: what it answers.
 #![tactic(auto)]
@@ -18,7 +20,10 @@ mod anew_search;
 mod by_prefixes;
 mod call_lists;
 mod candidate;
+mod choices;
+mod conflicts;
 mod crossed_calls;
+mod open_takers;
 mod part_answer;
 mod part_search;
 mod parts_anew;

@@ -3,7 +3,7 @@ ghost use Rattle.std.specs.Prelude.{◌≡◌, ◌<◌, ◌≤◌, ℕ, length, 
 ghost use Rattle.lin_history.specs.Problems.Lists.{In};
 ghost use Rattle.lin_history.specs.Problems.Problem.{problem_of};
 ghost use Rattle.lin_parts.specs.Parts.{IsRising};
-ghost use Rattle.lin_prefixes.specs.Prefixes.{HasNoRunOf};
+ghost use Rattle.lin_prefixes.specs.Prefixes.{HasNoRunWith};
 ghost use Rattle.lin_prefixes.specs.PartAnswer.{IsPartAnswer};
 
 use crate::part_answer::PartAnswer;
@@ -29,17 +29,21 @@ pub trait PartSearch<O: SeqObject> {
         ensures { IfOk result (IsPartAnswer (problem_of O.after O.State.eq O.Reply.eq problem.now)
             kept.now) };
 
-    /// Whether it is known that there is no run with calls up to this one alone and with every call that precedes it.
-    /// `AllocError` where memory was refused.
+    /// Whether it is known that there is no run with calls up to this one alone, with every call that precedes it and with each
+    /// of these calls. `AllocError` where memory was refused.
     ///
     /// Condition: it is a call of the problem.
-    fn has_no_run_of(
+    fn has_no_run_with(
         &mut self,
         alloc: Global,
         problem: &Problem<O>,
         call: usize,
+        calls: &[usize],
     ) -> Result<bool, AllocError>
         requires { call < length problem.now.calls }
-        ensures { IfOk result (λ none. IsTrue none
-            → HasNoRunOf (problem_of O.after O.State.eq O.Reply.eq problem.now) call) };
+        ensures { IfOk result (λ none. IsTrue none → HasNoRunWith
+            (problem_of O.after O.State.eq O.Reply.eq problem.now) call calls.now) };
+
+    /// Whether the search may go on, after so many looks at a call that were made between two questions.
+    fn may_go_on(&mut self, looks: u64) -> bool;
 }

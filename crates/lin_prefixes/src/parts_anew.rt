@@ -2,8 +2,10 @@
 //! compared with the whole, call by call.
 ghost use Rattle.std.specs.Prelude.{◌≡◌, ◌⊎◌, ◌+◌, ◌<◌, ◌≤◌, ◌^◌, ℕ, None, Some, IfOk, IfSome, IsTrue, IsSome, IsSomeAnd, length, slice_get, slice_index};
 ghost use Rattle.lin_ahead.specs.AnyProblem.{any_problem};
-ghost use Rattle.lin_prefixes.specs.Prefixes.{IsLoosePrefix};
+ghost use Rattle.lin_prefixes.specs.Freed.{IsLoosened, IsLoosePrefix};
 
+use crate::call_lists::has_call;
+use crate::open_takers::{are_takers, may_be_freed};
 use lin_history::{Problem, ProblemCall, ProblemEvent};
 use lin_object::{AnyObject, Op, Reply, SeqObject};
 use std::alloc::{AllocError, Global};
@@ -36,18 +38,6 @@ fn same_call(a: &ProblemCall<Op, Reply>, b: &ProblemCall<Op, Reply>) -> bool
     same_start(a, b) && same_return(&a.returned, &b.returned)
 }
 
-// Whether the call is the other one made pending, or the same and returned before the event.
-fn same_or_pending(own: &ProblemCall<Op, Reply>, call: &ProblemCall<Op, Reply>, event: u32) -> bool
-    ensures { IsTrue result
-        → ((own.now ≡ call.now) × IsSomeAnd call.now.returned (λ r. r.0 < event))
-        ⊎ (own.now ≡ record call.now { returned = None }) }
-{
-    match &own.returned {
-        None => same_start(own, call),
-        Some((number, _)) => same_call(own, call) && *number < event,
-    }
-}
-
 // Whether the problem has just these calls.
 pub(crate) fn is_part(
     problem: &Problem<AnyObject>,
@@ -69,28 +59,62 @@ pub(crate) fn is_part(
     true
 }
 
-// Whether the problem has the calls up to this one, those pending that do not precede it.
+/// The calls up to one, those of them that are to stay as they are, though they do not precede it, and the dequeues that are to
+/// stay out.
+#[derive(Clone, Copy)]
+pub(crate) struct Loosened<'a> {
+    pub(crate) call: usize,
+    pub(crate) kept: &'a [usize],
+    pub(crate) takers: &'a [usize],
+}
+
+// Whether the part has the whole's call as it is, where it has to be there; or made pending; or, in place of a dequeue that is to
+// stay out, one that did not return.
+fn is_loosened(
+    problem: &Problem<AnyObject>,
+    loosened: Loosened<'_>,
+    own: &ProblemCall<Op, Reply>,
+    c: usize,
+) -> bool
+    requires last { loosened.call < length problem.now.calls }
+    requires call { c < length problem.now.calls }
+    ensures { IsTrue result → IsLoosened (any_problem problem.now) loosened.entry.call
+        loosened.entry.kept.now loosened.entry.takers.now c own.now }
+{
+    let call = problem.call(c);
+    match &own.returned {
+        None => has_call(loosened.takers, c) || same_start(own, call),
+        Some((number, _)) => {
+            same_call(own, call)
+                && (*number < problem.call(loosened.call).called || has_call(loosened.kept, c))
+                && !may_be_freed(problem, loosened.takers, c)
+        }
+    }
+}
+
+// Whether the part has the calls up to this one, loosened.
 pub(crate) fn is_loose_prefix(
     problem: &Problem<AnyObject>,
-    call: usize,
+    loosened: Loosened<'_>,
     part: &Problem<AnyObject>,
 ) -> bool
-    requires { call < length problem.now.calls }
-    ensures { IsTrue result → IsLoosePrefix (any_problem problem.now) call part.now.calls }
+    requires { loosened.call < length problem.now.calls }
+    ensures { IsTrue result → IsLoosePrefix (any_problem problem.now) loosened.entry.call
+        loosened.entry.kept.now loosened.entry.takers.now part.now.calls }
 {
     let _calls = problem.calls();
-    let event = problem.call(call).called;
-    if part.len() != call + 1 {
+    if part.len() != loosened.call + 1 || !are_takers(problem, loosened.takers) {
         return false;
     }
     for c in 0..part.len() {
-        if !same_or_pending(part.call(c), problem.call(c), event) {
+        if !is_loosened(problem, loosened, part.call(c), c) {
             return false;
         }
     }
     true
 }
 
+<<<<<<< HEAD
 // At which place the call is kept, if it is. Mostly few calls are left out, so it stands there or a few places before.
 fn place_of(kept: &[usize], call: usize) -> Option<usize> {
     let last = *kept.last()?;
@@ -112,11 +136,34 @@ fn place_of(kept: &[usize], call: usize) -> Option<usize> {
 
 // Adds the event of the whole's call, if it is one of those kept and no return from the event `until` on. `false` where it
 // was refused.
+=======
+/// Which calls a part has, in increasing order, and which of their returns: those before the event `until`, and those of the
+/// calls that are to have theirs; but none of the takers, which never make a step, and of the calls that put in what these took.
+#[derive(Clone, Copy)]
+pub(crate) struct Wanted<'a> {
+    pub(crate) calls: &'a [usize],
+    pub(crate) until: u64,
+    pub(crate) returned: &'a [usize],
+    pub(crate) takers: &'a [usize],
+}
+
+// An operation with no step at a queue.
+const NO_STEP: Op = Op::Read;
+
+// Whether the return of the call, at this event, is one of those wanted.
+fn has_return(problem: &Problem<AnyObject>, wanted: Wanted<'_>, call: usize, event: u32) -> bool {
+    if call >= problem.len() || may_be_freed(problem, wanted.takers, call) {
+        return false;
+    }
+    u64::from(event) < wanted.until || has_call(wanted.returned, call)
+}
+
+// Adds the event of the whole's call, if it is one of those wanted. `false` where it was refused.
+>>>>>>> 745403200045479984b298f30ae17bab1e68d968
 fn add_event(
     part: &mut Problem<AnyObject>,
     problem: &Problem<AnyObject>,
-    kept: &[usize],
-    until: u64,
+    wanted: Wanted<'_>,
     event: &ProblemEvent,
 ) -> bool
     ensures { part.new.start ≡ part.old.start }
@@ -126,20 +173,33 @@ fn add_event(
             let Some(made) = problem.calls().get(*call) else {
                 return false;
             };
+<<<<<<< HEAD
             if place_of(kept, *call).is_none() {
+=======
+            if wanted.calls.binary_search(call).is_err() {
+>>>>>>> 745403200045479984b298f30ae17bab1e68d968
                 return true;
             }
-            part.add_call(made.process, made.op, made.called).is_ok()
+            let op = if has_call(wanted.takers, *call) {
+                NO_STEP
+            } else {
+                made.op
+            };
+            part.add_call(made.process, op, made.called).is_ok()
         }
         ProblemEvent::Return(call) => {
             let Some(made) = problem.calls().get(*call) else {
                 return false;
             };
+<<<<<<< HEAD
             let Some(index) = place_of(kept, *call) else {
+=======
+            let Ok(index) = wanted.calls.binary_search(call) else {
+>>>>>>> 745403200045479984b298f30ae17bab1e68d968
                 return true;
             };
             match &made.returned {
-                Some((number, reply)) if u64::from(*number) < until => {
+                Some((number, reply)) if has_return(problem, wanted, *call, *number) => {
                     part.add_return(index, *reply, *number).is_ok()
                 }
                 _ => true,
@@ -148,21 +208,20 @@ fn add_event(
     }
 }
 
-// The problem of these calls, which are in increasing order, by the events of the whole in the order of their numbers; the
-// returns from the event `until` on are left out. `None` where an event was refused.
+// The problem of these calls and returns, by the events of the whole in the order of their numbers. `None` where an event was
+// refused.
 pub(crate) fn made_anew(
     alloc: Global,
     problem: &Problem<AnyObject>,
     events: &[ProblemEvent],
-    kept: &[usize],
-    until: u64,
+    wanted: Wanted<'_>,
 ) -> Result<Option<Problem<AnyObject>>, AllocError>
     ensures { IfOk result (λ answer. IfSome answer (λ part. part.start ≡ problem.now.start)) }
 {
     let start = problem.object().copy_state(alloc, problem.start())?;
     let mut part = Problem::new(alloc, AnyObject, start);
     for event in events {
-        if !add_event(&mut part, problem, kept, until, event) {
+        if !add_event(&mut part, problem, wanted, event) {
             return Ok(None);
         }
     }

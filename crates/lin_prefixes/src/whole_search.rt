@@ -51,12 +51,13 @@ pub fn longest_run_by_prefixes<S: Stop>(
 
 /// The least linearization of the problem; or, where it has none, the first of its longest runs, from searches of smaller
 /// problems for their least linearizations. `None` where all these searches together would have made more lifts than so
-/// many, where the stop answered, or where that is not known: where a pending call of the longest run has no step. The stop is
-/// asked before each search, and before each 4,096th lift of one that keeps what it refuted. No configuration is kept from one
-/// search to the next. `AllocError` where memory was refused.
+/// many, where the stop answered, or where that is not known: where a pending call of the longest run has no step, or where that run
+/// lacks more than 256 of the calls that are open at its end. Work that makes no lifts counts as some. The stop is asked before each
+/// search and in the work between two, and before each 4,096th lift of one that keeps what it refuted. No configuration is kept from
+/// one search to the next. `AllocError` where memory was refused.
 ///
 /// It is quick where something is known ahead of the problem (`known_ahead`) and its searches so come to an end soon: a
-/// search is made for each halving of the number of calls, and then some for each few calls that the longest run lacks.
+/// search is made for each halving of the number of calls, and then a few for each call that the longest run lacks.
 pub fn search_by_prefixes<S: Stop>(
     alloc: Global,
     problem: &Problem<AnyObject>,

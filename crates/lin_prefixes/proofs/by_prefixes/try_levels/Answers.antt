@@ -4,21 +4,22 @@ use Rattle.lin_prefixes.specs.Prefixes.{IsRunLacking}
 use Rattle.lin_prefixes.proofs.BeatenLemmas.{beaten_itself, beaten_chain}
 use Rattle.lin_prefixes.proofs.LackLemmas.{tried_enough}
 use Rattle.lin_parts.specs.ListLemmas.{last_or}
-use Rattle.lin_prefixes.proofs.by_prefixes.try_call.Goals as goal
+use Rattle.lin_prefixes.proofs.by_prefixes.try_levels.Goals as goal
 
 pub loop-lacking-init : goal.loop-lacking-init
 loop-lacking-init g c = record {
   run = c.requires.run;
   better = beaten_itself c.args.best.now;
-  tried = λ d h r w. absurd (omega (arith, h));
+  conflicts = c.requires.conflicts;
+  tried = λ d h r w. absurd (let least = c.least_lacking-least.ensures r d w.run w.lacks in omega (arith, h, least));
 }
 
-pub returns-then-len-gt-MOST_OPEN-clause-better : goal.returns-then-len-gt-MOST_OPEN-clause-better
-returns-then-len-gt-MOST_OPEN-clause-better g c = beaten_itself c.args.best.now
+pub returns-then-lacking-gt-MOST_LACKING-clause-better : goal.returns-then-lacking-gt-MOST_LACKING-clause-better
+returns-then-lacking-gt-MOST_LACKING-clause-better g c = c.loop-lacking.invariant.better
 
 pub returns-then-not-may_be_best-clause-known : goal.returns-then-not-may_be_best-clause-known
 returns-then-not-may_be_best-clause-known g c =
-    λ yes r w. tried_enough (problem_of g.O.SeqObject.after g.O.State.PartialEq.eq g.O.Reply.PartialEq.eq c.args.problem.now) c.args.call c.in_ok-open.open.items c.loop-lacking.best c.loop-lacking.lacking c.in_ok-open.ensures c.loop-lacking.invariant.tried (inr (c.may_be_best.ensures c.if-not-may_be_best.true)) r w
+    λ yes r w. tried_enough (problem_of g.O.SeqObject.after g.O.State.PartialEq.eq g.O.Reply.PartialEq.eq c.args.problem.now) c.args.cut.call c.args.cut.open_calls.now c.loop-lacking.best c.loop-lacking.lacking c.requires.open c.loop-lacking.invariant.tried (inr (c.may_be_best.ensures c.if-not-may_be_best.true)) r w
 
 pub returns-then-not-branch-clause-better : goal.returns-then-not-branch-clause-better
 returns-then-not-branch-clause-better g c = beaten_chain c.try_open.new.best c.loop-lacking.best c.args.best.now c.in_ok-try_open.ensures.better c.loop-lacking.invariant.better
@@ -27,12 +28,13 @@ pub loop-lacking-preserved : goal.loop-lacking-preserved
 loop-lacking-preserved g c = record {
   run = c.try_open.ensures.run;
   better = beaten_chain c.try_open.new.best c.loop-lacking.best c.args.best.now c.in_ok-try_open.ensures.better c.loop-lacking.invariant.better;
+  conflicts = c.in_ok-try_open.ensures.conflicts;
   tried = λ d h r w. elim (last_or d c.loop-lacking.lacking h) [
     | inl less ↦ beaten_chain c.try_open.new.best c.loop-lacking.best r c.in_ok-try_open.ensures.better (c.loop-lacking.invariant.tried d less r w)
-    | inr same ↦ c.in_ok-try_open.ensures.known c.if-not-branch.false r (rw c.as_slice.ensures.value (subst (λ (x : ℕ). IsRunLacking (problem_of g.O.SeqObject.after g.O.State.PartialEq.eq g.O.Reply.PartialEq.eq c.args.problem.now) c.args.call [] c.in_ok-open.open.items x r) same w))
+    | inr same ↦ c.in_ok-try_open.ensures.known c.if-not-branch.false r (subst (λ (x : ℕ). IsRunLacking (problem_of g.O.SeqObject.after g.O.State.PartialEq.eq g.O.Reply.PartialEq.eq c.args.problem.now) c.args.cut.call [] c.args.cut.open_calls.now x r) same w)
   ];
 }
 
 pub returns-clause-known : goal.returns-clause-known
 returns-clause-known g c =
-    λ yes r w. tried_enough (problem_of g.O.SeqObject.after g.O.State.PartialEq.eq g.O.Reply.PartialEq.eq c.args.problem.now) c.args.call c.in_ok-open.open.items c.loop-lacking.best c.loop-lacking.lacking c.in_ok-open.ensures c.loop-lacking.invariant.tried (inl (let a = c.loop-lacking-test.false in let b = c.len-lacking-end.ensures in let v = c.in_ok-open.open.ok.0 in omega (arith, a, b, v))) r w
+    λ yes r w. tried_enough (problem_of g.O.SeqObject.after g.O.State.PartialEq.eq g.O.Reply.PartialEq.eq c.args.problem.now) c.args.cut.call c.args.cut.open_calls.now c.loop-lacking.best c.loop-lacking.lacking c.requires.open c.loop-lacking.invariant.tried (inl (let a = c.loop-lacking-test.false in omega (arith, a))) r w

@@ -1,0 +1,6 @@
+use Rattle.std.proofs.Common.{◌≡◌, ℕ, drop, ◌⊎◌}
+use Rattle.lin_history.specs.Problems.Lists.{In}
+use Rattle.lin_prefixes.proofs.conflicts.is_alone.Given as goal
+
+abbrev pub invariant-loop-c : goal.invariant-loop-c
+invariant-loop-c l = (b : ℕ) → In b l.calls → (b ≡ l.call) ⊎ In b (drop l.c-index l.calls)

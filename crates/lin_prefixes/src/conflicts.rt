@@ -1,0 +1,380 @@
+//! Conflicts of a call: completed calls up to it of which each of its runs lacks one.
+//!
+//! Which calls are asked of is a hint. A conflict is made only of calls for which the search tells that no run has all of them.
+ghost use Rattle.std.specs.Prelude.{◌≡◌, ◌<◌, ◌≤◌, ◌^◌, ◌+◌, ◌∷◌, [], ℕ, List, All, IfOk, IfSome, IsTrue, length};
+ghost use Rattle.lin_history.specs.Problems.Lists.{In};
+ghost use Rattle.lin_history.specs.Problems.Problem.{problem_of};
+ghost use Rattle.lin_prefixes.specs.Prefixes.{AreCompletedUpTo, IsConflict, IsMissed, IsRunOf, IsSingle, Lacks, SomeMissed};
+
+use crate::call_lists::has_call;
+use crate::part_search::PartSearch;
+use lin_history::Problem;
+use lin_object::SeqObject;
+use std::alloc::{AllocError, Global};
+use std::marker::Model;
+
+/// A call of which runs are tried, and its open calls: the completed ones up to it that do not precede it.
+#[derive(Clone, Copy)]
+pub(crate) struct Cut<'a> {
+    pub(crate) call: usize,
+    pub(crate) open_calls: &'a [usize],
+}
+
+/// Calls, by their numbers. What they are in conflict with is said where they are made.
+#[derive(Drop)]
+pub(crate) struct Conflict {
+    calls: Vec<usize>,
+}
+
+// Contracts see the list of the calls' numbers.
+impl Model for Conflict {
+    ghost use Rattle.std.specs.Prelude.{List, ℕ};
+
+    ghost Value = { List ℕ };
+
+    ghost view = { λ conflict. conflict.calls.items };
+}
+
+impl Conflict {
+    // The conflict of these calls.
+    fn new(alloc: Global, calls: &[usize]) -> Result<Self, AllocError>
+        ensures { IfOk result (λ made. made ≡ calls.now) }
+    {
+        Ok(Conflict {
+            calls: Vec::from_slice(alloc, calls)?,
+        })
+    }
+
+    // The calls.
+    fn calls(&self) -> &[usize]
+        ensures { result.now ≡ self.now }
+    {
+        self.calls.as_slice()
+    }
+}
+
+// Whether each of the calls is a completed one up to this one.
+fn are_completed_up_to<O: SeqObject>(problem: &Problem<O>, calls: &[usize], call: usize) -> bool
+    requires { call < length problem.now.calls }
+    ensures { IsTrue result → AreCompletedUpTo
+        (problem_of O.after O.State.eq O.Reply.eq problem.now) call calls.now }
+{
+    for c in calls {
+        if *c > call || problem.call(*c).returned.is_none() {
+            return false;
+        }
+    }
+    true
+}
+
+// These calls as a conflict of the call, where it is known that they are one.
+fn conflict_of<O: SeqObject, S: PartSearch<O>>(
+    alloc: Global,
+    problem: &Problem<O>,
+    search: &mut S,
+    call: usize,
+    calls: &[usize],
+) -> Result<Option<Conflict>, AllocError>
+    requires { call < length problem.now.calls }
+    ensures { IfOk result (λ answer. IfSome answer (IsConflict
+        (problem_of O.after O.State.eq O.Reply.eq problem.now) call)) }
+{
+    if !are_completed_up_to(problem, calls, call)
+        || !search.has_no_run_with(alloc, problem, call, calls)?
+    {
+        return Ok(None);
+    }
+    let conflict = Conflict::new(alloc, calls)?;
+    Ok(Some(conflict))
+}
+
+// Adds these calls as a conflict, where it is known that they are one.
+fn add_known<O: SeqObject, S: PartSearch<O>>(
+    alloc: Global,
+    problem: &Problem<O>,
+    search: &mut S,
+    call: usize,
+    calls: &[usize],
+    conflicts: &mut Vec<Conflict>,
+) -> Result<(), AllocError>
+    requires call { call < length problem.now.calls }
+    requires conflicts { All (IsConflict (problem_of O.after O.State.eq O.Reply.eq problem.now) call)
+        conflicts.old.items }
+    ensures { IfOk result (λ done. All
+        (IsConflict (problem_of O.after O.State.eq O.Reply.eq problem.now) call)
+        conflicts.new.items) }
+{
+    let Some(conflict) = conflict_of(alloc, problem, search, call, calls)? else {
+        return Ok(());
+    };
+    conflicts.push(conflict)?;
+    Ok(())
+}
+
+// How many of the first calls are known to be a conflict, as few as are, but at least `needed`. The calls together are one.
+fn fewest_in_conflict<O: SeqObject, S: PartSearch<O>>(
+    alloc: Global,
+    problem: &Problem<O>,
+    search: &mut S,
+    call: usize,
+    calls: &[usize],
+    needed: usize,
+) -> Result<usize, AllocError>
+    requires { call < length problem.now.calls }
+{
+    let mut low = needed;
+    let mut high = calls.len();
+    while low < high {
+        let middle = low + (high - low) / 2;
+        if search.has_no_run_with(alloc, problem, call, &calls[..middle])? {
+            high = middle;
+        } else {
+            low = middle + 1;
+        }
+    }
+    Ok(high)
+}
+
+// Of calls that are a conflict few that still are, by halving.
+fn few_in_conflict<O: SeqObject, S: PartSearch<O>>(
+    alloc: Global,
+    problem: &Problem<O>,
+    search: &mut S,
+    call: usize,
+    calls: &[usize],
+) -> Result<Vec<usize>, AllocError>
+    requires { call < length problem.now.calls }
+{
+    let mut few = Vec::from_slice(alloc, calls)?;
+    for needed in 0..calls.len() {
+        let count = fewest_in_conflict(alloc, problem, search, call, few.as_slice(), needed)?;
+        few.truncate(count);
+        if count <= needed {
+            return Ok(few);
+        }
+        // the last one is needed: it goes to the front, and those behind are halved again
+        if let Some(last) = few.pop() {
+            few.insert(0, last)?;
+        }
+    }
+    Ok(few)
+}
+
+/// Adds a conflict among these calls, where one is known: as few of them as still are one.
+pub(crate) fn add_conflict<O: SeqObject, S: PartSearch<O>>(
+    alloc: Global,
+    problem: &Problem<O>,
+    search: &mut S,
+    call: usize,
+    calls: &[usize],
+    conflicts: &mut Vec<Conflict>,
+) -> Result<(), AllocError>
+    requires call { call < length problem.now.calls }
+    requires conflicts { All (IsConflict (problem_of O.after O.State.eq O.Reply.eq problem.now) call)
+        conflicts.old.items }
+    ensures { IfOk result (λ done. All
+        (IsConflict (problem_of O.after O.State.eq O.Reply.eq problem.now) call)
+        conflicts.new.items) }
+{
+    if !search.has_no_run_with(alloc, problem, call, calls)? {
+        return Ok(());
+    }
+    let few = few_in_conflict(alloc, problem, search, call, calls)?;
+    add_known(alloc, problem, search, call, few.as_slice(), conflicts)
+}
+
+// Adds those of the calls that no run has, as far as that is known, each as a conflict of its own: the calls are halved where no
+// run has all of them.
+fn add_single_conflicts<O: SeqObject, S: PartSearch<O>>(
+    alloc: Global,
+    problem: &Problem<O>,
+    search: &mut S,
+    call: usize,
+    calls: &[usize],
+    conflicts: &mut Vec<Conflict>,
+) -> Result<(), AllocError>
+    requires call { call < length problem.now.calls }
+    requires conflicts { All (IsConflict (problem_of O.after O.State.eq O.Reply.eq problem.now) call)
+        conflicts.old.items }
+    ensures { IfOk result (λ done. All
+        (IsConflict (problem_of O.after O.State.eq O.Reply.eq problem.now) call)
+        conflicts.new.items) }
+{
+    if calls.len() <= 1 {
+        return add_known(alloc, problem, search, call, calls, conflicts);
+    }
+    if !search.has_no_run_with(alloc, problem, call, calls)? {
+        return Ok(());
+    }
+    let (first, second) = calls.split_at(calls.len() / 2);
+    add_single_conflicts(alloc, problem, search, call, first, conflicts)?;
+    add_single_conflicts(alloc, problem, search, call, second, conflicts)
+}
+
+// Those of the conflicts that are conflicts of this call too.
+fn conflicts_again<O: SeqObject, S: PartSearch<O>>(
+    alloc: Global,
+    problem: &Problem<O>,
+    search: &mut S,
+    call: usize,
+    hints: &[Conflict],
+) -> Result<Vec<Conflict>, AllocError>
+    requires { call < length problem.now.calls }
+    ensures { IfOk result (λ conflicts. All
+        (IsConflict (problem_of O.after O.State.eq O.Reply.eq problem.now) call) conflicts.items) }
+{
+    let mut conflicts = Vec::new(alloc);
+    for hint in hints {
+        add_known(alloc, problem, search, call, hint.calls(), &mut conflicts)?;
+    }
+    Ok(conflicts)
+}
+
+// The calls of the list that are no conflicts of their own.
+fn not_single(
+    alloc: Global,
+    calls: &[usize],
+    conflicts: &[Conflict],
+) -> Result<Vec<usize>, AllocError> {
+    let mut left = Vec::new(alloc);
+    for c in calls {
+        if !is_in_no_run(conflicts, *c) {
+            left.push(*c)?;
+        }
+    }
+    Ok(left)
+}
+
+/// The conflicts of the cut to begin with: those that are given as hints, of another one, and are conflicts here too; and the
+/// open calls that no run has, as far as that is known.
+pub(crate) fn first_conflicts<O: SeqObject, S: PartSearch<O>>(
+    alloc: Global,
+    problem: &Problem<O>,
+    search: &mut S,
+    cut: Cut<'_>,
+    hints: &[Conflict],
+) -> Result<Vec<Conflict>, AllocError>
+    requires { cut.call < length problem.now.calls }
+    ensures { IfOk result (λ conflicts. All
+        (IsConflict (problem_of O.after O.State.eq O.Reply.eq problem.now) cut.entry.call)
+        conflicts.items) }
+{
+    let mut conflicts = conflicts_again(alloc, problem, search, cut.call, hints)?;
+    let left = not_single(alloc, cut.open_calls, conflicts.as_slice())?;
+    add_single_conflicts(
+        alloc,
+        problem,
+        search,
+        cut.call,
+        left.as_slice(),
+        &mut conflicts,
+    )?;
+    Ok(conflicts)
+}
+
+// Whether the conflict has no other call than this one.
+fn is_alone(conflict: &Conflict, call: usize) -> bool
+    ensures { IsTrue result → (c : ℕ) → In c conflict.now → c ≡ call }
+{
+    let calls = conflict.calls();
+    for c in calls {
+        if *c != call {
+            return false;
+        }
+    }
+    true
+}
+
+// Whether the call is a conflict of its own.
+fn is_in_no_run(conflicts: &[Conflict], call: usize) -> bool
+    ensures { IsTrue result → IsSingle conflicts.now call }
+{
+    for conflict in conflicts {
+        if is_alone(conflict, call) {
+            return true;
+        }
+    }
+    false
+}
+
+/// How many of the open calls each run lacks at least: those that are conflicts of their own.
+pub(crate) fn least_lacking<O: SeqObject>(
+    problem: &Problem<O>,
+    cut: Cut<'_>,
+    conflicts: &[Conflict],
+) -> usize
+    requires { All (IsConflict (problem_of O.after O.State.eq O.Reply.eq problem.now) cut.call)
+        conflicts.now }
+    ensures { (r : List ℕ) (d : ℕ)
+        → IsRunOf (problem_of O.after O.State.eq O.Reply.eq problem.now) cut.entry.call r
+        → Lacks r cut.entry.open_calls.now d → result ≤ d }
+{
+    let mut least = 0;
+    for c in cut.open_calls {
+        if is_in_no_run(conflicts, *c) {
+            least += 1;
+        }
+    }
+    least
+}
+
+// Whether no call of the conflict is in either list.
+fn is_missed(conflict: &Conflict, dropped: &[usize], late: &[usize]) -> bool
+    ensures { IsTrue result → IsMissed conflict.now dropped.now late.now }
+{
+    let calls = conflict.calls();
+    for c in calls {
+        if has_call(dropped, *c) || has_call(late, *c) {
+            return false;
+        }
+    }
+    true
+}
+
+/// Whether some conflict has no call in either list.
+pub(crate) fn some_missed(conflicts: &[Conflict], dropped: &[usize], late: &[usize]) -> bool
+    ensures { IsTrue result → SomeMissed conflicts.now dropped.now late.now }
+{
+    for conflict in conflicts {
+        if is_missed(conflict, dropped, late) {
+            return true;
+        }
+    }
+    false
+}
+
+// How many calls of the conflict are in the list.
+fn count_in(conflict: &Conflict, late: &[usize]) -> usize {
+    conflict
+        .calls()
+        .iter()
+        .filter(|c| has_call(late, **c))
+        .count()
+}
+
+/// The place of a call in the list that is to be left out next: one of a conflict that has none of those dropped, of which few
+/// are in the list. That is a hint.
+pub(crate) fn next_place(conflicts: &[Conflict], dropped: &[usize], late: &[usize]) -> usize {
+    let mut best = 0;
+    let mut fewest = usize::MAX;
+    for conflict in conflicts {
+        if is_missed(conflict, dropped, &[]) {
+            let count = count_in(conflict, late);
+            if count < fewest {
+                fewest = count;
+                best = first_place(conflict, late);
+            }
+        }
+    }
+    best
+}
+
+// The first place in the list of a call of the conflict.
+fn first_place(conflict: &Conflict, late: &[usize]) -> usize {
+    for place in 0..late.len() {
+        if has_call(conflict.calls(), late[place]) {
+            return place;
+        }
+    }
+    0
+}
