@@ -29,10 +29,6 @@ const FIRST_LIFTS: u64 = 2;
 
 const GROWTH: u64 = 4;
 
-// For so many calls what goes before a search, a few passes over the calls, counts as a lift: else thousands of parts that are refuted
-// without a search would cost nothing.
-const CALLS_FOR_A_LIFT: u64 = 64;
-
 // How often it is made at most. Where only a bound is asked for, seldom: without it more parts are searched, but each of those
 // shows more.
 const ROUNDS: usize = 16;

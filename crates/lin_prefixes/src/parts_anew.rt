@@ -114,7 +114,6 @@ pub(crate) fn is_loose_prefix(
     true
 }
 
-<<<<<<< HEAD
 // At which place the call is kept, if it is. Mostly few calls are left out, so it stands there or a few places before.
 fn place_of(kept: &[usize], call: usize) -> Option<usize> {
     let last = *kept.last()?;
@@ -134,9 +133,6 @@ fn place_of(kept: &[usize], call: usize) -> Option<usize> {
     None
 }
 
-// Adds the event of the whole's call, if it is one of those kept and no return from the event `until` on. `false` where it
-// was refused.
-=======
 /// Which calls a part has, in increasing order, and which of their returns: those before the event `until`, and those of the
 /// calls that are to have theirs; but none of the takers, which never make a step, and of the calls that put in what these took.
 #[derive(Clone, Copy)]
@@ -159,7 +155,6 @@ fn has_return(problem: &Problem<AnyObject>, wanted: Wanted<'_>, call: usize, eve
 }
 
 // Adds the event of the whole's call, if it is one of those wanted. `false` where it was refused.
->>>>>>> 745403200045479984b298f30ae17bab1e68d968
 fn add_event(
     part: &mut Problem<AnyObject>,
     problem: &Problem<AnyObject>,
@@ -173,11 +168,7 @@ fn add_event(
             let Some(made) = problem.calls().get(*call) else {
                 return false;
             };
-<<<<<<< HEAD
-            if place_of(kept, *call).is_none() {
-=======
-            if wanted.calls.binary_search(call).is_err() {
->>>>>>> 745403200045479984b298f30ae17bab1e68d968
+            if place_of(wanted.calls, *call).is_none() {
                 return true;
             }
             let op = if has_call(wanted.takers, *call) {
@@ -191,11 +182,7 @@ fn add_event(
             let Some(made) = problem.calls().get(*call) else {
                 return false;
             };
-<<<<<<< HEAD
-            let Some(index) = place_of(kept, *call) else {
-=======
-            let Ok(index) = wanted.calls.binary_search(call) else {
->>>>>>> 745403200045479984b298f30ae17bab1e68d968
+            let Some(index) = place_of(wanted.calls, *call) else {
                 return true;
             };
             match &made.returned {
