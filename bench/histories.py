@@ -441,23 +441,6 @@ def register_refuted_midway(processes):
     return history
 
 
-def unseen_reads(count):
-    """So many calls at once, a third of them reads of values that nobody wrote, and then a read of each value that was written."""
-    reads = count // 3
-    yield declared("x")
-    for process in range(count - reads):
-        yield call(process, "x", "write", process)
-    for process in range(count - reads, count):
-        yield call(process, "x", "read")
-    for process in range(count - reads):
-        yield returned(process, "x", OKAY)
-    for process in range(count - reads, count):
-        yield returned(process, "x", -process)
-    for process in range(count - reads):
-        yield call(process, "x", "read")
-        yield returned(process, "x", process)
-
-
 def stopping(stops):
     """A register of four processes, and so many more that stop within a `cas`."""
     return lambda calls: lines("x", "register", simulated(Exchanged(), 4 + stops, calls, stops))
@@ -666,7 +649,6 @@ FAMILIES = {
     "register_14": Family("a register, 14 processes", "calls", CALLS[-1:], 0, register(14)),
     "register_14_no": Family("the same, and an impossible read", "calls", CALLS[-1:], 1, register_refuted(14)),
     "register_24_no_5": Family("a register, 24 processes, and an impossible read in the middle", "calls", CALLS[-1:], 1, register_refuted_midway(24)),
-    "unseen_reads": Family("writes and reads of values that nobody wrote, all at once, and a read of each value", "calls at once", [12, 24, 36, 42], 1, unseen_reads),
     "register_16": Family("a register, 16 processes", "calls", CALLS[-1:], 0, register(16)),
     "register_32": Family("a register, 32 processes", "calls", MORE_CALLS[-1:], 0, register(32)),
     "register_64": Family("a register, 64 processes", "calls", MORE_CALLS[-1:], 0, register(64)),

@@ -25,6 +25,8 @@ use Rattle.lin_history.specs.Locality.LocalityLemmas.{none_of_whole}
 use Rattle.lin_search.specs.LongestRun.{IsFirstLongest}
 use Rattle.lin_workers.specs.Bounds.{Bounds}
 use Rattle.lin_workers.specs.Verdict.{MayBeUndecided}
+use Rattle.lincheck.specs.declared.object_answer.Question.{Question}
+use Rattle.lincheck.specs.declared.object_answer.Question.TheVariants as questions
 use Rattle.lincheck.specs.declared.verdict.Verdict.TheVariants.{Yes, No, NoInTime, Undecided}
 use Rattle.lincheck.specs.Verdict.{AreLeastOf, IsVerdict}
 
@@ -104,6 +106,11 @@ verdict_no_in_time h orders object declared so_far none bounds timed = (
 
 pub verdict_undecided : (h : RecordedHistory) (orders : List (List ℕ)) (object : ℕ) → object < length h.objects → AreLeastOf h object orders → (bounds : Bounds) → MayBeUndecided (part_of h object) bounds → IsVerdict h bounds (Undecided object)
 verdict_undecided h orders object declared so_far bounds over = record { declared = declared; earlier = earlier_have h orders object so_far; over = over }
+
+-- who asks for the verdict alone does not ask for the longest run
+pub asks_one : (question : Question) → question ≡ questions.Verdict → question ≡ questions.LongestRun → ⊥
+asks_one questions.Verdict verdict run = absurd (cc)
+asks_one questions.LongestRun verdict run = absurd (cc)
 
 -- two breaks are equal only where their values are
 pub breaks : {B C : Type 0} → {x y : B} → ◌≡◌ {A = ControlFlow B C} (Break x) (Break y) → x ≡ y

@@ -44,6 +44,13 @@ verdict_with_time p bounds (No run) k = k
 verdict_with_time p bounds Undecided (inl timed) = absurd (let none = timed in cc)
 verdict_with_time p bounds Undecided (inr over) = inr over
 
+-- a verdict whatever the bounds is one within any
+pub verdict_in_bounds : {State Op Reply : Type 0} (p : Problem State Op Reply) (bounds : Bounds) (v : ObjectVerdict) → IsObjectVerdict p unbounded v → IsObjectVerdict p bounds v
+verdict_in_bounds p bounds (Yes order) k = k
+verdict_in_bounds p bounds (No run) k = k
+verdict_in_bounds p bounds Undecided (inl timed) = absurd (let none = timed in cc)
+verdict_in_bounds p bounds Undecided (inr over) = absurd over
+
 module _ {State Op Reply : Type 0} (p q : Problem State Op Reply) (same : HasRunsOf p q) where
   -- a verdict on the first problem is one on the second
   pub verdict_there : (bounds : Bounds) (v : ObjectVerdict) → IsObjectVerdict p bounds v → IsObjectVerdict q bounds v

@@ -124,12 +124,12 @@ fn are_refuted_within(alloc: Global, kind: Kind, events: &[Event], lifts: u64) -
     )
 }
 
-// Without the question that is asked before a search, each would take more lifts: 1,036, 1,922, 131 and 32.
+// Without the question that is asked before a search, each would take more lifts: 1,053, 1,953, 137 and 41.
 #[test]
 fn what_shows_that_there_is_none_is_asked_before_a_search(rt: HostRuntime) {
     let alloc = rt.alloc();
     assert!(rt; are_refuted_within(alloc, Kind::Queue, &ITEM_THAT_NOBODY_PUT_IN, 200));
     assert!(rt; are_refuted_within(alloc, Kind::Queue, &ITEM_TAKEN_TWICE, 500));
-    assert!(rt; are_refuted_within(alloc, Kind::Queue, &ITEMS_TAKEN_IN_ANOTHER_ORDER, 95));
-    assert!(rt; are_refuted_within(alloc, Kind::Stack, &FOUND_EMPTY_UNDER_AN_ITEM, 22));
+    assert!(rt; are_refuted_within(alloc, Kind::Queue, &ITEMS_TAKEN_IN_ANOTHER_ORDER, 105));
+    assert!(rt; are_refuted_within(alloc, Kind::Stack, &FOUND_EMPTY_UNDER_AN_ITEM, 33));
 }
