@@ -35,9 +35,9 @@ const ROUNDS: usize = 16;
 
 const ROUNDS_FOR_A_BOUND: usize = 2;
 
-// What counts as a lift beside the lifts: of a part that is made so many calls, and of what is done between searches so many looks
-// at a call. Both take about as long.
-const CALLS_FOR_A_LIFT: u64 = 8;
+// What counts as a lift beside the lifts: each part that is made, and so many of its calls; and of what is done between searches so
+// many looks at a call.
+const CALLS_FOR_A_LIFT: u64 = 64;
 
 const LOOKS_FOR_A_LIFT: u64 = 256;
 
@@ -231,7 +231,7 @@ impl<'a, S: Stop> AnewSearch<'a, S> {
     ) -> Result<PartAnswer, AllocError>
         ensures { IfOk result (IsAnswerTo (any_problem part.now)) }
     {
-        self.take(part.len() as u64 / CALLS_FOR_A_LIFT);
+        self.take(1 + part.len() as u64 / CALLS_FOR_A_LIFT);
         if !self.may_search() {
             return Ok(PartAnswer::Unknown);
         }

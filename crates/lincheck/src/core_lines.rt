@@ -5,24 +5,12 @@ ghost use Rattle.lin_history.specs.Recorder.Parts.{start_of, part_calls};
 ghost use Rattle.lin_ahead.specs.AnyProblem.{any_problem};
 ghost use Rattle.lincheck.specs.Explained.{told_in, TellsCore};
 
-use lin_core::{Core, core_of};
+use crate::object_core::core_of_object;
+use lin_core::Core;
 use lin_explain::CoreCall;
 use lin_history::{History, Problem};
 use lin_object::AnyObject;
 use std::alloc::{AllocError, Global};
-
-// How much work a core may take, and how much more for each call of its object.
-const WORK: u64 = 100_000;
-
-const WORK_FOR_A_CALL: u64 = 64;
-
-// How much work is put into looking for a core among so many calls: enough for each part of the calls to be searched a few times,
-// and well below what the search took that showed that there is no order.
-fn work_for(calls: usize) -> u64 {
-    (calls as u64)
-        .saturating_mul(WORK_FOR_A_CALL)
-        .saturating_add(WORK)
-}
 
 // The call of this number, as the core takes it.
 fn told(problem: &Problem<AnyObject>, core: &Core, number: usize) -> CoreCall
@@ -68,7 +56,7 @@ pub(crate) fn core_calls(
     requires calls { problem.now.calls ≡ part_calls history.now object }
     ensures { IfOk result (λ calls. TellsCore history.now object calls.items) }
 {
-    match core_of(alloc, problem, work_for(problem.len()))? {
+    match core_of_object(alloc, problem)? {
         Some(core) => told_of(alloc, problem, &core, core.calls.as_slice()),
         None => Ok(Vec::new(alloc)),
     }

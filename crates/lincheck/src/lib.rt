@@ -15,6 +15,7 @@ mod lines;
 mod listener;
 mod object_answer;
 mod object_check;
+mod object_core;
 mod pipeline;
 mod request;
 mod setting;

@@ -5,7 +5,8 @@
 //!    answer. Else only the longest run is sought from there on.
 //! 2. *Turns* (`by_turns`): the full search of the calling thread goes on until it makes no progress for long, and then searches of
 //!    prefixes are made. Each turn goes about twice as far as the one before. So neither way waits long for the other, whichever of
-//!    them is soon done. The full search keeps what it refuted, and goes on from there in its next turn.
+//!    them is soon done. The full search keeps what it refuted, and goes on from there in its next turn. Where the first turn's search
+//!    stalls, a core is looked for: a few calls that alone have no order show that there is none.
 //! 3. *To the end* (`to_the_end`): the calling thread goes on by itself where there is to be one worker. Else workers share the search.
 //!
 //! A search that met the limit is not begun again: what follows are the tasks of workers, each with a limit of its own. What the
@@ -22,6 +23,7 @@ ghost use Rattle.lin_workers.specs.Verdict.{IsNumberStored, IsObjectVerdict, IsT
 ghost use Rattle.lincheck.specs.ObjectAnswer.{HasNoOrder, IsAnswered, IsObjectAnswer, told_by_first, told_by_key};
 
 use crate::object_answer::{ObjectAnswer, Question};
+use crate::object_core::core_of_object;
 use crate::setting::Setting;
 use lin_ahead::{FirstAnswer, known_ahead, search_first};
 use lin_history::Problem;
@@ -109,11 +111,12 @@ fn asks_no_run(question: Question) -> bool
     }
 }
 
-// How far the ways go in one turn: how long the full search goes on, which may not have its turn, and how many lifts searches of
-// prefixes make.
+// How far the ways go in one turn: how long the full search goes on, which may not have its turn, whether a core is looked for then,
+// and how many lifts searches of prefixes make.
 #[derive(Clone, Copy)]
 struct Turn {
     patience: Option<Patience>,
+    looks_for_core: bool,
     lifts: u64,
 }
 
@@ -139,6 +142,7 @@ fn first_turn(problem: &Problem<AnyObject>, asked: &Asked, most: u64) -> Turn {
     if asked.is_refuted && is_large_and_keyed(problem) {
         return Turn {
             patience: None,
+            looks_for_core: false,
             lifts: most,
         };
     }
@@ -151,6 +155,7 @@ fn first_turn(problem: &Problem<AnyObject>, asked: &Asked, most: u64) -> Turn {
     let lifts = FIRST_TURN.max(for_a_call.saturating_mul(calls));
     Turn {
         patience: Some(patience_for(FIRST_TURN.max(calls), asked)),
+        looks_for_core: true,
         lifts: lifts.min(most),
     }
 }
@@ -163,6 +168,7 @@ fn next_turn(before: Turn, asked: &Asked, most: u64) -> Option<Turn> {
     let lifts = before.lifts.saturating_mul(2);
     Some(Turn {
         patience: Some(patience_for(lifts, asked)),
+        looks_for_core: false,
         lifts: lifts.min(most),
     })
 }
@@ -335,6 +341,34 @@ fn answer_alone(alone: Alone, is_refuted: bool) -> ControlFlow<(ObjectAnswer, u6
     }
 }
 
+// ---- cores
+
+// Whether the object has a core, as far as one is found.
+fn has_core(alloc: Global, problem: &Problem<AnyObject>) -> Result<bool, AllocError>
+    ensures { IfOk result (λ has. IsTrue has → HasNoOrder (any_problem problem.now)) }
+{
+    match core_of_object(alloc, problem)? {
+        Some(_core) => Ok(true),
+        None => Ok(false),
+    }
+}
+
+// Whether it is known that there is no linearization, once a core was looked for in a turn that does so.
+fn is_refuted_by_core(
+    alloc: Global,
+    problem: &Problem<AnyObject>,
+    is_refuted: bool,
+    turn: Turn,
+) -> Result<bool, AllocError>
+    requires { IsTrue is_refuted → HasNoOrder (any_problem problem.now) }
+    ensures { IfOk result (λ refuted. IsTrue refuted → HasNoOrder (any_problem problem.now)) }
+{
+    if is_refuted || !turn.looks_for_core {
+        return Ok(is_refuted);
+    }
+    has_core(alloc, problem)
+}
+
 // ---- searches of prefixes
 
 // The answer for an object that has no linearization, by searches of prefixes that make so many lifts where its longest run is asked.
@@ -385,13 +419,14 @@ fn answer_by_prefixes<W: Watcher>(
     }
 }
 
-// The same with the number of configurations that the memo has. An answer for which that is not told is left to workers.
+// The same after a core was looked for, with the number of configurations that the memo has. An answer for which that is not told is
+// left to workers.
 fn told_by_prefixes<R: AllocGlobal, G: Gate, W: Watcher>(
     setting: &Setting<'_, '_, R, G, W>,
     problem: &Problem<AnyObject>,
     memo: &OwnMemo<'_, AnyObject>,
     asked: Asked,
-    lifts: u64,
+    turn: Turn,
 ) -> Result<ControlFlow<(ObjectAnswer, u64), bool>, AllocError>
     requires runs { HasRunsOf (any_problem problem.now) (any_problem memo.now.problem) }
     requires refuted { IsTrue asked.is_refuted → HasNoOrder (any_problem problem.now) }
@@ -403,7 +438,13 @@ fn told_by_prefixes<R: AllocGlobal, G: Gate, W: Watcher>(
     let Some(stored) = stored_now(problem, memo) else {
         return Ok(ControlFlow::Continue(asked.is_refuted));
     };
-    match answer_by_prefixes(setting.rt.alloc(), problem, &setting.bounds, asked, lifts)? {
+    let alloc = setting.rt.alloc();
+    let is_refuted = is_refuted_by_core(alloc, problem, asked.is_refuted, turn)?;
+    let asked = Asked {
+        is_refuted,
+        ..asked
+    };
+    match answer_by_prefixes(alloc, problem, &setting.bounds, asked, turn.lifts)? {
         ControlFlow::Break(answer) => Ok(ControlFlow::Break((answer, stored))),
         ControlFlow::Continue(is_refuted) => Ok(ControlFlow::Continue(is_refuted)),
     }
@@ -461,7 +502,7 @@ fn by_turns<R: AllocGlobal, G: Gate, W: Watcher>(
         if limit == Some(0) {
             return Ok(ControlFlow::Continue(Rest { is_refuted, limit }));
         }
-        match told_by_prefixes(setting, problem, memo, asked, turn.lifts)? {
+        match told_by_prefixes(setting, problem, memo, asked, turn)? {
             ControlFlow::Break(answer) => return Ok(ControlFlow::Break(answer)),
             ControlFlow::Continue(known) => is_refuted = known,
         }
