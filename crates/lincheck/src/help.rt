@@ -29,7 +29,8 @@ A history whose search would take for ever then ends with the answer `undecided`
 /// What `--seconds` is good for.
 pub(crate) const SECONDS: &str =
     "End the check after N seconds, 1 to 86400 [default: no end]. An object whose search has
-not ended by then is `undecided`; every other answer is what it is without";
+not ended by then is `undecided`, or `not linearizable` without its longest run where that
+much is known; every other answer is what it is without";
 
 /// What `--progress` is good for.
 pub(crate) const PROGRESS: &str =
@@ -90,7 +91,7 @@ Output:
                          place, process, object, operation = result. A call that never returned
                          ends with `completed`, or is below the order as `dropped`.
   not linearizable: x    No order explains the calls on x. Below it is the longest run of them
-                         that can be explained.
+                         that can be explained, or that it was not found in time.
   undecided: x           --limit or --seconds ended the search of x before there was an answer.
   x: linearizable        With --each, a line for each object.
   line 3: bad event      The input is no history: the first faulty line, and what is wrong there.

@@ -159,19 +159,18 @@ pub(crate) fn options_here<R: Threads, G: Gate>(rt: &R, options: &Options, gate:
 /// decided within the limit or before the time is up, ends the check. The seconds of the options are counted by the runtime's clock
 /// from the start of the check; a clock that fails ends nothing. Unless the gate wants workers, a map or a set is searched by key first
 /// (`search_by_key`), and of an object of which something is known ahead a first search is made (`search_first`); where that
-/// finds the order, nothing is stored for the object. So it is where a key of a map or a set of a thousand calls or more has no
-/// linearization, and searches of prefixes find the longest run. Then the calling thread searches by itself. Where its search stalls, it
-/// is tried whether searches of prefixes show the answer (`search_by_prefixes`); where they do not, workers share the search, or
-/// the calling thread goes on where there is to be one worker. No more workers are started than the machine has cores for the
-/// program, however many the options say, unless the gate wants workers.
+/// finds the order, nothing is stored for the object. Then the calling thread searches by itself, in turn with searches of prefixes
+/// (`search_in_rounds`, `longest_run_by_prefixes`); where its first turn stalls, a core is looked for (`core_of`). Where none of these
+/// answers, workers share the search, or the calling thread goes on where there is to be one worker. No more workers are started than
+/// the machine has cores for the program, however many the options say, unless the gate wants workers.
 ///
 /// The number stored is the sum over the objects up to where the check ended; of each object it is below 2^54, and the object
 /// has as many reachable configurations or more. It is told of every history with no more objects than `MAX_OBJECTS`, and no
 /// history has more.
 ///
 /// The verdict is the same for every number of workers and shards and on every schedule, but that within a limit or a time it may
-/// be `Undecided`. `CheckFault::Memory` where the
-/// calling thread was refused memory. It may wait, for its workers.
+/// be `Undecided`, and within a time `NoInTime`. `CheckFault::Memory` where the calling thread was refused memory. It may wait, for its
+/// workers.
 pub fn check<R: AllocGlobal + Threads + Clock + Sync, G: Gate>(
     rt: &R,
     history: &History,
