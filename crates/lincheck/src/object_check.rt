@@ -137,6 +137,16 @@ fn is_large_and_keyed(problem: &Problem<AnyObject>) -> bool {
     }
 }
 
+// How many lifts the first searches of prefixes make.
+fn first_lifts(problem: &Problem<AnyObject>, is_refuted: bool) -> u64 {
+    let for_a_call = if is_refuted {
+        LIFTS_BY_PREFIXES_OF_REFUTED
+    } else {
+        LIFTS_BY_PREFIXES
+    };
+    FIRST_TURN.max(for_a_call.saturating_mul(problem.len() as u64))
+}
+
 // The first turn, with as many lifts by prefixes at most.
 fn first_turn(problem: &Problem<AnyObject>, asked: &Asked, most: u64) -> Turn {
     if asked.is_refuted && is_large_and_keyed(problem) {
@@ -146,17 +156,11 @@ fn first_turn(problem: &Problem<AnyObject>, asked: &Asked, most: u64) -> Turn {
             lifts: most,
         };
     }
-    let calls = problem.len() as u64;
-    let for_a_call = if asked.is_refuted {
-        LIFTS_BY_PREFIXES_OF_REFUTED
-    } else {
-        LIFTS_BY_PREFIXES
-    };
-    let lifts = FIRST_TURN.max(for_a_call.saturating_mul(calls));
+    let full = FIRST_TURN.max(problem.len() as u64);
     Turn {
-        patience: Some(patience_for(FIRST_TURN.max(calls), asked)),
+        patience: Some(patience_for(full, asked)),
         looks_for_core: true,
-        lifts: lifts.min(most),
+        lifts: first_lifts(problem, asked.is_refuted).min(most),
     }
 }
 
@@ -444,7 +448,9 @@ fn told_by_prefixes<R: AllocGlobal, G: Gate, W: Watcher>(
         is_refuted,
         ..asked
     };
-    match answer_by_prefixes(alloc, problem, &setting.bounds, asked, turn.lifts)? {
+    let lifts = turn.lifts.max(first_lifts(problem, is_refuted));
+    let lifts = within(lifts, setting.bounds.limit());
+    match answer_by_prefixes(alloc, problem, &setting.bounds, asked, lifts)? {
         ControlFlow::Break(answer) => Ok(ControlFlow::Break((answer, stored))),
         ControlFlow::Continue(is_refuted) => Ok(ControlFlow::Continue(is_refuted)),
     }
