@@ -64,7 +64,7 @@ const FIRST_TURN: u64 = 20_000;
 // full search has its next turn, which has every configuration to go through then.
 const LIFTS_BY_PREFIXES: u64 = 32;
 
-const LIFTS_BY_PREFIXES_OF_REFUTED: u64 = 128;
+const LIFTS_BY_PREFIXES_OF_REFUTED: u64 = 512;
 
 // The most lifts of searches of prefixes for each call. What they do not tell with so many is left to the full search.
 const MOST_BY_PREFIXES: u64 = 1_000;
