@@ -4,7 +4,6 @@
 mod boards;
 mod checks;
 mod command_line;
-mod cores;
 mod cuts;
 mod devices;
 mod fakes;
