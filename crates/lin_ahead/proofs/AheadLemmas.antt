@@ -12,7 +12,7 @@ use Rattle.lin_history.specs.declared.problems.problem.ProblemCall.{ProblemCall}
 use Rattle.lin_history.specs.Problems.ProblemParts.{ProblemParts, AreTimed}
 use Rattle.lin_history.specs.Problems.Problem.{Problem}
 use Rattle.lin_ahead.specs.declared.item_calls.ItemCalls.{ItemCalls}
-use Rattle.lin_ahead.specs.AnyProblem.{any_problem}
+use Rattle.lin_history.specs.Problems.AnyProblem.{any_problem}
 use Rattle.std.specs.Ordering.{int_eq}
 use Rattle.indexmap.specs.IndexMap.{get}
 use Rattle.lin_ahead.specs.ItemCalls.{goes_in_once, nothing_told, told, told_in, least_pending}

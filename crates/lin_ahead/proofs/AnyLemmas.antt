@@ -8,7 +8,7 @@ use Rattle.lin_object.specs.declared.state.ObjState.TheVariants.{Queue}
 use Rattle.lin_history.specs.ReplyLemmas.{reply_same}
 use Rattle.lin_history.specs.Problems.ProblemParts.{ProblemParts, AreTimed}
 use Rattle.lin_history.specs.Problems.Needs.{NeedNumbers, AreNeeds}
-use Rattle.lin_ahead.specs.AnyProblem.{any_problem}
+use Rattle.lin_history.specs.Problems.AnyProblem.{any_problem}
 use Rattle.lin_ahead.specs.Queue.{IsOfQueue}
 use Rattle.lin_ahead.specs.Numbers.{IsBy, IsFrom}
 use Rattle.lin_ahead.specs.ItemCalls.{told, least_pending}

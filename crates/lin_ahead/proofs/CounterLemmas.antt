@@ -7,7 +7,7 @@ use Rattle.lin_object.specs.declared.state.ObjState.{ObjState}
 use Rattle.lin_object.specs.declared.state.ObjState.TheVariants.{Counter}
 use Rattle.lin_history.specs.Problems.ProblemParts.{ProblemParts}
 use Rattle.lin_ahead.specs.declared.look_ahead.KnownAhead.{KnownAhead}
-use Rattle.lin_ahead.specs.AnyProblem.{any_problem}
+use Rattle.lin_history.specs.Problems.AnyProblem.{any_problem}
 use Rattle.lin_ahead.specs.Behind.{IsRightAhead}
 use Rattle.lin_ahead.specs.Sums.{AreLimits}
 use Rattle.lin_ahead.specs.ToldOfCounter.{IsToldOfCounter}

@@ -15,7 +15,7 @@ use Rattle.lin_history.specs.Problems.ListLemmas.{in_late}
 use Rattle.lin_history.specs.Problems.LegalLists.{Legal}
 use Rattle.lin_history.specs.Problems.Precedence.{Before}
 use Rattle.lin_history.specs.Problems.Linearizations.{IsRun, IsLinearization}
-use Rattle.lin_ahead.specs.AnyProblem.{any_problem}
+use Rattle.lin_history.specs.Problems.AnyProblem.{any_problem}
 use Rattle.lin_ahead.specs.Impossible.{AddsItem, CameTooEarly}
 use Rattle.lin_ahead.specs.Queue.{IsOfQueue, Puts, Took}
 use Rattle.lin_ahead.specs.Stack.{Pushes, Popped}

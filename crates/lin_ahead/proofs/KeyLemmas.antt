@@ -32,7 +32,7 @@ use Rattle.lin_history.specs.Problems.Linearizations.{IsLinearization}
 use Rattle.lin_history.specs.OptionLemmas.{some_and, and_some}
 use Rattle.lin_ahead.specs.declared.key_value.TheConstants.{NOTHING}
 use Rattle.lin_ahead.specs.declared.look_ahead.KnownAhead.{KnownAhead}
-use Rattle.lin_ahead.specs.AnyProblem.{any_problem}
+use Rattle.lin_history.specs.Problems.AnyProblem.{any_problem}
 use Rattle.lin_ahead.specs.Behind.{IsRightAhead}
 use Rattle.lin_ahead.specs.Held.{IsHeldUntil}
 use Rattle.lin_ahead.specs.ToldOfRegister.{IsToldOfRegister}

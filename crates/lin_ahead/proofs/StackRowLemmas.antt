@@ -12,7 +12,7 @@ use Rattle.lin_history.specs.declared.problems.problem.ProblemCall.{ProblemCall}
 use Rattle.lin_history.specs.Problems.ProblemParts.{ProblemParts}
 use Rattle.lin_history.specs.Problems.Problem.{Problem}
 use Rattle.lin_ahead.specs.declared.look_ahead.KnownAhead.{KnownAhead}
-use Rattle.lin_ahead.specs.AnyProblem.{any_problem}
+use Rattle.lin_history.specs.Problems.AnyProblem.{any_problem}
 use Rattle.lin_ahead.specs.Behind.{AreOtherNeeds}
 use Rattle.lin_ahead.specs.Owed.{HasReply, IsOwed, AreOwed}
 use Rattle.lin_ahead.specs.Queue.{Puts, Took}

@@ -13,7 +13,7 @@ use Rattle.lin_history.specs.Problems.ListLemmas.{in_late}
 use Rattle.lin_history.specs.Problems.LegalLists.{next, Legal}
 use Rattle.lin_history.specs.Problems.Precedence.{IsCompleted}
 use Rattle.lin_history.specs.Problems.Linearizations.{IsRun, IsLinearization}
-use Rattle.lin_ahead.specs.AnyProblem.{any_problem}
+use Rattle.lin_history.specs.Problems.AnyProblem.{any_problem}
 use Rattle.lin_ahead.specs.Impossible.{AddsItem, IsTakenTwice}
 use Rattle.lin_ahead.specs.Queue.{Item, Took}
 use Rattle.lin_ahead.specs.Stack.{Popped, PushedOnce}

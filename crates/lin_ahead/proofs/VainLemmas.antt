@@ -18,7 +18,7 @@ use Rattle.lin_ahead.specs.declared.item_calls.Callers.{Callers}
 use Rattle.lin_ahead.specs.declared.item_calls.Callers.TheVariants.{Nobody, One, Several}
 use Rattle.lin_ahead.specs.declared.item_calls.TheConstants.{BEYOND}
 use Rattle.lin_ahead.specs.declared.look_ahead.KnownAhead.{KnownAhead}
-use Rattle.lin_ahead.specs.AnyProblem.{any_problem}
+use Rattle.lin_history.specs.Problems.AnyProblem.{any_problem}
 use Rattle.lin_ahead.specs.Behind.{IsRightAhead}
 use Rattle.lin_ahead.specs.Numbers.{CalledFrom}
 use Rattle.lin_ahead.specs.Register.{IsOfRegister, value_written, value_found, MayWrite, Finds, IsSingle, IsClusterBy, IsClusterFrom, FoundNowhere, FoundTooLate, NeedsByNumbers, NeedEachOther}

@@ -15,7 +15,7 @@ use Rattle.lin_history.specs.Problems.Needs.{NeedNumbers}
 use Rattle.lin_ahead.specs.declared.item_calls.Callers.{Callers}
 use Rattle.lin_ahead.specs.declared.item_calls.Callers.TheVariants.{Nobody, One, Several}
 use Rattle.lin_ahead.specs.declared.item_calls.TheConstants.{BEYOND}
-use Rattle.lin_ahead.specs.AnyProblem.{any_problem}
+use Rattle.lin_history.specs.Problems.AnyProblem.{any_problem}
 use Rattle.lin_ahead.specs.declared.needed_pairs.CallNumbers.{CallNumbers}
 use Rattle.lin_ahead.specs.declared.value_calls.ValueCalls.{ValueCalls}
 use Rattle.lin_ahead.specs.ItemCalls.{is_of, one_more}

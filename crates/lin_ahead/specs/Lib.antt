@@ -1,11 +1,9 @@
 pub mod Queue
 pub mod Numbers
-pub mod AnyProblem
 pub mod Impossible
 pub mod ItemCalls
 pub mod CallNumbers
 pub mod FirstProgress
-pub mod FirstAnswer
 pub mod Owed
 pub mod Behind
 pub mod ToldAhead

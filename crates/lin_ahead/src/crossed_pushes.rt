@@ -3,7 +3,7 @@
 
 ghost use Rattle.std.specs.Prelude.{◌≡◌, ℕ, List, true, Some, slice_get, IfOk, IfSome, IsTrue};
 ghost use Rattle.lin_history.specs.Problems.Linearizations.{IsLinearization};
-ghost use Rattle.lin_ahead.specs.AnyProblem.{any_problem};
+ghost use Rattle.lin_history.specs.Problems.AnyProblem.{any_problem};
 ghost use Rattle.lin_ahead.specs.Behind.{IsRightAhead};
 ghost use Rattle.lin_ahead.specs.Numbers.{ReturnsAt};
 ghost use Rattle.lin_ahead.specs.Late.{IsPoppedAfter, FindsUnder, IsCrossed};

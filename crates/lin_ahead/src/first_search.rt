@@ -1,23 +1,23 @@
 //! A first search: it passes over calls that are known to begin no completion, and says nothing of longest runs.
 ghost use Rattle.std.specs.Prelude.{◌≡◌, ℕ, ◌+◌, ◌<◌, ◌^◌, ◌++◌, ◌∷◌, [], List, Option, Some, None, length, false, IfOk, IfSome, IfNone, IsTrue};
-ghost use Rattle.lin_ahead.specs.AnyProblem.{any_problem};
+ghost use Rattle.lin_history.specs.Problems.AnyProblem.{any_problem};
 ghost use Rattle.lin_object.specs.Changes.{undone};
 ghost use Rattle.lin_object.specs.StepBacks.{state_before};
 ghost use Rattle.lin_history.specs.Problems.Configurations.{IsReachable};
 ghost use Rattle.lin_history.specs.Problems.Linearizations.{IsLinearization};
 ghost use Rattle.lin_search.specs.CallSet.{lifted_set};
 ghost use Rattle.lin_search.specs.Entries.{IsMinimal, IsLeastMinimal};
-ghost use Rattle.lin_ahead.specs.FirstAnswer.{IsFirstAnswer};
 ghost use Rattle.lin_ahead.specs.Behind.{IsRightAhead};
 ghost use Rattle.lin_ahead.specs.FirstProgress.{BeginsNone, ComesAfter, IsPassed, IsFirstProgress, IsFirstLifted, IsFirstStep, IsFirstVisit, left_to_try};
 ghost use Rattle.lin_search.specs.NextCall.{IsNext, HasEveryCompleted};
 ghost use Rattle.lin_search.specs.Path.{kept_calls, frame_of, frames_of};
 ghost use Rattle.lin_search.specs.Progress.{bound};
+ghost use Rattle.std.specs.ControlFlow.{ForBreak, ForContinue};
+ghost use Rattle.lin_search.specs.Told.{IsRightOf, IsSpent, IsToldUnless};
 ghost use Rattle.std.proofs.Common.{Break};
 
 use crate::calls_in_turn::CallsInTurn;
 use crate::finders::Finders;
-use crate::first_answer::FirstAnswer;
 use crate::held_state::held_until;
 use crate::identical_calls::{changes_nothing, stands_for, stands_where_it_follows};
 use crate::late_pushes::is_late;
@@ -33,7 +33,7 @@ use crate::taker_hints::TakerHints;
 use crate::takers::{After, lacks_takers};
 use lin_history::{Order, Problem, ProblemCall};
 use lin_object::{AnyObject, ObjState, Op, Reply, lawful};
-use lin_search::{Config, Frame, IdenticalCalls, Longest, Path};
+use lin_search::{Config, Frame, IdenticalCalls, Longest, Path, Stop, Told};
 use std::alloc::{AllocError, Global};
 use std::ops::ControlFlow;
 
@@ -492,13 +492,14 @@ impl<'p> FirstSearch<'p> {
         }
     }
 
-    // Lifts the next call that may begin a completion, from the candidate on: its frame. `None` where there is none, and so
-    // no linearization.
-    fn lift_next(
+    // Lifts the next call that may begin a completion, from the candidate on: its frame. Else what is told: that there is no
+    // linearization, where there is no such call; and nothing, where the stop answered, which is asked before each step.
+    fn lift_next<S: Stop>(
         &mut self,
         ahead: &KnownAhead,
         candidate: Option<usize>,
-    ) -> Result<Option<Frame<AnyObject>>, AllocError>
+        stop: &mut S,
+    ) -> Result<ControlFlow<Told, Frame<AnyObject>>, AllocError>
         requires ahead { IsRightAhead (any_problem
             self.old.path.entries.problem) ahead.now }
         requires progress { IsFirstProgress (any_problem
@@ -507,27 +508,39 @@ impl<'p> FirstSearch<'p> {
             self.old.path.config.state) self.old.path.config candidate }
         ensures problem { self.new.path.entries.problem ≡ self.old.path.entries.problem }
         ensures lifts { self.new.lifts ≡ self.old.lifts }
-        ensures lifted { IfOk result (λ answer. IfSome answer (λ frame. IsFirstLifted
+        ensures lifted { IfOk result (λ answer. ForContinue answer (λ frame. IsFirstLifted
             (any_problem self.old.path.entries.problem)
             self.new.refuted (self.new.lifts + 1) self.new.path.entries.lifted
             (frames_of undone self.new.path.frames.items
             (state_before undone frame.back self.new.path.config.state))
             (frame_of undone frame self.new.path.config.state) self.new.path.config)) }
-        ensures none { IfOk result (λ answer. IfNone answer ((l : List ℕ)
-            → IsLinearization (any_problem
-            self.old.path.entries.problem) l → ⊥)) }
+        ensures told { IfOk result (λ answer. ForBreak answer (IsRightOf (any_problem
+            self.old.path.entries.problem))) }
+        ensures nothing { IfOk result (λ answer. ForBreak answer (λ told. (lifts : ℕ)
+            → IsToldUnless (IsSpent (any_problem self.old.path.entries.problem) lifts
+            (S.tells stop.new)) told)) }
+        ensures stop { S.follows stop.old stop.new }
     {
         let mut at = candidate;
         loop {
+            if stop.ask().is_some() {
+                return Ok(ControlFlow::Break(Told::Nothing));
+            }
             match self.step(ahead, at)? {
                 ControlFlow::Continue(next) => at = next,
-                ControlFlow::Break(frame) => return Ok(frame),
+                ControlFlow::Break(Some(frame)) => return Ok(ControlFlow::Continue(frame)),
+                ControlFlow::Break(None) => return Ok(ControlFlow::Break(Told::Refuted)),
             }
         }
     }
 
     // Searches on from the root, which is not complete, with so many lifts at most.
-    fn go(&mut self, ahead: &KnownAhead, lifts: u64) -> Result<FirstAnswer, AllocError>
+    fn go<S: Stop>(
+        &mut self,
+        ahead: &KnownAhead,
+        lifts: u64,
+        stop: &mut S,
+    ) -> Result<Told, AllocError>
         requires ahead { IsRightAhead (any_problem
             self.old.path.entries.problem) ahead.now }
         requires progress { (candidate : Option ℕ)
@@ -540,23 +553,26 @@ impl<'p> FirstSearch<'p> {
         requires lifted { lifted_set (any_problem
             self.old.path.entries.problem) self.old.path.entries.lifted
             ≡ self.old.path.config.lifted }
-        ensures { IfOk result (IsFirstAnswer (any_problem
-            self.old.path.entries.problem) lifts) }
+        ensures told { IfOk result (IsRightOf (any_problem self.old.path.entries.problem)) }
+        ensures nothing { IfOk result (IsToldUnless (IsSpent (any_problem
+            self.old.path.entries.problem) lifts (S.tells stop.new))) }
+        ensures stop { S.follows stop.old stop.new }
     {
         let mut candidate = self.path.enter().candidate;
         while self.lifts < lifts {
-            let Some(frame) = self.lift_next(ahead, candidate)? else {
-                return Ok(FirstAnswer::Refuted);
+            let frame = match self.lift_next(ahead, candidate, stop)? {
+                ControlFlow::Continue(frame) => frame,
+                ControlFlow::Break(told) => return Ok(told),
             };
             match self.visit(frame)? {
                 ControlFlow::Continue(after) => candidate = after,
-                ControlFlow::Break(order) => return Ok(FirstAnswer::Found(order)),
+                ControlFlow::Break(order) => return Ok(Told::Found(order)),
             }
         }
-        let Some(_next) = self.lift_next(ahead, candidate)? else {
-            return Ok(FirstAnswer::Refuted);
-        };
-        Ok(FirstAnswer::Exhausted)
+        match self.lift_next(ahead, candidate, stop)? {
+            ControlFlow::Continue(_frame) => Ok(Told::Nothing),
+            ControlFlow::Break(told) => Ok(told),
+        }
     }
 }
 
@@ -608,27 +624,31 @@ fn hints_of(
 /// out of a queue or off a stack. After a call that changes nothing it tries no other. It keeps of a refuted configuration only
 /// that it is refuted. So it may meet far fewer configurations than `search`, and what it keeps is of no use to that one.
 ///
-/// `Found` with the least linearization; `Refuted` where there is none; `Exhausted` where as many lifts were made and
-/// another was to be made. `AllocError` where memory was refused.
+/// What is told is the least linearization, or that there is none. Nothing is told only where as many lifts were made and another
+/// was to be made, or where the stop answered. It is asked before each step: where a call is tried, and where the search goes back.
+/// `AllocError` where memory was refused.
 ///
 /// Condition: what is known ahead is right for the problem.
-pub fn search_first(
+pub fn search_first<S: Stop>(
     alloc: Global,
     problem: &Problem<AnyObject>,
     ahead: &KnownAhead,
     lifts: u64,
-) -> Result<FirstAnswer, AllocError>
+    stop: &mut S,
+) -> Result<Told, AllocError>
     requires { IsRightAhead (any_problem problem.now) ahead.now }
-    ensures { IfOk result (IsFirstAnswer (any_problem problem.now)
-        lifts) }
+    ensures told { IfOk result (IsRightOf (any_problem problem.now)) }
+    ensures nothing { IfOk result (IsToldUnless (IsSpent (any_problem problem.now) lifts
+        (S.tells stop.new))) }
+    ensures stop { S.follows stop.old stop.new }
 {
     lawful::<AnyObject>();
     if ahead.in_vain {
-        return Ok(FirstAnswer::Refuted);
+        return Ok(Told::Refuted);
     }
     let root = Config::root(alloc, problem)?;
     if root.is_complete(problem) {
-        return Ok(FirstAnswer::Found(Order::new(Vec::new(alloc))));
+        return Ok(Told::Found(Order::new(Vec::new(alloc))));
     }
     let hints = hints_of(alloc, problem, ahead)?;
     let path = Path::new(alloc, problem, root)?;
@@ -654,5 +674,5 @@ pub fn search_first(
         identical,
         lifts: 0,
     };
-    search.go(ahead, lifts)
+    search.go(ahead, lifts, stop)
 }

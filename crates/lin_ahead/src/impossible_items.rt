@@ -3,7 +3,7 @@
 ghost use Rattle.std.specs.Prelude.{◌≡◌, ◌<◌, ℕ, List, IfOk, IfSome, IsFalse, IsTrue, length};
 ghost use Rattle.lin_history.specs.Problems.Linearizations.{IsLinearization};
 ghost use Rattle.lin_history.specs.Problems.Precedence.{Before};
-ghost use Rattle.lin_ahead.specs.AnyProblem.{any_problem};
+ghost use Rattle.lin_history.specs.Problems.AnyProblem.{any_problem};
 ghost use Rattle.lin_ahead.specs.Stack.{Popped};
 ghost use Rattle.lin_ahead.specs.Impossible.{AddsItem, CameTooEarly, TookItem};
 

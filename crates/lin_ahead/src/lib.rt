@@ -24,7 +24,7 @@
 //!   stack; `taker_hints`: which calls to ask of;
 //!   `held_state`: calls until which the state is held; `identical_calls`: calls that an identical one stands for, or that come
 //!   behind one that changes nothing; `finders`: the calls that found each value, in turn; `refuted_set`:
-//!   what it has refuted; `first_answer`: what it answers.
+//!   what it has refuted.
 #![tactic(auto)]
 
 mod call_values;
@@ -33,7 +33,6 @@ mod crossed_pushes;
 mod each_item;
 mod each_value;
 mod finders;
-mod first_answer;
 mod first_search;
 mod held_state;
 mod identical_calls;
@@ -63,7 +62,6 @@ mod value_calls;
 mod value_rows;
 
 pub use crossed_pushes::some_push_crosses;
-pub use first_answer::FirstAnswer;
 pub use first_search::search_first;
 pub use impossible_items::some_came_too_early;
 pub use late_pushes::LateRows;

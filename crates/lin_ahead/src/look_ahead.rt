@@ -15,7 +15,7 @@ ghost use Rattle.lin_ahead.specs.KeyValue.{call_on_value, of_one_key, on_value, 
 ghost use Rattle.lin_ahead.specs.ToldOfStack.{IsToldOfStack};
 ghost use Rattle.lin_ahead.specs.Sums.{AreNoLimits};
 ghost use Rattle.lin_ahead.specs.ToldOfCounter.{IsToldOfCounter};
-ghost use Rattle.lin_ahead.specs.AnyProblem.{any_problem};
+ghost use Rattle.lin_history.specs.Problems.AnyProblem.{any_problem};
 
 use crate::call_values::ValueNumbers;
 use crate::each_item::told_by_calls;

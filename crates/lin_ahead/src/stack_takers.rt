@@ -1,7 +1,7 @@
 //! Calls that leave too few pops that are pending for what must be taken off a stack. The calls are read as those on a queue.
 
 ghost use Rattle.std.specs.Prelude.{IfOk, IfSome, IsTrue};
-ghost use Rattle.lin_ahead.specs.AnyProblem.{any_problem};
+ghost use Rattle.lin_history.specs.Problems.AnyProblem.{any_problem};
 ghost use Rattle.lin_ahead.specs.Behind.{AreQueueCalls, AreStackCalls};
 ghost use Rattle.lin_ahead.specs.Takers.{queue_of};
 ghost use Rattle.lin_ahead.specs.StackTakers.{LieAbove, TookLifted, FindsGoneAbove, StandsBy, LacksPops};

@@ -5,7 +5,7 @@ ghost use Rattle.std.specs.Prelude.{◌≡◌, ℕ, ◌≤◌, ◌^◌, ℤ, tru
 ghost use Rattle.lin_object.specs.declared.op.Op.TheVariants.{Get};
 ghost use Rattle.lin_object.specs.declared.reply.Reply.TheVariants.{Int};
 ghost use Rattle.lin_history.specs.Problems.Timeline.{IsTimeline};
-ghost use Rattle.lin_ahead.specs.AnyProblem.{any_problem};
+ghost use Rattle.lin_history.specs.Problems.AnyProblem.{any_problem};
 ghost use Rattle.lin_ahead.specs.Sums.{share_in, share_of, share_of_call, IsHeight, IsLimitOf, AreLimits, AreNoLimits, event_of, AreSumsAt};
 
 use crate::call_values::ValueNumbers;

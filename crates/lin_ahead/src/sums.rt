@@ -3,7 +3,7 @@
 ghost use Rattle.std.specs.Prelude.{◌≡◌, ◌≢◌, ◌≤◌, false, Some, slice_get, IfSome, IsTrue};
 ghost use Rattle.lin_history.specs.Problems.Continuations.{has};
 ghost use Rattle.lin_history.specs.Problems.Precedence.{Before};
-ghost use Rattle.lin_ahead.specs.AnyProblem.{any_problem};
+ghost use Rattle.lin_history.specs.Problems.AnyProblem.{any_problem};
 ghost use Rattle.lin_ahead.specs.Sums.{row_of, IsFreeShare, IsLiftedShare, AddFreely, IsLoad, IsOver};
 
 use crate::sum_hints::SumHints;

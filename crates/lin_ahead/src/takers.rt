@@ -5,7 +5,7 @@
 ghost use Rattle.std.specs.Prelude.{◌≡◌, ◌∷◌, ◌++◌, [], ℤ, length, IfOk, OnOk, IfSome, IsTrue};
 ghost use Rattle.lin_object.specs.Items.{is_in};
 ghost use Rattle.lin_history.specs.Problems.Precedence.{Before};
-ghost use Rattle.lin_ahead.specs.AnyProblem.{any_problem};
+ghost use Rattle.lin_history.specs.Problems.AnyProblem.{any_problem};
 ghost use Rattle.lin_ahead.specs.Behind.{AreQueueCalls};
 ghost use Rattle.lin_ahead.specs.Queue.{Puts, Took, FoundEmpty};
 ghost use Rattle.lin_ahead.specs.Takers.{queue_of, is_left, is_left_by, left_from, IsLost, AreLostBefore, GoesBefore, FindsGone, AreTooFew, LacksTakers};

@@ -3,6 +3,7 @@
 pub mod Lists
 pub mod ProblemParts
 pub mod Problem
+pub mod AnyProblem
 pub mod LegalLists
 pub mod Precedence
 pub mod Timeline

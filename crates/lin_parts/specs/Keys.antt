@@ -1,6 +1,5 @@
--- Maps and sets by key: which key each call has, products of keys, merged orders, and what a search by key answers.
+-- Maps and sets by key: which key each call has, products of keys, and merged orders.
 pub mod KeyedCalls
 pub mod Products
 pub mod Merging
 pub mod PartOrder
-pub mod KeyAnswer

@@ -4,17 +4,16 @@
 //! - `key_numbers`: which key each call has.
 //! - `calls_of_key`, `key_calls`: the calls of one key, and of each.
 //! - `key_parts`: their problems.
-//! - `part_order`, `part_orders`: what searches of one of them show, and of all; `part_answer`: what such a search answers.
+//! - `part_order`, `part_orders`: what searches of one of them tell, and of all; `orders_told`: what those of all tell.
 //! - `merge`: the orders of the keys, merged.
-//! - `key_search`: the search by key; `key_answer`: what it answers.
+//! - `key_search`: the search by key.
 
 mod calls_of_key;
-pub(crate) mod key_answer;
 mod key_calls;
 mod key_numbers;
-mod key_parts;
+pub(crate) mod key_parts;
 pub(crate) mod key_search;
 mod merge;
-mod part_answer;
+mod orders_told;
 mod part_order;
 mod part_orders;

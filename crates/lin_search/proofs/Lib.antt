@@ -11,3 +11,5 @@ pub mod LiftedSetLemmas
 pub mod WeightLemmas
 pub mod WindowLemmas
 pub mod CallSetFieldsLemmas
+pub mod ToldLemmas
+mod FewerLemmas

@@ -3,6 +3,7 @@ pub mod Links
 pub mod CallEntries
 pub mod Entries
 pub mod EntryLinks
+pub mod FewerCalls
 pub mod CallSetLemmas
 pub mod Window
 pub mod Configuration
@@ -10,6 +11,7 @@ pub mod ConfigurationLemmas
 pub mod NextCall
 pub mod Size
 pub mod Answer
+pub mod Told
 pub mod Memo
 pub mod LongestRun
 pub mod Refutation

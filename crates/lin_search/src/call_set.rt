@@ -1,9 +1,10 @@
 //! Sets of calls, kept as words of bits.
-ghost use Rattle.std.specs.Prelude.{◌≡◌, ◌≢◌, ℕ, ◌+◌, ◌-◌, ◌*◌, ◌/◌, ◌%◌, ◌^◌, ◌<◌, ◌≤◌, ◌↔◌, Bool, false, true, max, length, replicate, drop, slice_index, slice_set, bit_and, bit_or, IfOk, OnErr, IsTrue};
-ghost use Rattle.std.specs.Int.{bit_not, w64};
+ghost use Rattle.std.specs.Prelude.{◌≡◌, ◌≢◌, ℕ, ◌+◌, ◌-◌, ◌*◌, ◌/◌, ◌%◌, ◌^◌, ◌<◌, ◌≤◌, ◌==◌, ◌↔◌, Bool, false, true, max, length, replicate, drop, slice_index, slice_set, bit_and, bit_or, IfOk, OnErr, IsTrue};
+ghost use Rattle.std.specs.Int.{bit_at, bit_not, w64};
 ghost use Rattle.lin_history.specs.Problems.Continuations.{has};
 ghost use Rattle.lin_search.specs.CallSet.{with_call, sum_of, folded, weight_of};
 ghost use Rattle.lin_search.specs.Window.{word_at};
+ghost use Rattle.lin_search.specs.FewerCalls.{IsFewerAt, IsFewerWord};
 
 use lin_history::MAX_CALLS_ON_OBJECT;
 use smallvec::SmallVec;
@@ -226,9 +227,39 @@ fn drop_empty(words: &mut SmallVec<u64, 2>)
     }
 }
 
+// Whether every bit of the first word is in the second, and every further one of that in the third.
+fn is_fewer_word(a: u64, b: u64, of: u64) -> bool
+    ensures { IsTrue result → IsFewerWord a b of }
+{
+    a | b == b && b | (a | of) == a | of
+}
+
+// The word of a set at an index.
+fn word_of(set: &CallSet, index: usize) -> u64
+    ensures { (c : ℕ) → c / 64 ≡ index → (bit_at result (c % 64) == 1) ≡ has set.now c }
+{
+    word(set.full as usize, set.words.as_slice(), index)
+}
+
+// How many words a set has, full ones and others.
+fn count_words(set: &CallSet) -> usize
+    ensures { (c : ℕ) → result ≤ c / 64 → has set.now c ≡ false }
+{
+    (set.full as usize).saturating_add(set.words.len())
+}
+
+// Whether that holds of the word at an index of each set.
+fn is_fewer_at(a: &CallSet, b: &CallSet, of: &CallSet, index: usize) -> bool
+    ensures { IsTrue result → (c : ℕ) → c / 64 ≡ index → IsFewerAt a.now b.now of.now c }
+{
+    is_fewer_word(word_of(a, index), word_of(b, index), word_of(of, index))
+}
+
 impl CallSet {
-    // The set with none of so many calls, which are no more than a problem may have.
-    pub(crate) fn none(alloc: Global, calls: usize) -> Result<CallSet, AllocError>
+    /// The set with none of so many calls. `AllocError` where memory was refused.
+    ///
+    /// Condition: they are no more than a problem may have.
+    pub fn none(alloc: Global, calls: usize) -> Result<CallSet, AllocError>
         requires { calls ≤ MAX_CALLS_ON_OBJECT }
         ensures { IfOk result (λ set. set ≡ replicate calls false) }
     {
@@ -254,8 +285,10 @@ impl CallSet {
         })
     }
 
-    // A copy of the set with the call, which is not in it, put in.
-    pub(crate) fn copy_with(&self, alloc: Global, call: usize) -> Result<CallSet, AllocError>
+    /// A copy of the set with the call put in. `AllocError` where memory was refused.
+    ///
+    /// Conditions: the call is one of the problem, and not in the set.
+    pub fn copy_with(&self, alloc: Global, call: usize) -> Result<CallSet, AllocError>
         requires within { call < length self.now }
         requires outside { has self.now call ≡ false }
         ensures { IfOk result (λ set. set ≡ with_call self.now call) }
@@ -279,8 +312,10 @@ impl CallSet {
         self.sum as u64
     }
 
-    // Puts the call, which is not in the set, in. Where memory was refused nothing changes.
-    pub(crate) fn insert(&mut self, call: usize) -> Result<(), AllocError>
+    /// Puts the call in. Where memory was refused nothing changes.
+    ///
+    /// Conditions: the call is one of the problem, and not in the set.
+    pub fn insert(&mut self, call: usize) -> Result<(), AllocError>
         requires within { call < length self.old }
         requires outside { has self.old call ≡ false }
         ensures lifted { IfOk result (λ done. self.new ≡ with_call self.old call) }
@@ -295,8 +330,8 @@ impl CallSet {
         Ok(())
     }
 
-    // Takes the call, which is in the set, out. Where memory was refused nothing changes.
-    pub(crate) fn remove(&mut self, call: usize) -> Result<(), AllocError>
+    /// Takes the call, which is in the set, out. Where memory was refused nothing changes.
+    pub fn remove(&mut self, call: usize) -> Result<(), AllocError>
         requires { has self.old call ≡ true }
         ensures before { IfOk result (λ done. with_call self.new call ≡ self.old) }
         ensures outside { IfOk result (λ done. has self.new call ≡ false) }
@@ -308,5 +343,18 @@ impl CallSet {
         self.hash = self.hash.wrapping_sub(weight(call));
         self.sum -= call as u32;
         Ok(())
+    }
+
+    /// Whether every call of the set is in the other, and every call that only the other has is one of these.
+    pub fn is_fewer(&self, other: &CallSet, of: &CallSet) -> bool
+        ensures { IsTrue result → (c : ℕ) → IsFewerAt self.now other.now of.now c }
+    {
+        let words = usize::max(count_words(self), count_words(other));
+        for index in 0..words {
+            if !is_fewer_at(self, other, of, index) {
+                return false;
+            }
+        }
+        true
     }
 }

@@ -219,10 +219,12 @@ impl<O: SeqObject> Config<O> {
         Ok(Some(Config { lifted, state }))
     }
 
-    // The state that the call, which is minimal, leads to. `None` exactly where it has no step from the state, or its
-    // step's reply is not the recorded one.
+    /// The state that the call leads to. `None` exactly where it has no step from the state, or its step's reply is not the
+    /// recorded one. `AllocError` where memory was refused.
+    ///
+    /// Conditions: the configuration is reachable in the problem, the call is not lifted, and what precedes it is.
     #[inline(always)]
-    pub(crate) fn next_state(
+    pub fn next_state(
         &self,
         alloc: Global,
         problem: &Problem<O>,

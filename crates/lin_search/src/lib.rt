@@ -18,6 +18,7 @@ mod own_search;
 mod path;
 mod refutation;
 mod stop;
+mod told;
 
 pub use call_set::CallSet;
 pub use config::Config;
@@ -29,7 +30,8 @@ pub use memo::{Memo, Noted};
 pub use needless_calls::{IdenticalCalls, adds_nothing, ends_the_list, repeats};
 pub use outcome::Outcome;
 pub use own_memo::OwnMemo;
-pub use own_search::{search_alone, search_over};
+pub use own_search::{search_alone, search_for_order, search_over};
 pub use path::{Frame, Path, Position};
 pub use refutation::Refutation;
-pub use stop::{NoStop, Stop};
+pub use stop::{AtTimes, NoStop, Stop};
+pub use told::Told;

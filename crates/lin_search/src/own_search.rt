@@ -6,13 +6,15 @@ ghost use Rattle.lin_search.specs.Answer.{IsDecision, IsRefutation};
 ghost use Rattle.lin_search.specs.Count.{HasEachReachable, HasReachable, IsNumberReachable};
 ghost use Rattle.lin_search.specs.Memo.{IsClosed};
 ghost use Rattle.lin_search.specs.Store.{configurations, Holds, IsGrown};
+ghost use Rattle.lin_search.specs.Told.{IsRightOf, IsSpent, IsToldUnless};
 
 use crate::config::Config;
-use crate::depth_first::{Terms, search_from};
+use crate::depth_first::{Terms, search, search_from};
 use crate::needless_calls::IdenticalCalls;
 use crate::outcome::Outcome;
 use crate::own_memo::OwnMemo;
-use crate::stop::NoStop;
+use crate::stop::{NoStop, Stop};
+use crate::told::{Told, told_by};
 use lin_history::Problem;
 use lin_object::{SeqObject, lawful};
 use std::alloc::{AllocError, Global};
@@ -106,4 +108,26 @@ pub fn search_alone<O: SeqObject>(
         → IsNumberReachable (problem_of O.after O.State.eq O.Reply.eq problem.now) r.1) }
 {
     search_over(alloc, &mut OwnMemo::new(alloc, problem))
+}
+
+/// The search from the root over a memo of its own, for a linearization alone, with at most so many lifts: the least linearization,
+/// or that there is none (Wing and Gong 1993; Lowe 2017). Before each lift the stop is asked. Nothing is told only where as many lifts
+/// were made and another was to be made, or where the stop answered. `AllocError` where memory was refused.
+pub fn search_for_order<O: SeqObject, S: Stop>(
+    alloc: Global,
+    problem: &Problem<O>,
+    lifts: u64,
+    stop: &mut S,
+) -> Result<Told, AllocError>
+    ensures told { IfOk result (IsRightOf
+        (problem_of O.after O.State.eq O.Reply.eq problem.now)) }
+    ensures nothing { IfOk result (IsToldUnless (IsSpent
+        (problem_of O.after O.State.eq O.Reply.eq problem.now) lifts (S.tells stop.new))) }
+    ensures stop { S.follows stop.old stop.new }
+{
+    lawful::<O>();
+    let root = Config::root(alloc, problem)?;
+    let mut memo = OwnMemo::new(alloc, problem);
+    let outcome = search(alloc, problem, &root, &mut memo, Some(lifts), stop)?;
+    Ok(told_by(outcome))
 }

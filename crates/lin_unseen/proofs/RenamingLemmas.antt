@@ -22,7 +22,7 @@ use Rattle.lin_history.specs.OptionLemmas.{some_more}
 use Rattle.lin_history.specs.Problems.ProblemParts.{ProblemParts}
 use Rattle.lin_history.specs.Problems.LegalLists.{next, after_call}
 use Rattle.lin_history.specs.Problems.Precedence.{Before, IsCompleted}
-use Rattle.lin_ahead.specs.AnyProblem.{any_problem}
+use Rattle.lin_history.specs.Problems.AnyProblem.{any_problem}
 use Rattle.lin_unseen.specs.Renaming.{renamed_state, renamed_call, renamed, starts_with, is_reply_of, returned_with, compares_with, shows, is_seen, KeepsSeen, IsMadeOne}
 use Rattle.lin_unseen.specs.SameRuns.{HasRunsOf}
 use Rattle.lin_unseen.specs.Values.{name_of}

@@ -4,7 +4,7 @@
 ghost use Rattle.std.specs.Prelude.{◌≡◌, ℤ, map, IfOk, IfSome, IsTrue};
 ghost use Rattle.std.specs.Ordering.{int_eq};
 ghost use Rattle.indexmap.specs.IndexSet.{contains};
-ghost use Rattle.lin_ahead.specs.AnyProblem.{any_problem};
+ghost use Rattle.lin_history.specs.Problems.AnyProblem.{any_problem};
 ghost use Rattle.lin_unseen.specs.Renaming.{renamed_call, IsMadeOne};
 ghost use Rattle.lin_unseen.specs.SameRuns.{HasRunsOf};
 ghost use Rattle.lin_unseen.specs.Values.{name_of};

@@ -1,5 +1,5 @@
 -- What searches of parts made anew tell of the whole.
-use Rattle.std.proofs.Common.{◌≡◌, ℕ, zero, suc, ◌<◌, Option, List, [], ◌∷◌, length, subst, arith}
+use Rattle.std.proofs.Common.{◌≡◌, ℕ, zero, suc, ◌<◌, List, [], ◌∷◌, length, subst, arith}
 use Rattle.std.specs.Prelude.{slice_get, slice_index}
 use Rattle.lin_object.specs.declared.op.Op.{Op}
 use Rattle.lin_object.specs.declared.reply.Reply.{Reply}
@@ -7,22 +7,11 @@ use Rattle.lin_object.specs.declared.state.ObjState.{ObjState}
 use Rattle.lin_history.specs.Problems.Lists.{IsLeast}
 use Rattle.lin_history.specs.Problems.Problem.{Problem}
 use Rattle.lin_history.specs.Problems.ProblemParts.{ProblemParts}
-use Rattle.lin_history.specs.Problems.Continuations.{no_calls}
 use Rattle.lin_history.specs.Problems.Linearizations.{IsLinearization}
-use Rattle.lin_search.specs.declared.outcome.Outcome.{Outcome}
-use Rattle.lin_search.specs.declared.outcome.Outcome.TheVariants.{Found, Refuted, Undecided, Stopped}
-use Rattle.lin_search.specs.Answer.{IsAnswer}
-use Rattle.lin_ahead.specs.AnyProblem.{any_problem}
+use Rattle.lin_history.specs.Problems.AnyProblem.{any_problem}
 use Rattle.lin_parts.specs.Parts.{ArePart, IsRising, part_of, name}
-use Rattle.lin_parts.specs.Keys.PartOrder.{answer_of, HasRefutedPart, IsAnswerTo, IsFullOrder, IsNamed}
+use Rattle.lin_parts.specs.Keys.PartOrder.{HasRefutedPart, IsFullOrder, IsNamed}
 use Rattle.lin_parts.specs.PartLemmas.{name_in}
-
--- What a search from the root answers.
-pub told_of : {State Op Reply : Type 0} (p : Problem State Op Reply) (limit : Option ℕ) (tells : ℕ → Type 0) (o : Outcome) → IsAnswer p (no_calls p) p.start limit tells o → IsAnswerTo p (answer_of o)
-told_of p limit tells (Found order) k = k
-told_of p limit tells (Refuted longest) k = k.0
-told_of p limit tells Undecided k = tt
-told_of p limit tells (Stopped told) k = tt
 
 rising_at : (l : List ℕ) → IsRising l → (i j : ℕ) → i < j → j < length l → name l i < name l j
 rising_at [] r i j less h = absurd (omega (arith, h))

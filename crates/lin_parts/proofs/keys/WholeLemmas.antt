@@ -8,7 +8,7 @@ use Rattle.lin_object.specs.Kinds.{after}
 use Rattle.lin_object.specs.Kinds.Map.{MapLaw}
 use Rattle.lin_object.specs.Kinds.Set.{SetLaw}
 use Rattle.lin_object.specs.contracts.state.ObjStatePartialEq.TheImpl.{eq-value as state_eq}
-use Rattle.lin_ahead.specs.AnyProblem.{any_problem}
+use Rattle.lin_history.specs.Problems.AnyProblem.{any_problem}
 use Rattle.lin_object.specs.declared.op.Op.{Op}
 use Rattle.lin_object.specs.declared.reply.Reply.{Reply}
 use Rattle.lin_object.specs.declared.state.ObjState.{ObjState}

@@ -4,27 +4,12 @@ use Rattle.lin_history.specs.declared.problems.problem.ProblemCall.{ProblemCall}
 use Rattle.lin_history.specs.Problems.Lists.{IsLeast}
 use Rattle.lin_history.specs.Problems.Problem.{Problem}
 use Rattle.lin_history.specs.Problems.Linearizations.{IsLinearization}
-use Rattle.lin_search.specs.declared.outcome.Outcome.{Outcome}
-use Rattle.lin_search.specs.declared.outcome.Outcome.TheVariants as outcomes
-use Rattle.lin_parts.specs.declared.keys.part_answer.PartAnswer.{PartAnswer}
-use Rattle.lin_parts.specs.declared.keys.part_answer.PartAnswer.TheVariants.{Found, Refuted, Unknown}
-use Rattle.lin_parts.specs.declared.keys.part_answer.PartOrders.{PartOrders}
-use Rattle.lin_parts.specs.declared.keys.part_answer.PartOrders.TheVariants as all
+use Rattle.lin_search.specs.declared.told.Told.{Told}
+use Rattle.lin_search.specs.declared.told.Told.TheVariants.{Found, Refuted, Nothing}
+use Rattle.lin_parts.specs.declared.keys.orders_told.OrdersTold.{OrdersTold}
+use Rattle.lin_parts.specs.declared.keys.orders_told.OrdersTold.TheVariants as all
 use Rattle.lin_parts.specs.Keys.Merging.{order_at}
 use Rattle.lin_parts.specs.Parts.{ArePart, IsFilled, part_of, named}
-
--- The least linearization of the problem; or that it has none; or nothing.
-abbrev pub IsAnswerTo : {State Op Reply : Type 0} → Problem State Op Reply → PartAnswer → Type 0
-IsAnswerTo p (Found order) = IsLeast (IsLinearization p) order
-IsAnswerTo p Refuted = (l : List ℕ) → IsLinearization p l → ⊥
-IsAnswerTo p Unknown = Unit {0}
-
--- What the outcome of a search from the root shows.
-abbrev pub answer_of : Outcome → PartAnswer
-answer_of (outcomes.Found order) = Found order
-answer_of (outcomes.Refuted longest) = Refuted
-answer_of outcomes.Undecided = Unknown
-answer_of (outcomes.Stopped told) = Unknown
 
 -- The least linearization of the problem of these calls, and behind it its other calls in increasing order, by their numbers in
 -- the whole.
@@ -48,10 +33,10 @@ pub record HasRefutedPart {State Op Reply : Type 0} (p : Problem State Op Reply)
   pub none : (l : List ℕ) → IsLinearization (part_of p calls) l → ⊥
 
 -- A full order of the problem of these calls; or that it has no linearization; or nothing.
-abbrev pub IsPartOrder : {State Op Reply : Type 0} → Problem State Op Reply → List ℕ → PartAnswer → Type 0
+abbrev pub IsPartOrder : {State Op Reply : Type 0} → Problem State Op Reply → List ℕ → Told → Type 0
 IsPartOrder p kept (Found order) = IsFullOrder p kept order
 IsPartOrder p kept Refuted = HasRefutedPart p kept
-IsPartOrder p kept Unknown = Unit {0}
+IsPartOrder p kept Nothing = Unit {0}
 
 -- For each list of calls a full order of their problem.
 pub record AreFullOrders {State Op Reply : Type 0} (p : Problem State Op Reply) (lists orders : List (List ℕ)) : Type 0 where
@@ -59,7 +44,7 @@ pub record AreFullOrders {State Op Reply : Type 0} (p : Problem State Op Reply) 
   pub each : (k : ℕ) → k < length lists → IsFullOrder p (order_at lists k) (order_at orders k)
 
 -- A full order of each part; or that one has no linearization; or nothing.
-abbrev pub ArePartOrders : {State Op Reply : Type 0} → Problem State Op Reply → List (List ℕ) → PartOrders → Type 0
+abbrev pub ArePartOrders : {State Op Reply : Type 0} → Problem State Op Reply → List (List ℕ) → OrdersTold → Type 0
 ArePartOrders p lists (all.Found orders) = AreFullOrders p lists orders.items
 ArePartOrders p lists all.Refuted = (k : ℕ) × (k < length lists) × HasRefutedPart p (order_at lists k)
-ArePartOrders p lists all.Unknown = Unit {0}
+ArePartOrders p lists all.Nothing = Unit {0}

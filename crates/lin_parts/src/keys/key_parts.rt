@@ -19,8 +19,8 @@ fn same_return(a: &Option<(u32, Reply)>, b: &Option<(u32, Reply)>) -> bool
     }
 }
 
-// Whether both calls are the same.
-fn same_call(a: &ProblemCall<Op, Reply>, b: &ProblemCall<Op, Reply>) -> bool
+/// Whether both calls are the same.
+pub fn same_call(a: &ProblemCall<Op, Reply>, b: &ProblemCall<Op, Reply>) -> bool
     ensures { IsTrue result → a.now ≡ b.now }
 {
     a.process == b.process
@@ -36,12 +36,8 @@ fn same_state(a: &ObjState, b: &ObjState) -> bool
     *a == *b
 }
 
-/// Whether the problem starts as the whole does, and has just these calls of it.
-pub(crate) fn is_part(
-    problem: &Problem<AnyObject>,
-    kept: &[usize],
-    part: &Problem<AnyObject>,
-) -> bool
+/// Whether the part starts as the problem does, and has just the calls of these numbers.
+pub fn is_part(problem: &Problem<AnyObject>, kept: &[usize], part: &Problem<AnyObject>) -> bool
     ensures start { IsTrue result → part.now.start ≡ problem.now.start }
     ensures count { IsTrue result → length part.now.calls ≡ length kept.now }
     ensures same { IsTrue result → (i : ℕ) → i < length kept.now

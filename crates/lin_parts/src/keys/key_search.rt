@@ -1,26 +1,24 @@
 //! The search by key.
 
-ghost use Rattle.std.specs.Prelude.{◌≡◌, IfOk, IfSome};
+ghost use Rattle.std.specs.Prelude.{◌≡◌, IfOk};
 ghost use Rattle.lin_history.specs.Problems.Lists.{IsLeast};
 ghost use Rattle.lin_history.specs.Problems.Linearizations.{IsLinearization};
-ghost use Rattle.lin_ahead.specs.AnyProblem.{any_problem};
-ghost use Rattle.lin_parts.specs.Keys.KeyAnswer.{IsKeyAnswer};
+ghost use Rattle.lin_history.specs.Problems.AnyProblem.{any_problem};
+ghost use Rattle.lin_search.specs.Told.{IsRightOf, IsToldUnless};
 ghost use Rattle.lin_parts.specs.Keys.KeyedCalls.{AreKeyNumbers};
 ghost use Rattle.lin_parts.specs.Keys.Products.{AreListsOfKeys};
-ghost use Rattle.lin_parts.specs.Keys.PartOrder.{AreFullOrders};
+ghost use Rattle.lin_parts.specs.Keys.PartOrder.{AreFullOrders, ArePartOrders};
 
-use crate::at_times::AtTimes;
 use crate::keys::calls_of_key::CallsOfKey;
-use crate::keys::key_answer::KeyAnswer;
 use crate::keys::key_calls::calls_of_keys;
 use crate::keys::key_numbers::{KeyNumbers, key_numbers};
 use crate::keys::key_parts::parts_of_keys;
 use crate::keys::merge::{end_of_completed, merged};
-use crate::keys::part_answer::PartOrders;
+use crate::keys::orders_told::OrdersTold;
 use crate::keys::part_orders::{PartBounds, orders_of_parts};
 use lin_history::{Order, Problem};
 use lin_object::{AnyObject, map_law, set_law};
-use lin_search::Stop;
+use lin_search::{AtTimes, Stop, Told};
 use std::alloc::{AllocError, Global};
 
 // The least linearization of the whole: the orders of the keys, merged, up to the last call that has returned.
@@ -45,11 +43,37 @@ fn whole_order(
     Ok(Order::new(calls))
 }
 
+// What the orders of the keys tell of the whole: nothing only where they tell nothing.
+fn told_of_orders(
+    alloc: Global,
+    problem: &Problem<AnyObject>,
+    known: &KeyNumbers,
+    lists: &[CallsOfKey],
+    orders: OrdersTold,
+) -> Result<Told, AllocError>
+    requires keys { AreKeyNumbers problem.now known.now.keys.keys known.now.numbers.items }
+    requires calls { AreListsOfKeys known.now.keys.keys known.now.numbers.items lists.now }
+    requires orders { ArePartOrders (any_problem problem.now) lists.now orders }
+    ensures told { IfOk result (IsRightOf (any_problem problem.now)) }
+    ensures nothing { IfOk result (IsToldUnless (orders ≡ OrdersTold.Nothing)) }
+{
+    map_law();
+    set_law();
+    match orders {
+        OrdersTold::Found(orders) => {
+            let order = whole_order(alloc, problem, known, lists, orders.as_slice())?;
+            Ok(Told::Found(order))
+        }
+        OrdersTold::Refuted => Ok(Told::Refuted),
+        OrdersTold::Nothing => Ok(Told::Nothing),
+    }
+}
+
 /// The least linearization of a problem that starts with an empty map or an empty set, from searches of the calls of each key
-/// as a problem of its own; or that it has none, where one of them has none. `None` where that is not known: of a problem of
+/// as a problem of its own; or that it has none, where one of them has none. Nothing is told where that is not known: of a problem of
 /// another kind, or that does not start empty; where a call is no operation of the kind; and where the search of a key's calls
 /// would have taken more lifts than it may make. None of these searches makes more lifts than the limit allows, where there is
-/// one; the stop is asked before each 256th lift of those that keep what they refuted, and where it answers nothing is known.
+/// one; the stop is asked at each 256th lift or step of them, and where it answers nothing is told.
 /// `AllocError` where memory was refused.
 ///
 /// The time is that of the searches, and O(n log n) for n calls, however many keys there are.
@@ -58,31 +82,23 @@ pub fn search_by_key<S: Stop>(
     problem: &Problem<AnyObject>,
     limit: Option<u64>,
     stop: &mut S,
-) -> Result<Option<KeyAnswer>, AllocError>
-    ensures { IfOk result (λ answer. IfSome answer (IsKeyAnswer (any_problem problem.now))) }
+) -> Result<Told, AllocError>
+    ensures { IfOk result (IsRightOf (any_problem problem.now)) }
 {
-    map_law();
-    set_law();
     let Some(known) = key_numbers(alloc, problem)? else {
-        return Ok(None);
+        return Ok(Told::Nothing);
     };
     let numbers = known.numbers.as_slice();
     let lists = calls_of_keys(alloc, numbers, known.keys.len())?;
     let parts = parts_of_keys(alloc, problem, numbers, lists.as_slice())?;
     let stop = AtTimes::new(stop);
     let mut bounds = PartBounds { limit, stop };
-    match orders_of_parts(
+    let orders = orders_of_parts(
         alloc,
         problem,
         lists.as_slice(),
         parts.as_slice(),
         &mut bounds,
-    )? {
-        PartOrders::Found(orders) => {
-            let order = whole_order(alloc, problem, &known, lists.as_slice(), orders.as_slice())?;
-            Ok(Some(KeyAnswer::Found(order)))
-        }
-        PartOrders::Refuted => Ok(Some(KeyAnswer::Refuted)),
-        PartOrders::Unknown => Ok(None),
-    }
+    )?;
+    told_of_orders(alloc, problem, &known, lists.as_slice(), orders)
 }

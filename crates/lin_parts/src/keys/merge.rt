@@ -3,7 +3,7 @@
 ghost use Rattle.std.specs.Prelude.{◌≡◌, ◌<◌, ◌≤◌, ◌++◌, ℕ, suc, IfOk, IsTrue, IsFalse, length, take, drop, slice_index};
 ghost use Rattle.lin_history.specs.Problems.Lists.{In};
 ghost use Rattle.lin_history.specs.Problems.Precedence.{IsCompleted};
-ghost use Rattle.lin_ahead.specs.AnyProblem.{any_problem};
+ghost use Rattle.lin_history.specs.Problems.AnyProblem.{any_problem};
 ghost use Rattle.lin_parts.specs.Keys.Merging.{order_at, AreOrdersOfKeys, IsMergedWhole, IsTakenUpTo};
 
 use lin_history::{Order, Problem};

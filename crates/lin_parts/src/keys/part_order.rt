@@ -1,18 +1,17 @@
-//! What searches of one part show.
+//! What searches of one part tell.
 
-ghost use Rattle.std.specs.Prelude.{◌≡◌, ◌≤◌, ℕ, IfOk, IfSome, length};
-ghost use Rattle.lin_ahead.specs.AnyProblem.{any_problem};
-ghost use Rattle.lin_ahead.specs.Behind.{IsRightAhead};
+ghost use Rattle.std.specs.Prelude.{◌≤◌, IfOk, IfSome};
+ghost use Rattle.lin_history.specs.Problems.AnyProblem.{any_problem};
+ghost use Rattle.lin_search.specs.Told.{IsRightOf};
 ghost use Rattle.lin_parts.specs.Parts.{IsRising};
-ghost use Rattle.lin_parts.specs.Keys.PartOrder.{answer_of, IsAnswerTo, IsNamed, IsPartOrder};
+ghost use Rattle.lin_parts.specs.Keys.PartOrder.{IsNamed, IsPartOrder};
 
 use crate::call_lists::{fill, with_names};
 use crate::keys::key_parts::is_part;
-use crate::keys::part_answer::PartAnswer;
-use lin_ahead::{FirstAnswer, KnownAhead, known_ahead, search_first};
+use lin_ahead::{known_ahead, search_first};
 use lin_history::{Order, Problem};
-use lin_object::{AnyObject, lawful};
-use lin_search::{Config, Outcome, OwnMemo, Stop, search};
+use lin_object::AnyObject;
+use lin_search::{Stop, Told, search_for_order};
 use std::alloc::{AllocError, Global};
 
 // The most lifts of a first search for each call of a part.
@@ -44,69 +43,24 @@ pub(crate) fn within(lifts: u64, limit: Option<u64>) -> u64
     }
 }
 
-// What a first search shows, with what is known ahead.
-fn first_answer(
+// What searches of the part tell: a first search where something is known ahead, and where that tells nothing, one that keeps
+// what it refuted.
+fn told_of_part<S: Stop>(
     alloc: Global,
     part: &Problem<AnyObject>,
-    ahead: &KnownAhead,
     limit: Option<u64>,
-) -> Result<PartAnswer, AllocError>
-    requires { IsRightAhead (any_problem part.now) ahead.now }
-    ensures { IfOk result (IsAnswerTo (any_problem part.now)) }
+    stop: &mut S,
+) -> Result<Told, AllocError>
+    ensures { IfOk result (IsRightOf (any_problem part.now)) }
 {
     let lifts = budget(part.len(), FIRST_LIFTS, 0, limit);
-    Ok(match search_first(alloc, part, ahead, lifts)? {
-        FirstAnswer::Found(order) => PartAnswer::Found(order),
-        FirstAnswer::Refuted => PartAnswer::Refuted,
-        FirstAnswer::Exhausted => PartAnswer::Unknown,
-    })
-}
-
-// What the outcome of a search shows.
-fn told_by(outcome: Outcome) -> PartAnswer
-    ensures { result ≡ answer_of outcome }
-{
-    match outcome {
-        Outcome::Found(order) => PartAnswer::Found(order),
-        Outcome::Refuted(_) => PartAnswer::Refuted,
-        Outcome::Undecided => PartAnswer::Unknown,
-        Outcome::Stopped(_) => PartAnswer::Unknown,
-    }
-}
-
-// What a search says that keeps what it refuted.
-fn full_answer<S: Stop>(
-    alloc: Global,
-    part: &Problem<AnyObject>,
-    limit: Option<u64>,
-    stop: &mut S,
-) -> Result<PartAnswer, AllocError>
-    ensures { IfOk result (IsAnswerTo (any_problem part.now)) }
-{
-    lawful::<AnyObject>();
-    let lifts = budget(part.len(), LIFTS_FOR_A_CALL, MORE_LIFTS, limit);
-    let root = Config::root(alloc, part)?;
-    let mut memo = OwnMemo::new(alloc, part);
-    let outcome = search(alloc, part, &root, &mut memo, Some(lifts), stop)?;
-    Ok(told_by(outcome))
-}
-
-// What searches of the part show: a first search where something is known ahead, and where that says nothing, one that keeps
-// what it refuted.
-fn answer_to<S: Stop>(
-    alloc: Global,
-    part: &Problem<AnyObject>,
-    limit: Option<u64>,
-    stop: &mut S,
-) -> Result<PartAnswer, AllocError>
-    ensures { IfOk result (IsAnswerTo (any_problem part.now)) }
-{
-    let answer = match known_ahead(alloc, part)? {
-        Some(ahead) => first_answer(alloc, part, &ahead, limit)?,
-        None => PartAnswer::Unknown,
+    let told = match known_ahead(alloc, part)? {
+        Some(ahead) => search_first(alloc, part, &ahead, lifts, stop)?,
+        None => Told::Nothing,
     };
-    match answer {
-        PartAnswer::Unknown => full_answer(alloc, part, limit, stop),
+    let lifts = budget(part.len(), LIFTS_FOR_A_CALL, MORE_LIFTS, limit);
+    match told {
+        Told::Nothing => search_for_order(alloc, part, lifts, stop),
         known => Ok(known),
     }
 }
@@ -124,7 +78,7 @@ fn full_order(alloc: Global, kept: &[usize], order: Order) -> Result<Option<Orde
     }
 }
 
-/// What searches of the part of these calls show: its least linearization and behind it the pending calls that it lacks, by
+/// What searches of the part of these calls tell: its least linearization and behind it the pending calls that it lacks, by
 /// their numbers in the whole; or that it has none; or nothing, and so where the stop answers. `AllocError` where memory was refused.
 pub(crate) fn order_of_part<S: Stop>(
     alloc: Global,
@@ -133,20 +87,20 @@ pub(crate) fn order_of_part<S: Stop>(
     part: &Problem<AnyObject>,
     limit: Option<u64>,
     stop: &mut S,
-) -> Result<PartAnswer, AllocError>
+) -> Result<Told, AllocError>
     requires { IsRising kept.now }
     ensures { IfOk result (IsPartOrder (any_problem problem.now) kept.now) }
 {
     if !is_part(problem, kept, part) {
-        return Ok(PartAnswer::Unknown);
+        return Ok(Told::Nothing);
     }
-    let order = match answer_to(alloc, part, limit, stop)? {
-        PartAnswer::Found(order) => order,
-        PartAnswer::Refuted => return Ok(PartAnswer::Refuted),
-        PartAnswer::Unknown => return Ok(PartAnswer::Unknown),
+    let order = match told_of_part(alloc, part, limit, stop)? {
+        Told::Found(order) => order,
+        Told::Refuted => return Ok(Told::Refuted),
+        Told::Nothing => return Ok(Told::Nothing),
     };
     match full_order(alloc, kept, order)? {
-        Some(order) => Ok(PartAnswer::Found(order)),
-        None => Ok(PartAnswer::Unknown),
+        Some(order) => Ok(Told::Found(order)),
+        None => Ok(Told::Nothing),
     }
 }

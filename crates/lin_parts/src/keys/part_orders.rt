@@ -1,19 +1,18 @@
-//! What searches of all parts show.
+//! What searches of all parts tell.
 
 ghost use Rattle.std.specs.Prelude.{◌<◌, ℕ, IfOk, IsTrue, length};
-ghost use Rattle.lin_ahead.specs.AnyProblem.{any_problem};
+ghost use Rattle.lin_history.specs.Problems.AnyProblem.{any_problem};
 ghost use Rattle.lin_parts.specs.Parts.{IsRising};
 ghost use Rattle.lin_parts.specs.Keys.Merging.{order_at};
 ghost use Rattle.lin_parts.specs.Keys.PartOrder.{ArePartOrders, HasRefutedPart};
 
-use crate::at_times::AtTimes;
 use crate::keys::calls_of_key::CallsOfKey;
 use crate::keys::key_calls::calls_at;
-use crate::keys::part_answer::{PartAnswer, PartOrders};
+use crate::keys::orders_told::OrdersTold;
 use crate::keys::part_order::{order_of_part, within};
 use lin_history::Problem;
 use lin_object::AnyObject;
-use lin_search::Stop;
+use lin_search::{AtTimes, Stop, Told};
 use std::alloc::{AllocError, Global};
 
 /// Within which bounds parts are searched: so many lifts of each search at most, where there is a limit; and this stop, which all of
@@ -51,14 +50,14 @@ fn some_is_refuted<S: Stop>(
         );
         let kept = calls_at(lists, key);
         let answer = order_of_part(alloc, problem, kept, part, Some(lifts), &mut bounds.stop)?;
-        if let PartAnswer::Refuted = answer {
+        if let Told::Refuted = answer {
             return Ok(true);
         }
     }
     Ok(false)
 }
 
-/// What searches of all parts show, one after another: an order of each, or that one has no linearization, or nothing. Where
+/// What searches of all parts tell, one after another: an order of each, or that one has no linearization, or nothing. Where
 /// the order of one is not known, short searches of those behind it still may show that one of them has none. `AllocError`
 /// where memory was refused.
 pub(crate) fn orders_of_parts<S: Stop>(
@@ -67,27 +66,27 @@ pub(crate) fn orders_of_parts<S: Stop>(
     lists: &[CallsOfKey],
     parts: &[Problem<AnyObject>],
     bounds: &mut PartBounds<'_, S>,
-) -> Result<PartOrders, AllocError>
+) -> Result<OrdersTold, AllocError>
     requires { (k : ℕ) → k < length lists.now → IsRising (order_at lists.now k) }
     ensures { IfOk result (ArePartOrders (any_problem problem.now) lists.now) }
 {
     let mut orders = Vec::with_capacity(alloc, lists.len())?;
     for key in 0..lists.len() {
         let Some(part) = parts.get(key) else {
-            return Ok(PartOrders::Unknown);
+            return Ok(OrdersTold::Nothing);
         };
         let (kept, limit) = (calls_at(lists, key), bounds.limit);
         match order_of_part(alloc, problem, kept, part, limit, &mut bounds.stop)? {
-            PartAnswer::Found(order) => orders.push(order)?,
-            PartAnswer::Refuted => return Ok(PartOrders::Refuted),
-            PartAnswer::Unknown => {
+            Told::Found(order) => orders.push(order)?,
+            Told::Refuted => return Ok(OrdersTold::Refuted),
+            Told::Nothing => {
                 return if some_is_refuted(alloc, problem, lists, parts, key + 1, bounds)? {
-                    Ok(PartOrders::Refuted)
+                    Ok(OrdersTold::Refuted)
                 } else {
-                    Ok(PartOrders::Unknown)
+                    Ok(OrdersTold::Nothing)
                 };
             }
         }
     }
-    Ok(PartOrders::Found(orders))
+    Ok(OrdersTold::Found(orders))
 }

@@ -1,4 +1,4 @@
-use Rattle.lin_ahead.specs.AnyProblem.{any_problem}
+use Rattle.lin_history.specs.Problems.AnyProblem.{any_problem}
 use Rattle.lin_ahead.proofs.CrossedLemmas.{crossed_in_vain}
 use Rattle.lin_ahead.proofs.crossed_pushes.some_push_crosses.Goals as goal
 

@@ -1,6 +1,6 @@
 use Rattle.std.proofs.Common.{ℕ, ◌<◌}
 use Rattle.lin_history.specs.Problems.Precedence.{Before}
-use Rattle.lin_ahead.specs.AnyProblem.{any_problem}
+use Rattle.lin_history.specs.Problems.AnyProblem.{any_problem}
 use Rattle.lin_ahead.specs.Impossible.{AddsItem}
 use Rattle.lin_ahead.proofs.impossible_items.is_added_after.Given as goal
 

@@ -1,7 +1,7 @@
 use Rattle.std.proofs.Common.{◌≡◌, [], rules, sym, ◌∙◌, ap, w64, to_z, of_z, FitsSigned}
 use Rattle.std.proofs.lemmas.Int.{to_z-of_z}
 use Rattle.lin_object.specs.declared.state.ObjState.TheVariants.{Queue, Register, Stack, Map, Counter}
-use Rattle.lin_ahead.specs.AnyProblem.{any_problem}
+use Rattle.lin_history.specs.Problems.AnyProblem.{any_problem}
 use Rattle.lin_ahead.proofs.AheadLemmas.{is_right, is_told}
 use Rattle.lin_ahead.proofs.CounterLemmas.{counter_right, counter_told}
 use Rattle.lin_ahead.proofs.StackLateLemmas.{stack_right}

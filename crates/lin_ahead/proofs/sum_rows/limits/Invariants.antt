@@ -1,4 +1,4 @@
-use Rattle.lin_ahead.specs.AnyProblem.{any_problem}
+use Rattle.lin_history.specs.Problems.AnyProblem.{any_problem}
 use Rattle.lin_ahead.proofs.SumRowLemmas.{LimitsSoFar}
 use Rattle.lin_ahead.proofs.sum_rows.limits.Given as goal
 

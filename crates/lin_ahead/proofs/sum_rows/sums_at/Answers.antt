@@ -1,6 +1,6 @@
 use Rattle.std.proofs.Common.{◌≡◌, ◌<◌, ◌^◌, Some, Bool, false, ◌∙◌, rules, ap, arith, length}
 use Rattle.std.specs.Prelude.{slice_get}
-use Rattle.lin_ahead.specs.AnyProblem.{any_problem}
+use Rattle.lin_history.specs.Problems.AnyProblem.{any_problem}
 use Rattle.lin_ahead.specs.Sums.{event_of}
 use Rattle.lin_ahead.proofs.SumRowLemmas.{asked_within, so_far_counts, so_far_asks, so_far_all, read_at}
 use Rattle.lin_ahead.proofs.sum_rows.sums_at.Goals.{then-turn, else-turn}

@@ -1,5 +1,5 @@
 use Rattle.std.proofs.Common.{◌≤◌, ◌+◌, arith, rules}
-use Rattle.lin_ahead.specs.AnyProblem.{any_problem}
+use Rattle.lin_history.specs.Problems.AnyProblem.{any_problem}
 use Rattle.lin_ahead.proofs.SumLoadLemmas.{freely_more}
 use Rattle.lin_ahead.proofs.sums.range_share.Goals as goal
 

@@ -1,4 +1,4 @@
-use Rattle.lin_ahead.specs.AnyProblem.{any_problem}
+use Rattle.lin_history.specs.Problems.AnyProblem.{any_problem}
 use Rattle.lin_ahead.specs.Sums.{AddFreely}
 use Rattle.lin_ahead.proofs.sums.range_share.Given as goal
 

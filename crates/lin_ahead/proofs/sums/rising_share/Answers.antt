@@ -1,6 +1,6 @@
 use Rattle.std.proofs.Common.{◌≤◌, ◌+◌, arith}
 use Rattle.std.specs.Prelude.{slice_index_or}
-use Rattle.lin_ahead.specs.AnyProblem.{any_problem}
+use Rattle.lin_history.specs.Problems.AnyProblem.{any_problem}
 use Rattle.lin_ahead.proofs.SumLoadLemmas.{freely_more, freely_within}
 use Rattle.lin_ahead.proofs.sums.rising_share.Goals as goal
 

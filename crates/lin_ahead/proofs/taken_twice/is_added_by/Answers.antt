@@ -1,5 +1,5 @@
 use Rattle.std.proofs.Common.{◌≡◌, sym, subst, arith, rules, w64, to_z, of_z}
-use Rattle.lin_ahead.specs.AnyProblem.{any_problem}
+use Rattle.lin_history.specs.Problems.AnyProblem.{any_problem}
 use Rattle.lin_ahead.specs.Impossible.{AddsItem}
 use Rattle.lin_ahead.proofs.ImpossibleLemmas.{adds_within}
 use Rattle.lin_ahead.proofs.TwiceLemmas.{only_more}

@@ -1,5 +1,5 @@
 use Rattle.std.proofs.Common.{rules}
-use Rattle.lin_ahead.specs.AnyProblem.{any_problem}
+use Rattle.lin_history.specs.Problems.AnyProblem.{any_problem}
 use Rattle.lin_ahead.proofs.TakerLemmas.{lacks_is}
 use Rattle.lin_ahead.proofs.takers.lacks_takers_for.Goals as goal
 

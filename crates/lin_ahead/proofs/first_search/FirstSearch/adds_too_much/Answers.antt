@@ -1,4 +1,4 @@
-use Rattle.lin_ahead.specs.AnyProblem.{any_problem}
+use Rattle.lin_history.specs.Problems.AnyProblem.{any_problem}
 use Rattle.lin_search.specs.SameLemmas.{alike_itself}
 use Rattle.lin_ahead.proofs.OverLemmas.{over_begins_none}
 use Rattle.lin_ahead.proofs.first_search.FirstSearch.adds_too_much.Goals as goal

@@ -1,5 +1,5 @@
 use Rattle.std.proofs.Common.{sym, ◌∙◌}
-use Rattle.lin_ahead.specs.AnyProblem.{any_problem}
+use Rattle.lin_history.specs.Problems.AnyProblem.{any_problem}
 use Rattle.lin_search.specs.SameLemmas.{alike_itself}
 use Rattle.lin_ahead.proofs.NeedsLemmas.{begins_left_out}
 use Rattle.lin_ahead.proofs.first_search.FirstSearch.begins_none.Goals as goal

@@ -1,5 +1,5 @@
 use Rattle.std.proofs.Common.{ap}
-use Rattle.lin_ahead.specs.AnyProblem.{any_problem}
+use Rattle.lin_history.specs.Problems.AnyProblem.{any_problem}
 use Rattle.lin_history.specs.Problems.Configurations.{IsRefuted}
 use Rattle.lin_object.specs.Changes.{undone}
 use Rattle.lin_search.specs.Path.{frame_of}

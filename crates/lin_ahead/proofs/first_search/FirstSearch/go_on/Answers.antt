@@ -3,7 +3,7 @@ use Rattle.lin_object.specs.Changes.{undone}
 use Rattle.lin_object.specs.StepBacks.{state_before}
 use Rattle.lin_search.specs.Path.{frames_of}
 use Rattle.lin_search.proofs.PathLemmas.{frames_end, frames_same}
-use Rattle.lin_ahead.specs.AnyProblem.{any_problem}
+use Rattle.lin_history.specs.Problems.AnyProblem.{any_problem}
 use Rattle.lin_ahead.specs.FirstProgress.{IsFirstProgress}
 use Rattle.lin_ahead.proofs.FirstLemmas.{lifted_here, lifted_last, refuted_among, first_hit, first_push, ok_three}
 use Rattle.lin_ahead.proofs.first_search.FirstSearch.go_on.Goals as goal

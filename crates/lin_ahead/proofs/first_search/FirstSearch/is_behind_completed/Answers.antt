@@ -1,6 +1,6 @@
 use Rattle.std.proofs.Common.{Result, Ok, Err}
 use Rattle.std.specs.Prelude.{IfOk}
-use Rattle.lin_ahead.specs.AnyProblem.{any_problem}
+use Rattle.lin_history.specs.Problems.AnyProblem.{any_problem}
 use Rattle.lin_search.specs.SameLemmas.{alike_itself}
 use Rattle.lin_ahead.proofs.FirstLemmas.{identical_begins_none}
 use Rattle.lin_ahead.proofs.first_search.FirstSearch.is_behind_completed.Goals as goal

@@ -1,7 +1,7 @@
 use Rattle.std.proofs.Common.{◌≡◌, [], rules}
 use Rattle.lin_object.specs.declared.state.ObjState.TheVariants.{Queue}
 use Rattle.lin_ahead.proofs.AnyLemmas.{of_any}
-use Rattle.lin_ahead.specs.AnyProblem.{any_problem}
+use Rattle.lin_history.specs.Problems.AnyProblem.{any_problem}
 use Rattle.lin_ahead.proofs.PopLemmas.{known_pops}
 use Rattle.lin_ahead.proofs.StackRowLemmas.{exact_any}
 use Rattle.lin_ahead.proofs.TakerLemmas.{known_few}

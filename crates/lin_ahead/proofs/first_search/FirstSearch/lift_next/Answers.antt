@@ -1,4 +1,4 @@
 use Rattle.lin_ahead.proofs.first_search.FirstSearch.lift_next.Goals as goal
 
 pub step-requires-clause-ahead : goal.step-requires-clause-ahead
-step-requires-clause-ahead c = rw c.loop-next.invariant.problem c.requires.ahead
+step-requires-clause-ahead g c = rw c.loop-at.invariant.problem c.requires.ahead

@@ -1,4 +1,4 @@
-use Rattle.lin_ahead.specs.AnyProblem.{any_problem}
+use Rattle.lin_history.specs.Problems.AnyProblem.{any_problem}
 use Rattle.lin_search.specs.SameLemmas.{alike_itself}
 use Rattle.lin_ahead.proofs.NeedsLemmas.{owed_begins_none}
 use Rattle.lin_ahead.proofs.first_search.FirstSearch.takes_what_is_owed.Goals as goal

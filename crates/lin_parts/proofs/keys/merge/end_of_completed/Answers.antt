@@ -1,6 +1,6 @@
 use Rattle.std.proofs.Common.{ℕ, arith}
 use Rattle.lin_history.specs.Problems.Precedence.{IsCompleted}
-use Rattle.lin_ahead.specs.AnyProblem.{any_problem}
+use Rattle.lin_history.specs.Problems.AnyProblem.{any_problem}
 use Rattle.lin_parts.proofs.keys.PlaceLemmas.{held_more}
 use Rattle.lin_parts.proofs.keys.merge.end_of_completed.Goals as goal
 

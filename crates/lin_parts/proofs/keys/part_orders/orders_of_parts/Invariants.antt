@@ -1,5 +1,5 @@
 use Rattle.std.proofs.Common.{◌≡◌, ◌<◌, ℕ, length}
-use Rattle.lin_ahead.specs.AnyProblem.{any_problem}
+use Rattle.lin_history.specs.Problems.AnyProblem.{any_problem}
 use Rattle.lin_parts.specs.Keys.Merging.{order_at}
 use Rattle.lin_parts.specs.Keys.PartOrder.{IsFullOrder}
 use Rattle.lin_parts.proofs.keys.part_orders.orders_of_parts.Given as goal
