@@ -1,32 +1,22 @@
 -- Parts made anew, and what a search tells of them.
-use Rattle.std.proofs.Common.{◌≡◌, ℕ, zero, suc, ◌<◌, Option, List, [], ◌∷◌, length, subst, arith}
+use Rattle.std.proofs.Common.{◌≡◌, ℕ, zero, suc, ◌<◌, List, [], ◌∷◌, length, subst, arith}
 use Rattle.std.specs.Prelude.{slice_get, slice_index}
 use Rattle.lin_object.specs.declared.op.Op.{Op}
 use Rattle.lin_object.specs.declared.reply.Reply.{Reply}
 use Rattle.lin_object.specs.declared.state.ObjState.{ObjState}
 use Rattle.lin_history.specs.Problems.Problem.{Problem}
 use Rattle.lin_history.specs.Problems.ProblemParts.{ProblemParts}
-use Rattle.lin_history.specs.Problems.Continuations.{no_calls}
-use Rattle.lin_search.specs.declared.outcome.Outcome.{Outcome}
-use Rattle.lin_search.specs.declared.outcome.Outcome.TheVariants as outcomes
-use Rattle.lin_search.specs.Answer.{IsAnswer}
-use Rattle.lin_ahead.specs.AnyProblem.{any_problem}
-use Rattle.lin_prefixes.specs.declared.part_answer.PartAnswer.{PartAnswer}
-use Rattle.lin_prefixes.specs.declared.part_answer.PartAnswer.TheVariants.{Found, Refuted, Unknown}
+use Rattle.lin_search.specs.declared.told.Told.{Told}
+use Rattle.lin_search.specs.declared.told.Told.TheVariants.{Found, Refuted, Nothing}
+use Rattle.lin_search.specs.Told.{IsRightOf}
+use Rattle.lin_history.specs.Problems.AnyProblem.{any_problem}
 use Rattle.lin_parts.specs.Parts.{IsRising, part_of, name}
 use Rattle.lin_prefixes.specs.Prefixes.{HasNoRunWith}
 use Rattle.lin_prefixes.specs.Freed.{IsLoosePrefix}
 use Rattle.lin_ahead.proofs.AnyLemmas.{of_any}
-use Rattle.lin_prefixes.specs.PartAnswer.{answer_of, IsPartAnswer, IsAnswerTo}
+use Rattle.lin_prefixes.specs.PartAnswer.{IsPartAnswer}
 use Rattle.lin_parts.specs.PartLemmas.{name_in}
 use Rattle.lin_prefixes.proofs.LooseLemmas.{no_run_by_loose}
-
--- What a search from the root answers.
-pub told_of : {State Op Reply : Type 0} (p : Problem State Op Reply) (limit : Option ℕ) (tells : ℕ → Type 0) (o : Outcome) → IsAnswer p (no_calls p) p.start limit tells o → IsAnswerTo p (answer_of o)
-told_of p limit tells (outcomes.Found order) k = k
-told_of p limit tells (outcomes.Refuted longest) k = k.0
-told_of p limit tells outcomes.Undecided k = tt
-told_of p limit tells (outcomes.Stopped told) k = tt
 
 rising_at : (l : List ℕ) → IsRising l → (i j : ℕ) → i < j → j < length l → name l i < name l j
 rising_at [] r i j less h = absurd (omega (arith, h))
@@ -40,10 +30,10 @@ module _ {Object : Type 0} (whole part : ProblemParts Object ObjState Op Reply) 
   at_part P h = subst (λ (s : ObjState). P (record (any_problem part) { start = s })) start h
 
   pub part_answer : (kept : List ℕ) → IsRising kept → length part.calls ≡ length kept → ((i : ℕ) → i < length kept → slice_get part.calls i ≡ slice_get whole.calls (slice_index kept i))
-      → (answer : PartAnswer) → IsAnswerTo (any_problem part) answer → IsPartAnswer (any_problem whole) kept answer
-  part_answer kept rises count same Unknown h = tt
-  part_answer kept rises count same (Found order) h = (part.calls, record { count = count; same = same; rises = rising_at kept rises }, at_part (λ p. IsAnswerTo p (Found order)) h)
-  part_answer kept rises count same Refuted h = (part.calls, record { count = count; same = same; rises = rising_at kept rises }, at_part (λ p. IsAnswerTo p Refuted) h)
+      → (answer : Told) → IsRightOf (any_problem part) answer → IsPartAnswer (any_problem whole) kept answer
+  part_answer kept rises count same Nothing h = tt
+  part_answer kept rises count same (Found order) h = (part.calls, record { count = count; same = same; rises = rising_at kept rises }, at_part (λ p. IsRightOf p (Found order)) h)
+  part_answer kept rises count same Refuted h = (part.calls, record { count = count; same = same; rises = rising_at kept rises }, at_part (λ p. IsRightOf p Refuted) h)
 
-  pub loose_answer : (k : ℕ) (kept takers : List ℕ) → k < length whole.calls → IsLoosePrefix (any_problem whole) k kept takers part.calls → IsAnswerTo (any_problem part) Refuted → HasNoRunWith (any_problem whole) k kept
-  loose_answer k kept takers last loose h = no_run_by_loose (any_problem whole) k kept takers part.calls loose last (of_any whole []) (at_part (λ p. IsAnswerTo p Refuted) h)
+  pub loose_answer : (k : ℕ) (kept takers : List ℕ) → k < length whole.calls → IsLoosePrefix (any_problem whole) k kept takers part.calls → IsRightOf (any_problem part) Refuted → HasNoRunWith (any_problem whole) k kept
+  loose_answer k kept takers last loose h = no_run_by_loose (any_problem whole) k kept takers part.calls loose last (of_any whole []) (at_part (λ p. IsRightOf p Refuted) h)

@@ -2,26 +2,27 @@
 ghost use Rattle.std.specs.Prelude.{◌≡◌, ◌<◌, ◌≤◌, ◌+◌, ◌^◌, ℕ, List, IfOk, IfSome, IsTrue, length};
 ghost use Rattle.lin_history.specs.Problems.Lists.{In};
 ghost use Rattle.lin_history.specs.Problems.Linearizations.{IsLinearization};
-ghost use Rattle.lin_ahead.specs.AnyProblem.{any_problem};
+ghost use Rattle.lin_history.specs.Problems.AnyProblem.{any_problem};
 ghost use Rattle.lin_ahead.specs.Behind.{IsRightAhead};
 ghost use Rattle.lin_parts.specs.Parts.{IsRising};
 ghost use Rattle.lin_prefixes.specs.Prefixes.{HasNoRunWith};
-ghost use Rattle.lin_prefixes.specs.PartAnswer.{answer_of, IsAnswerTo, IsPartAnswer};
+ghost use Rattle.lin_prefixes.specs.PartAnswer.{IsPartAnswer};
+ghost use Rattle.lin_search.specs.Told.{IsRightOf};
 
 use crate::call_lists::kept_calls;
 use crate::crossed_calls::some_cross;
 use crate::open_takers::open_takers;
-use crate::part_answer::PartAnswer;
 use crate::part_search::PartSearch;
-use crate::parts_anew::{Loosened, Wanted, is_loose_prefix, is_part, made_anew};
+use crate::parts_anew::{Loosened, Wanted, is_loose_prefix, made_anew};
+use crate::untold_groups::UntoldGroups;
 use lin_ahead::{
-    FirstAnswer, KnownAhead, known_ahead, search_first, some_came_too_early, some_push_crosses,
+    KnownAhead, known_ahead, search_first, some_came_too_early, some_push_crosses,
     some_was_taken_twice,
 };
 use lin_history::{Problem, ProblemEvent};
-use lin_object::{AnyObject, lawful};
-use lin_parts::{AtTimes, KeyAnswer, search_by_key};
-use lin_search::{Config, Outcome, OwnMemo, Stop, search};
+use lin_object::AnyObject;
+use lin_parts::{is_part, search_by_key};
+use lin_search::{AtTimes, Stop, Told, search_for_order};
 use std::alloc::{AllocError, Global};
 
 // How many lifts for each call a search may make at first, and how many times as many each time that it says nothing.
@@ -30,10 +31,13 @@ const FIRST_LIFTS: u64 = 2;
 const GROWTH: u64 = 4;
 
 // How often it is made at most. Where only a bound is asked for, seldom: without it more parts are searched, but each of those
-// shows more.
+// shows more. Of a group of calls, where something is known ahead, once: mostly that alone shows that no run has them all, and
+// the search begins only where it does not.
 const ROUNDS: usize = 16;
 
 const ROUNDS_FOR_A_BOUND: usize = 2;
+
+const ROUNDS_FOR_A_GROUP: usize = 1;
 
 // What counts as a lift beside the lifts: each part that is made, and so many of its calls; and of what is done between searches so
 // many looks at a call.
@@ -41,82 +45,53 @@ const CALLS_FOR_A_LIFT: u64 = 64;
 
 const LOOKS_FOR_A_LIFT: u64 = 256;
 
-// What a first search shows, with what is known ahead.
-fn first_answer(
-    alloc: Global,
-    part: &Problem<AnyObject>,
-    ahead: &KnownAhead,
-    lifts: u64,
-) -> Result<PartAnswer, AllocError>
-    requires { IsRightAhead (any_problem part.now) ahead.now }
-    ensures { IfOk result (IsAnswerTo (any_problem part.now)) }
-{
-    Ok(match search_first(alloc, part, ahead, lifts)? {
-        FirstAnswer::Found(order) => PartAnswer::Found(order),
-        FirstAnswer::Refuted => PartAnswer::Refuted,
-        FirstAnswer::Exhausted => PartAnswer::Unknown,
-    })
+// What a problem is searched for: the least linearization, or that there is none; or the latter alone, as a bound, or to show that
+// no run has some group of calls.
+#[derive(Clone, Copy)]
+enum Wish {
+    Order,
+    Bound,
+    Group,
 }
 
-// What the outcome of a search shows.
-fn told_by(outcome: Outcome) -> PartAnswer
-    ensures { result ≡ answer_of outcome }
-{
-    match outcome {
-        Outcome::Found(order) => PartAnswer::Found(order),
-        Outcome::Refuted(_) => PartAnswer::Refuted,
-        Outcome::Undecided => PartAnswer::Unknown,
-        Outcome::Stopped(_) => PartAnswer::Unknown,
+// How often a search is made at most.
+fn rounds_for(wish: Wish, known: &Option<KnownAhead>) -> usize {
+    match (wish, known) {
+        (Wish::Order, _) => ROUNDS,
+        (Wish::Group, Some(_)) => ROUNDS_FOR_A_GROUP,
+        (Wish::Bound, _) | (Wish::Group, None) => ROUNDS_FOR_A_BOUND,
     }
 }
 
-// What a search says that keeps what it refuted.
-fn full_answer<S: Stop>(
+// What a search by key tells, of a map or a set; else what a search tells that keeps what it refuted.
+fn told_by_key<S: Stop>(
     alloc: Global,
     part: &Problem<AnyObject>,
     lifts: u64,
     stop: &mut S,
-) -> Result<PartAnswer, AllocError>
-    ensures { IfOk result (IsAnswerTo (any_problem part.now)) }
-{
-    lawful::<AnyObject>();
-    let root = Config::root(alloc, part)?;
-    let mut memo = OwnMemo::new(alloc, part);
-    let mut stop = AtTimes::new(stop);
-    let outcome = search(alloc, part, &root, &mut memo, Some(lifts), &mut stop)?;
-    Ok(told_by(outcome))
-}
-
-// What a search by key shows, of a map or a set; of another object what a search says that keeps what it refuted.
-fn answer_by_key<S: Stop>(
-    alloc: Global,
-    part: &Problem<AnyObject>,
-    lifts: u64,
-    stop: &mut S,
-) -> Result<PartAnswer, AllocError>
-    ensures { IfOk result (IsAnswerTo (any_problem part.now)) }
+) -> Result<Told, AllocError>
+    ensures { IfOk result (IsRightOf (any_problem part.now)) }
 {
     match search_by_key(alloc, part, Some(lifts), stop)? {
-        Some(KeyAnswer::Found(order)) => Ok(PartAnswer::Found(order)),
-        Some(KeyAnswer::Refuted) => Ok(PartAnswer::Refuted),
-        None => full_answer(alloc, part, lifts, stop),
+        Told::Nothing => search_for_order(alloc, part, lifts, &mut AtTimes::new(stop)),
+        known => Ok(known),
     }
 }
 
-// What a search of so many lifts shows: a first search where something is known ahead.
-fn answer_within<S: Stop>(
+// What a search of so many lifts tells: a first search where something is known ahead.
+fn told_within<S: Stop>(
     alloc: Global,
     part: &Problem<AnyObject>,
     known: &Option<KnownAhead>,
     lifts: u64,
     stop: &mut S,
-) -> Result<PartAnswer, AllocError>
+) -> Result<Told, AllocError>
     requires { IfSome known.now (IsRightAhead (any_problem part.now)) }
-    ensures { IfOk result (IsAnswerTo (any_problem part.now)) }
+    ensures { IfOk result (IsRightOf (any_problem part.now)) }
 {
     match known {
-        Some(ahead) => first_answer(alloc, part, ahead, lifts),
-        None => answer_by_key(alloc, part, lifts, stop),
+        Some(ahead) => search_first(alloc, part, ahead, lifts, &mut AtTimes::new(stop)),
+        None => told_by_key(alloc, part, lifts, stop),
     }
 }
 
@@ -159,6 +134,11 @@ fn shows_none(
     }
 }
 
+// About how many looks at a call it takes to find a group that has these calls.
+fn looks_at(untold: &UntoldGroups, calls: &[usize]) -> u64 {
+    (untold.len() as u64).saturating_mul(calls.len() as u64)
+}
+
 /// Searches of parts of a problem of the seven kinds, each made anew: first searches where something is known ahead, searches by
 /// key of maps and sets, and searches that keep what they refuted for other parts. Each makes no more lifts than are left of
 /// those that were given at the start, where a search by key counts the lifts for each key alone. Work that makes no lifts is
@@ -167,6 +147,7 @@ fn shows_none(
 pub(crate) struct AnewSearch<'a, S> {
     events: Vec<ProblemEvent>,
     lifts: u64,
+    untold: UntoldGroups,
     stop: &'a mut S,
 }
 
@@ -181,6 +162,7 @@ impl<'a, S: Stop> AnewSearch<'a, S> {
         Ok(AnewSearch {
             events: problem.timeline(alloc)?,
             lifts,
+            untold: UntoldGroups::new(alloc),
             stop,
         })
     }
@@ -204,41 +186,42 @@ impl<'a, S: Stop> AnewSearch<'a, S> {
         part: &Problem<AnyObject>,
         known: &Option<KnownAhead>,
         rounds: usize,
-    ) -> Result<PartAnswer, AllocError>
+    ) -> Result<Told, AllocError>
         requires { IfSome known.now (IsRightAhead (any_problem part.now)) }
-        ensures { IfOk result (IsAnswerTo (any_problem part.now)) }
+        ensures { IfOk result (IsRightOf (any_problem part.now)) }
     {
         let mut wanted = FIRST_LIFTS.saturating_mul(part.len() as u64);
         for _ in 0..rounds {
             if self.stop.ask().is_some() {
-                return Ok(PartAnswer::Unknown);
+                return Ok(Told::Nothing);
             }
             let lifts = self.take(wanted);
-            match answer_within(alloc, part, known, lifts, self.stop)? {
-                PartAnswer::Unknown if self.lifts > 0 => wanted = wanted.saturating_mul(GROWTH),
+            match told_within(alloc, part, known, lifts, self.stop)? {
+                Told::Nothing if self.lifts > 0 => wanted = wanted.saturating_mul(GROWTH),
                 answer => return Ok(answer),
             }
         }
-        Ok(PartAnswer::Unknown)
+        Ok(Told::Nothing)
     }
 
-    // What is told of the problem in so many rounds.
-    fn answer_within_rounds(
+    // What is told of the problem that is searched for this.
+    fn answer_to_wish(
         &mut self,
         alloc: Global,
         part: &Problem<AnyObject>,
-        rounds: usize,
-    ) -> Result<PartAnswer, AllocError>
-        ensures { IfOk result (IsAnswerTo (any_problem part.now)) }
+        wish: Wish,
+    ) -> Result<Told, AllocError>
+        ensures { IfOk result (IsRightOf (any_problem part.now)) }
     {
         self.take(1 + part.len() as u64 / CALLS_FOR_A_LIFT);
         if !self.may_search() {
-            return Ok(PartAnswer::Unknown);
+            return Ok(Told::Nothing);
         }
         let known = known_ahead(alloc, part)?;
         if shows_none(alloc, part, &known)? {
-            return Ok(PartAnswer::Refuted);
+            return Ok(Told::Refuted);
         }
+        let rounds = rounds_for(wish, &known);
         self.answer_in_rounds(alloc, part, &known, rounds)
     }
 
@@ -247,10 +230,10 @@ impl<'a, S: Stop> AnewSearch<'a, S> {
         &mut self,
         alloc: Global,
         part: &Problem<AnyObject>,
-    ) -> Result<PartAnswer, AllocError>
-        ensures { IfOk result (IsAnswerTo (any_problem part.now)) }
+    ) -> Result<Told, AllocError>
+        ensures { IfOk result (IsRightOf (any_problem part.now)) }
     {
-        self.answer_within_rounds(alloc, part, ROUNDS)
+        self.answer_to_wish(alloc, part, Wish::Order)
     }
 
     // What is told of the problem of these calls.
@@ -259,7 +242,7 @@ impl<'a, S: Stop> AnewSearch<'a, S> {
         alloc: Global,
         problem: &Problem<AnyObject>,
         kept: &[usize],
-    ) -> Result<PartAnswer, AllocError>
+    ) -> Result<Told, AllocError>
         requires { IsRising kept.now }
         ensures { IfOk result (IsPartAnswer (any_problem problem.now) kept.now) }
     {
@@ -270,10 +253,10 @@ impl<'a, S: Stop> AnewSearch<'a, S> {
             takers: &[],
         };
         let Some(part) = made_anew(alloc, problem, self.events.as_slice(), wanted)? else {
-            return Ok(PartAnswer::Unknown);
+            return Ok(Told::Nothing);
         };
         if !is_part(problem, kept, &part) {
-            return Ok(PartAnswer::Unknown);
+            return Ok(Told::Nothing);
         }
         let answer = self.answer_to(alloc, &part)?;
         Ok(answer)
@@ -311,10 +294,15 @@ impl<'a, S: Stop> AnewSearch<'a, S> {
         if !is_loose_prefix(problem, loosened, &part) {
             return Ok(false);
         }
-        match self.answer_within_rounds(alloc, &part, ROUNDS_FOR_A_BOUND)? {
-            PartAnswer::Refuted => Ok(true),
-            PartAnswer::Found(_) => Ok(false),
-            PartAnswer::Unknown => Ok(false),
+        let wish = if calls.is_empty() {
+            Wish::Bound
+        } else {
+            Wish::Group
+        };
+        match self.answer_to_wish(alloc, &part, wish)? {
+            Told::Refuted => Ok(true),
+            Told::Found(_) => Ok(false),
+            Told::Nothing => Ok(false),
         }
     }
 }
@@ -325,7 +313,7 @@ impl<'a, S: Stop> PartSearch<AnyObject> for AnewSearch<'a, S> {
         alloc: Global,
         problem: &Problem<AnyObject>,
         kept: &[usize],
-    ) -> Result<PartAnswer, AllocError> {
+    ) -> Result<Told, AllocError> {
         self.answer_to_part(alloc, problem, kept)
     }
 
@@ -336,7 +324,16 @@ impl<'a, S: Stop> PartSearch<AnyObject> for AnewSearch<'a, S> {
         call: usize,
         calls: &[usize],
     ) -> Result<bool, AllocError> {
-        self.has_none_with(alloc, problem, call, calls)
+        let looks = looks_at(&self.untold, calls);
+        self.take(looks / LOOKS_FOR_A_LIFT);
+        if self.untold.has(call, calls) {
+            return Ok(false);
+        }
+        let none = self.has_none_with(alloc, problem, call, calls)?;
+        if !none {
+            self.untold.add(alloc, call, calls)?;
+        }
+        Ok(none)
     }
 
     fn may_go_on(&mut self, looks: u64) -> bool {

@@ -11,12 +11,11 @@ ghost use Rattle.lin_parts.specs.Parts.{IsFilled, named};
 ghost use Rattle.lin_prefixes.specs.Prefixes.{IsBeaten, IsRunWithout};
 
 use crate::call_lists::{beats, kept_calls};
-use crate::part_answer::PartAnswer;
 use crate::part_search::PartSearch;
 use lin_history::{Order, Problem};
 use lin_object::{SeqObject, lawful};
 use lin_parts::{fill, with_names};
-use lin_search::{Config, Longest, Path};
+use lin_search::{Config, Longest, Path, Told};
 use std::alloc::{AllocError, Global};
 
 // Whether the call is left, and none that is left precedes it.
@@ -134,9 +133,9 @@ pub(crate) fn try_part<O: SeqObject, S: PartSearch<O>>(
     }
     let kept = kept_calls(alloc, call, dropped)?;
     let order = match search.least_of_part(alloc, problem, kept.as_slice())? {
-        PartAnswer::Found(order) => order,
-        PartAnswer::Refuted => return Ok(true),
-        PartAnswer::Unknown => return Ok(false),
+        Told::Found(order) => order,
+        Told::Refuted => return Ok(true),
+        Told::Nothing => return Ok(false),
     };
     let Some(run) = full_order(alloc, kept.as_slice(), order)? else {
         return Ok(false);

@@ -160,7 +160,8 @@ fn few_in_conflict<O: SeqObject, S: PartSearch<O>>(
     Ok(few)
 }
 
-/// Adds a conflict among these calls, where one is known: as few of them as still are one.
+/// Adds a conflict among these calls, where one is known: as few of them as still are one. Of no calls it is not asked: a try of
+/// what is left without the open calls tells as much.
 pub(crate) fn add_conflict<O: SeqObject, S: PartSearch<O>>(
     alloc: Global,
     problem: &Problem<O>,
@@ -176,7 +177,7 @@ pub(crate) fn add_conflict<O: SeqObject, S: PartSearch<O>>(
         (IsConflict (problem_of O.after O.State.eq O.Reply.eq problem.now) call)
         conflicts.new.items) }
 {
-    if !search.has_no_run_with(alloc, problem, call, calls)? {
+    if calls.is_empty() || !search.has_no_run_with(alloc, problem, call, calls)? {
         return Ok(());
     }
     let few = few_in_conflict(alloc, problem, search, call, calls)?;
@@ -200,7 +201,10 @@ fn add_single_conflicts<O: SeqObject, S: PartSearch<O>>(
         (IsConflict (problem_of O.after O.State.eq O.Reply.eq problem.now) call)
         conflicts.new.items) }
 {
-    if calls.len() <= 1 {
+    if calls.is_empty() {
+        return Ok(());
+    }
+    if calls.len() == 1 {
         return add_known(alloc, problem, search, call, calls, conflicts);
     }
     if !search.has_no_run_with(alloc, problem, call, calls)? {

@@ -4,7 +4,7 @@
 ghost use Rattle.std.specs.Prelude.{◌≡◌, ◌<◌, ℕ, List, IfOk, IsTrue, length};
 ghost use Rattle.lin_history.specs.Problems.Precedence.{Before, IsCompleted};
 ghost use Rattle.lin_history.specs.Problems.Linearizations.{IsLinearization};
-ghost use Rattle.lin_ahead.specs.AnyProblem.{any_problem};
+ghost use Rattle.lin_history.specs.Problems.AnyProblem.{any_problem};
 ghost use Rattle.lin_ahead.specs.Behind.{AreOtherNeeds};
 
 use lin_history::{NeedRows, Problem, ProblemEvent};

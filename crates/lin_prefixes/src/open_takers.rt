@@ -3,7 +3,7 @@
 ghost use Rattle.std.specs.Prelude.{◌≡◌, ◌<◌, ℕ, ℤ, Some, [], IsTrue, length};
 ghost use Rattle.lin_object.specs.declared.state.ObjState.TheVariants.{Queue};
 ghost use Rattle.lin_history.specs.Problems.Lists.{In};
-ghost use Rattle.lin_ahead.specs.AnyProblem.{any_problem};
+ghost use Rattle.lin_history.specs.Problems.AnyProblem.{any_problem};
 ghost use Rattle.lin_ahead.specs.Queue.{Puts, Took};
 ghost use Rattle.lin_prefixes.specs.Freed.{AreTakers, Dequeued, IsFreed};
 

@@ -6,9 +6,9 @@ ghost use Rattle.lin_parts.specs.Parts.{IsRising};
 ghost use Rattle.lin_prefixes.specs.Prefixes.{HasNoRunWith};
 ghost use Rattle.lin_prefixes.specs.PartAnswer.{IsPartAnswer};
 
-use crate::part_answer::PartAnswer;
 use lin_history::Problem;
 use lin_object::SeqObject;
+use lin_search::Told;
 use std::alloc::{AllocError, Global};
 
 /// A search that is asked for parts of a problem. It may end for whatever reason with nothing known, as where it has made
@@ -23,7 +23,7 @@ pub trait PartSearch<O: SeqObject> {
         alloc: Global,
         problem: &Problem<O>,
         kept: &[usize],
-    ) -> Result<PartAnswer, AllocError>
+    ) -> Result<Told, AllocError>
         requires rises { IsRising kept.now }
         requires within { (c : ℕ) → In c kept.now → c < length problem.now.calls }
         ensures { IfOk result (IsPartAnswer (problem_of O.after O.State.eq O.Reply.eq problem.now)

@@ -1,13 +1,14 @@
 //! Parts of a problem of the seven kinds, made anew by their events. Nothing is proved of how they are made: each part is
 //! compared with the whole, call by call.
 ghost use Rattle.std.specs.Prelude.{◌≡◌, ◌⊎◌, ◌+◌, ◌<◌, ◌≤◌, ◌^◌, ℕ, None, Some, IfOk, IfSome, IsTrue, IsSome, IsSomeAnd, length, slice_get, slice_index};
-ghost use Rattle.lin_ahead.specs.AnyProblem.{any_problem};
+ghost use Rattle.lin_history.specs.Problems.AnyProblem.{any_problem};
 ghost use Rattle.lin_prefixes.specs.Freed.{IsLoosened, IsLoosePrefix};
 
 use crate::call_lists::has_call;
 use crate::open_takers::{are_takers, may_be_freed};
 use lin_history::{Problem, ProblemCall, ProblemEvent};
 use lin_object::{AnyObject, Op, Reply, SeqObject};
+use lin_parts::same_call;
 use std::alloc::{AllocError, Global};
 
 // Whether both calls are the same but for their returns.
@@ -17,46 +18,6 @@ fn same_start(a: &ProblemCall<Op, Reply>, b: &ProblemCall<Op, Reply>) -> bool
     ensures called { IsTrue result → a.now.called ≡ b.now.called }
 {
     a.process == b.process && a.op == b.op && a.called == b.called
-}
-
-// Whether both are pending, or returned at one number with the same reply.
-fn same_return(a: &Option<(u32, Reply)>, b: &Option<(u32, Reply)>) -> bool
-    ensures { IsTrue result → a.now ≡ b.now }
-{
-    match (a, b) {
-        (None, None) => true,
-        (Some((m, r)), Some((n, s))) => *m == *n && *r == *s,
-        (None, Some(_)) => false,
-        (Some(_), None) => false,
-    }
-}
-
-// Whether both calls are the same.
-fn same_call(a: &ProblemCall<Op, Reply>, b: &ProblemCall<Op, Reply>) -> bool
-    ensures { IsTrue result → a.now ≡ b.now }
-{
-    same_start(a, b) && same_return(&a.returned, &b.returned)
-}
-
-// Whether the problem has just these calls.
-pub(crate) fn is_part(
-    problem: &Problem<AnyObject>,
-    kept: &[usize],
-    part: &Problem<AnyObject>,
-) -> bool
-    ensures count { IsTrue result → length part.now.calls ≡ length kept.now }
-    ensures same { IsTrue result → (i : ℕ) → i < length kept.now
-        → slice_get part.now.calls i ≡ slice_get problem.now.calls (slice_index kept.now i) }
-{
-    if part.len() != kept.len() {
-        return false;
-    }
-    for i in 0..kept.len() {
-        if kept[i] >= problem.len() || !same_call(part.call(i), problem.call(kept[i])) {
-            return false;
-        }
-    }
-    true
 }
 
 /// The calls up to one, those of them that are to stay as they are, though they do not precede it, and the dequeues that are to

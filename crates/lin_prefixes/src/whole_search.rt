@@ -1,31 +1,30 @@
 //! The search of a whole problem by its prefixes.
 
 ghost use Rattle.std.specs.Prelude.{IfOk, IfSome};
-ghost use Rattle.lin_ahead.specs.AnyProblem.{any_problem};
+ghost use Rattle.lin_history.specs.Problems.AnyProblem.{any_problem};
 ghost use Rattle.lin_history.specs.Problems.Linearizations.{IsRun};
 ghost use Rattle.lin_search.specs.LongestRun.{IsFirstLongest};
-ghost use Rattle.lin_prefixes.specs.PartAnswer.{IsAnswerTo};
+ghost use Rattle.lin_search.specs.Told.{IsRightOf};
 ghost use Rattle.lin_prefixes.specs.WholeAnswer.{IsWholeAnswer};
 
 use crate::anew_search::AnewSearch;
 use crate::by_prefixes::longest_by_prefixes;
-use crate::part_answer::PartAnswer;
 use crate::whole_answer::WholeAnswer;
 use lin_history::{Order, Problem};
 use lin_object::AnyObject;
-use lin_search::Stop;
+use lin_search::{Stop, Told};
 use std::alloc::{AllocError, Global};
 
 /// What searches of the problem show that may make so many lifts together, each more than the one before: its least linearization; or
 /// that it has none; or nothing, where that would have taken more lifts, or where the stop answered. The stop is asked before each
-/// search, and before each 4,096th lift of one that keeps what it refuted. `AllocError` where memory was refused.
+/// search, and at each 256th lift or step of one. `AllocError` where memory was refused.
 pub fn search_in_rounds<S: Stop>(
     alloc: Global,
     problem: &Problem<AnyObject>,
     lifts: u64,
     stop: &mut S,
-) -> Result<PartAnswer, AllocError>
-    ensures { IfOk result (IsAnswerTo (any_problem problem.now)) }
+) -> Result<Told, AllocError>
+    ensures { IfOk result (IsRightOf (any_problem problem.now)) }
 {
     let mut search = AnewSearch::new(alloc, problem, lifts, stop)?;
     let answer = search.answer_to(alloc, problem)?;
@@ -53,7 +52,7 @@ pub fn longest_run_by_prefixes<S: Stop>(
 /// problems for their least linearizations. `None` where all these searches together would have made more lifts than so
 /// many, where the stop answered, or where that is not known: where a pending call of the longest run has no step, or where that run
 /// lacks more than 256 of the calls that are open at its end. Work that makes no lifts counts as some. The stop is asked before each
-/// search and in the work between two, and before each 4,096th lift of one that keeps what it refuted. No configuration is kept from
+/// search and in the work between two, and at each 256th lift or step of one. No configuration is kept from
 /// one search to the next. `AllocError` where memory was refused.
 ///
 /// It is quick where something is known ahead of the problem (`known_ahead`) and its searches so come to an end soon: a
@@ -68,9 +67,9 @@ pub fn search_by_prefixes<S: Stop>(
 {
     let mut search = AnewSearch::new(alloc, problem, lifts, stop)?;
     match search.answer_to(alloc, problem)? {
-        PartAnswer::Found(order) => Ok(Some(WholeAnswer::Found(order))),
-        PartAnswer::Unknown => Ok(None),
-        PartAnswer::Refuted => {
+        Told::Found(order) => Ok(Some(WholeAnswer::Found(order))),
+        Told::Nothing => Ok(None),
+        Told::Refuted => {
             let run = longest_by_prefixes(alloc, problem, &mut search)?;
             Ok(run.map(WholeAnswer::Refuted))
         }

@@ -1,5 +1,5 @@
 use Rattle.std.proofs.lemmas.Bool.{ltb-true}
-use Rattle.lin_ahead.specs.AnyProblem.{any_problem}
+use Rattle.lin_history.specs.Problems.AnyProblem.{any_problem}
 use Rattle.lin_prefixes.proofs.CrossedLemmas.{crossed_none}
 use Rattle.lin_prefixes.proofs.crossed_calls.crosses.Goals as goal
 

@@ -1,5 +1,5 @@
 use Rattle.std.proofs.Common.{ℕ, get_or, inr, refl, arith}
-use Rattle.lin_ahead.specs.AnyProblem.{any_problem}
+use Rattle.lin_history.specs.Problems.AnyProblem.{any_problem}
 use Rattle.lin_prefixes.specs.Freed.{Dequeued}
 use Rattle.lin_prefixes.proofs.ListLemmas.{each_next, each_end}
 use Rattle.lin_prefixes.proofs.open_takers.are_takers.Goals as goal

@@ -1,6 +1,6 @@
 use Rattle.std.proofs.Common.{ℕ, drop, ◌⊎◌}
 use Rattle.lin_history.specs.Problems.Lists.{In}
-use Rattle.lin_ahead.specs.AnyProblem.{any_problem}
+use Rattle.lin_history.specs.Problems.AnyProblem.{any_problem}
 use Rattle.lin_prefixes.specs.Freed.{Dequeued}
 use Rattle.lin_prefixes.proofs.open_takers.are_takers.Given as goal
 

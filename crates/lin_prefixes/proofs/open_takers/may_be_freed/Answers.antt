@@ -1,6 +1,6 @@
 use Rattle.std.proofs.Common.{◌≡◌, inl, inr, sym, ◌∙◌, true≢false, subst, rules, w64, to_z, of_z}
 use Rattle.std.specs.Prelude.{ℤ}
-use Rattle.lin_ahead.specs.AnyProblem.{any_problem}
+use Rattle.lin_history.specs.Problems.AnyProblem.{any_problem}
 use Rattle.lin_ahead.specs.Queue.{Took}
 use Rattle.lin_prefixes.proofs.open_takers.may_be_freed.Goals as goal
 

@@ -1,6 +1,6 @@
 use Rattle.std.proofs.Common.{◌≡◌, ℕ, get_or, refl, sym, ◌∙◌, true≢false, subst, arith, rules, w64, to_z, of_z}
 use Rattle.std.specs.Prelude.{ℤ}
-use Rattle.lin_ahead.specs.AnyProblem.{any_problem}
+use Rattle.lin_history.specs.Problems.AnyProblem.{any_problem}
 use Rattle.lin_ahead.specs.Queue.{Took}
 use Rattle.lin_prefixes.proofs.ListLemmas.{each_next, each_end}
 use Rattle.lin_prefixes.proofs.open_takers.some_may_have_taken.Goals as goal

@@ -1,6 +1,6 @@
 use Rattle.std.proofs.Common.{ℕ, drop, ◌⊎◌}
 use Rattle.lin_history.specs.Problems.Lists.{In}
-use Rattle.lin_ahead.specs.AnyProblem.{any_problem}
+use Rattle.lin_history.specs.Problems.AnyProblem.{any_problem}
 use Rattle.lin_ahead.specs.Queue.{Took}
 use Rattle.lin_prefixes.proofs.open_takers.some_may_have_taken.Given as goal
 

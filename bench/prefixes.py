@@ -1,0 +1,190 @@
+#!/usr/bin/env python3
+"""Compares what searches of prefixes tell with all orders.
+
+    bench/prefixes.py [--program PROGRAM] [--count COUNT] [--seed SEED] [--keep FOLDER]
+
+Builds `bench/prefixes.program` by `bin/build_unproved.py` (two minutes), unless it is given, and asks it of each history at once,
+with no other search before. The histories are random: of a register, a queue, a stack, a set and a map, on one to three keys, with
+many calls at once and some that never return. Of most, two to five replies in a row are wrong. So there are ties between the calls
+at which a run may end, and between those that it may leave out. The least linearization, or else the first longest run, is found
+by all orders. Prints how many histories of each kind had none, by how many of its completed calls the longest run lacks; and each that
+differs. With --keep the histories that differ are kept.
+"""
+import argparse
+import collections
+import functools
+import random
+import subprocess
+import sys
+import tempfile
+from pathlib import Path
+
+BENCH = Path(__file__).resolve().parent
+sys.path[:0] = [str(BENCH), str(BENCH.parent / "bin")]
+from explanations import PENDING, START, precedes, read, same, step
+
+KINDS = ["register", "queue", "stack", "set", "map"]
+AT_ONCE = 500  # files of one run of the program
+OKAY = {"ok": '"ok"', "empty": "null", True: "true", False: "false"}
+
+
+def orders(kind, start, calls):
+    """The least linearization, or None; and the first longest run. Both by all orders, with what was seen kept."""
+    before = [{b for b, other in enumerate(calls) if precedes(other, call)} for call in calls]
+    completed = {c for c, call in enumerate(calls) if call["returned"] is not PENDING}
+
+    def nexts(lifted, state):
+        for c, call in enumerate(calls):
+            if c not in lifted and before[c] <= lifted:
+                answer = step(kind, state, call["process"], call["op"], call["args"])
+                if answer is not None and (c not in completed or same(answer[1], call["returned"][1])):
+                    yield c, lifted | {c}, answer[0]
+
+    @functools.cache
+    def least(lifted, state):
+        if completed <= lifted:
+            return ()
+        for c, after, new in nexts(lifted, state):
+            rest = least(after, new)
+            if rest is not None:
+                return (c, *rest)
+        return None
+
+    @functools.cache
+    def longest(lifted, state):
+        best = ()
+        for c, after, new in nexts(lifted, state):
+            rest = longest(after, new)
+            if len(rest) + 1 > len(best):
+                best = (c, *rest)
+        return best
+
+    order = least(frozenset(), start)
+    return order, longest(frozenset(), start) if order is None else None
+
+
+def draw(chance, kind, keys, values, number):
+    """A call."""
+    key, value = chance.randrange(keys), chance.randrange(values) if values else number
+    ops = {
+        "register": [("write", [value]), ("read", []), ("read", []), ("cas", [chance.randrange(3), value])],
+        "queue": [("enq", [value]), ("deq", [])],
+        "stack": [("push", [value]), ("pop", [])],
+        "set": [("add", [key]), ("remove", [key]), ("contains", [key])],
+        "map": [("put", [key, value]), ("put", [key, value]), ("get", [key]), ("get", [key]), ("delete", [key])],
+    }
+    return chance.choice(ops[kind])
+
+
+def wrong(chance, op, reply, seen):
+    """Another reply that the call could have by its form."""
+    if isinstance(reply, bool):
+        return not reply
+    if reply == "ok":
+        return reply
+    others = [value for value in [*seen, -1, *(["empty"] if op in ("deq", "pop", "get") else [])] if not same(value, reply)]
+    return chance.choice(others)
+
+
+def events_of(chance, kind):
+    """The events of simulated calls: process, operation, arguments, and the reply of a return."""
+    processes, count, keys = chance.randrange(2, 7), chance.randrange(5, 13), chance.randrange(1, 4)
+    values, state = chance.choice([0, 2, 3]), START[kind]
+    events, called, done, made = [], {}, {}, 0
+    stopped = set(chance.sample(range(processes), chance.choice([0, 0, 1, 2]) if processes > 2 else 0))
+    while made < count or (set(called) | set(done)) - stopped:
+        process = chance.randrange(processes)
+        if process in called and (process not in stopped or chance.random() < 0.5):
+            op, args = called.pop(process)
+            state, reply = step(kind, state, process, op, args)
+            done[process] = op, args, reply
+        elif process in done and process not in stopped:
+            events.append((process, *done.pop(process)))
+        elif process not in called and process not in done and made < count:
+            made += 1
+            called[process] = draw(chance, kind, keys, values, made)
+            events.append((process, *called[process], None))
+        elif made < count and not set(range(processes)) - stopped - set(called) - set(done) and stopped >= set(called) | set(done):
+            break
+    return events
+
+
+def history(chance, kind):
+    """A history's text."""
+    events = events_of(chance, kind)
+    told = [place for place, event in enumerate(events) if event[3] is not None and event[3] != "ok"]
+    count = chance.choice([0, 1, 2, 2, 3, 3, 4, 5])
+    first = chance.randrange(max(1, len(told) - count + 1))
+    seen = [event[3] for event in events if isinstance(event[3], int) and not isinstance(event[3], bool)]
+    for place in told[first : first + count]:
+        process, op, args, reply = events[place]
+        events[place] = process, op, args, wrong(chance, op, reply, seen)
+    lines = [f'{{"event":"object","object":"x","kind":"{kind}"}}\n']
+    for process, op, args, reply in events:
+        if reply is None:
+            shown = f',"args":{args}' if args else ""
+            lines.append(f'{{"event":"call","process":{process},"object":"x","op":"{op}"{shown}}}\n')
+        else:
+            shown = str(reply) if isinstance(reply, int) and not isinstance(reply, bool) else OKAY[reply]
+            lines.append(f'{{"event":"return","process":{process},"object":"x","result":{shown}}}\n')
+    return "".join(lines)
+
+
+def line(kind, start, calls):
+    """What the program is to print, and how many completed calls the run lacks."""
+    order, run = orders(kind, start, calls)
+    if order is not None:
+        return " ".join(["order", *map(str, order)]), None
+    lacking = sum(call["returned"] is not PENDING for c, call in enumerate(calls) if c <= max(run, default=-1) and c not in run)
+    return " ".join(["run", *map(str, run)]), lacking
+
+
+def compare(program, texts, folder, tally):
+    """Compares what is told of these histories."""
+    files = []
+    for number, text in texts:
+        files.append(Path(folder) / f"{number}.jsonl")
+        files[-1].write_text(text)
+    said = subprocess.run([program, *files], capture_output=True, text=True, check=True).stdout.splitlines()
+    if len(said) != len(files):
+        sys.exit(f"{len(said)} answers to {len(files)} histories")
+    for file, (_, text), answer in zip(files, texts, said):
+        ((_, kind, start, calls),) = read(text)
+        wanted, lacking = line(kind, start, calls)
+        tally[kind, lacking] += 1
+        if answer == wanted:
+            file.unlink()
+        else:
+            tally["differ"] += 1
+            print(f"{file}: {answer}, and by all orders {wanted}")
+
+
+def main():
+    words = argparse.ArgumentParser(description=__doc__, formatter_class=argparse.RawDescriptionHelpFormatter)
+    words.add_argument("--program")
+    words.add_argument("--count", type=int, default=10_000)
+    words.add_argument("--seed", type=int, default=1)
+    words.add_argument("--keep")
+    asked = words.parse_args()
+    chance, tally = random.Random(asked.seed), collections.Counter()
+    with tempfile.TemporaryDirectory() as folder:
+        program = asked.program
+        if program is None:
+            import build_unproved
+
+            program = Path(folder) / "prefixes"
+            build_unproved.build(program, BENCH / "prefixes.program")
+        for first in range(0, asked.count, AT_ONCE):
+            numbers = range(first, min(first + AT_ONCE, asked.count))
+            texts = [(number, history(chance, KINDS[number % len(KINDS)])) for number in numbers]
+            compare(program, texts, asked.keep or folder, tally)
+    for kind in KINDS:
+        lacking = {d: tally[kind, d] for d in range(20) if tally[kind, d]}
+        print(f"{kind}: {tally[kind, None]} with an order; runs by how many completed calls they lack: {lacking}")
+    refuted = sum(count for key, count in tally.items() if key != "differ" and key[1] is not None)
+    print(f"{asked.count} histories, {refuted} without an order, {tally['differ']} differ")
+    return 1 if tally["differ"] else 0
+
+
+if __name__ == "__main__":
+    sys.exit(main())
