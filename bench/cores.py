@@ -6,7 +6,7 @@
 
 Builds `bench/cores.program` by `bin/build_unproved.py` (two minutes), unless it is given, and runs it on each history. All orders of
 a core's calls are tried: there may be none. The calls left out may not be needed: each is none of the core's values, or changes
-nothing. A core can't be smaller: cut at an earlier return, without one of its values or without one call that changes nothing, its
+nothing, or precedes the first, which begins anew. A core can't be smaller: cut at an earlier return, without one of its values or without one call that changes nothing, its
 calls have an order. Of small histories all orders of the whole are tried too: one with an order may have no core. Prints how
 many cores have how many calls, and each object without an order of which no core was found.
 """
@@ -107,6 +107,17 @@ def may_go(kind, call, values, at):
     return is_idle(kind, call) or where not in ("any", None) and where not in values
 
 
+def begins_anew(kind, start, calls, kept, values, before):
+    """Whether the first call that is kept begins anew, behind these calls and before the other ones."""
+    first = calls[kept[0]]
+    anew = kind == "register" and first["op"] == "write"
+    anew |= kind == "map" and first["op"] == "put" and values == {first["args"][0]}
+    anew |= kind == "set" and first["op"] == "add" and values == {first["args"][0]} and first["args"][0] not in start and (
+        first["returned"] is not PENDING and first["returned"][1] is True
+    )
+    return anew and all(precedes(c, first) for c in before) and all(precedes(first, calls[k]) for k in kept[1:])
+
+
 def smaller(kind, calls, kept, event, values, at):
     """The selections next smaller than this one: calls and an event."""
     returns = sorted(c["returned"][0] for c in (calls[k] for k in kept) if c["returned"] is not PENDING)
@@ -135,7 +146,8 @@ def check(kind, start, calls, core):
     if has_order(kind, start, part):
         return "its calls have an order"
     others = [c for k, c in enumerate(calls) if k not in kept and c["called"] <= event]
-    if kind != "mutex" and not all(may_go(kind, c, values, at) for c in others):
+    needed = [c for c in others if not may_go(kind, c, values, at)]
+    if kind != "mutex" and needed and not begins_anew(kind, start, calls, kept, values, needed):
         return "a call that it needs is left out"
     for less, earlier in smaller(kind, calls, kept, event, values, at):
         if not has_order(kind, start, [cut(calls[k], earlier) for k in less]):

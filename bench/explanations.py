@@ -268,11 +268,59 @@ def core_lines(answer):
     return lines[1:end]
 
 
+WRITES = {"write": 0, "cas": 1, "enq": 0, "push": 0}
+
+
+def values_of(call):
+    """The values that a call writes, puts in or returned with, as it is told."""
+    at = WRITES.get(call["op"])
+    written = [] if at is None else [call["args"][at]]
+    got = [] if call["returned"] is PENDING or call["op"] not in ("read", "deq", "pop") else [call["returned"][1]]
+    return set(written + [value for value in got if type(value) is int])
+
+
+def begin(kind, core):
+    """The line from which on the other calls matter: 0, or that of a first call which gives anew and returned before the second."""
+    first, *more = core
+    gives = first["op"] in ("write", "put") or kind == "set" and first["op"] == "add" and first["returned"] is not PENDING and first["returned"][1] is True
+    return first["lines"][0] if more and gives and first["returned"] is not PENDING and first["lines"][1] < more[0]["lines"][0] else 0
+
+
+def has_step(call):
+    """Whether the reply of a call is of its operation's shape: else no order has it."""
+    reply = call["returned"][1]
+    if call["op"] in ("write", "enq", "push"):
+        return reply == "ok"
+    return type(reply) is bool if call["op"] in ("cas", "remove", "contains") else True
+
+
+def others(kind, core, calls, since, until):
+    """What is said of the other calls that were called up to a line and not over before another, or that it is not so."""
+    rest = [call for call in calls if call["lines"][0] <= until and call["called"] not in {one["called"] for one in core}]
+    rest = [call for call in rest if call["returned"] is PENDING or call["lines"][1] > since and has_step(call)]
+    values = set().union(*map(values_of, core))
+    if kind in ("queue", "stack"):
+        return "puts or takes such an item" if not any(values_of(call) & values for call in rest) else None
+    if kind == "register" and "cas" not in [call["op"] for call in core]:
+        swaps = [call for call in rest if call["op"] == "cas" and call["args"][0] != call["args"][1]]
+        swapped = {call["args"][1] for call in swaps if call["returned"] is PENDING or call["returned"][1] is True}
+        written = swapped | {call["args"][0] for call in rest if call["op"] == "write"}
+        return "writes such a value" if not written & values else None
+    if kind == "counter":
+        return "changes the counter" if all(call["op"] == "get" or call["args"] == [0] for call in rest) else None
+    if kind == "set":
+        items = {call["args"][0] for call in core}
+        changing = [call for call in rest if call["args"][0] in items and call["op"] != "contains" and (call["returned"] is PENDING or call["returned"][1] is not False)]
+        return "adds or removes such an item" if not changing else None
+    return "helps"
+
+
 def is_core(name, kind, start, calls, lines):
     """Whether the lines name calls of the object in the order of their call events, each as it stood after some event, which alone have
-    no order; and the key that they are on."""
+    no order; the key that they are on; and what no other call does."""
     if not lines:
         return True
+    *lines, end = lines
     head, told = CORE_HEAD.fullmatch(lines[0]), [CORE_CALL.fullmatch(line) for line in lines[1:]]
     if head is None or None in told:
         return False
@@ -288,6 +336,10 @@ def is_core(name, kind, start, calls, lines):
     keys = {call["args"][0] for call in core} if kind in ("map", "set") else set()
     key = str(*keys) if len(keys) == 1 else None
     is_told_so = text == lines[1:] and (head[1], head[3]) == ((None, "has") if len(core) == 1 else (str(len(core)), "have")) and head[2] == key
+    last = max(max(call["lines"][0], call["lines"][-1] if call["returned"] is not PENDING else 0) for call in core)
+    since = begin(kind, core)
+    lines_told = f"from line {since} to line {last}" if since else f"up to line {last}"
+    is_told_so = is_told_so and end == f"no other call {lines_told} {others(kind, core, calls, since, last)}"
     is_in_order = [call["called"] for call in core] == sorted({call["called"] for call in core})
     return is_told_so and is_in_order and all(until < returned for returned in after) and not has_order(kind, start, core)
 

@@ -22,7 +22,7 @@ use Rattle.lin_history.specs.ReplyLemmas.{reply_same}
 use Rattle.lin_history.specs.Problems.Problem.{Problem}
 use Rattle.lin_history.specs.Problems.ProblemParts.{ProblemParts}
 use Rattle.lin_history.specs.Problems.LegalLists.{fits, state_if_fits}
-use Rattle.lin_ahead.specs.AnyProblem.{any_problem}
+use Rattle.lin_history.specs.Problems.AnyProblem.{any_problem}
 use Rattle.lin_core.specs.KeyValues.{is_known, tells, may_tell, is_on_key, is_off_key, IsOnKey, IsOffKey, IsMap, KeyValuesLaw}
 use Rattle.lin_core.proofs.CutLemmas.{left}
 use Rattle.lin_core.proofs.LawLemmas.{fitting}

@@ -1,25 +1,30 @@
 //! Looking for a core: first where practice has its faults, then wherever a search of some calls finds that they have no order.
 
 ghost use Rattle.std.specs.Prelude.{◌≡◌, IfOk, IfSome};
-ghost use Rattle.lin_ahead.specs.AnyProblem.{any_problem};
+ghost use Rattle.lin_history.specs.Problems.AnyProblem.{any_problem};
 ghost use Rattle.lin_core.specs.Cores.{IsCoreOf, HasNone};
 
 use crate::call_index::{CallIndex, selection_of, with_sources};
 use crate::item_faults::{item_faults, list_of};
+use crate::item_times::return_of;
 use crate::judge::{Judge, lifts_for};
 use crate::key_faults::forgotten;
-use crate::lock_faults::two_holders;
-use crate::part_search::PartAnswer;
+use crate::lock_faults::{around_try, tries_in_vain, two_holders};
 use crate::refuted_part::{Core, core_of_calls};
 use crate::selection::{MapKey, Selection};
-use crate::smaller::{make_smaller, rounds_but_for, without_rounds};
+use crate::smaller::{from_anew, make_smaller, rounds_but_for, without_rounds};
 use crate::value_faults::value_faults;
 use lin_history::Problem;
 use lin_object::{AnyObject, ObjState};
+use lin_search::Told;
 use std::alloc::{AllocError, Global};
 
 // An event after every other.
 const THE_END: u32 = u32::MAX;
+
+// How many calls a reader takes in at once: so few are told with what came before them, as the write of a value that is found
+// later.
+const FEW_CALLS: usize = 8;
 
 // How many keys without an order are compared, of which the one with the fewest calls is taken.
 const MOST_KEYS: usize = 8;
@@ -119,13 +124,13 @@ impl<'a> Finder<'a> {
                 .judge
                 .answer(alloc, selection.calls.as_slice(), selection.event)?
             {
-                PartAnswer::Refuted => return Ok(Some(selection)),
-                PartAnswer::Unknown if values.len() > 1 && !self.judge.is_tired() => {
+                Told::Refuted => return Ok(Some(selection)),
+                Told::Nothing if values.len() > 1 && !self.judge.is_tired() => {
                     for half in values.as_slice().chunks(values.len() - values.len() / 2) {
                         families.push(list_of(alloc, half)?)?;
                     }
                 }
-                PartAnswer::Unknown | PartAnswer::Found => {}
+                Told::Nothing | Told::Found(_) => {}
             }
         }
         Ok(None)
@@ -210,6 +215,33 @@ impl<'a> Finder<'a> {
         }
     }
 
+    // A `try_lock` that answered 'no', with the calls that may hold the mutex meanwhile, which are refuted: as they stood when it
+    // returned, or in the end.
+    fn refuted_try(&mut self, alloc: Global) -> Result<Option<Selection>, AllocError> {
+        let tries = tries_in_vain(alloc, self.problem)?;
+        for try_lock in &tries {
+            let event = match self.problem.calls().get(*try_lock) {
+                Some(call) => return_of(call),
+                None => THE_END,
+            };
+            for event in [event, THE_END] {
+                let around = around_try(alloc, self.problem, *try_lock, event)?;
+                if self.judge.refutes_selection(alloc, &around)? {
+                    return Ok(Some(around));
+                }
+            }
+        }
+        Ok(None)
+    }
+
+    // A mutex that two processes held at one moment, or that was refused to one while it was free.
+    fn refuted_lock(&mut self, alloc: Global) -> Result<Option<Selection>, AllocError> {
+        match self.refuted_holders(alloc)? {
+            Some(selection) => Ok(Some(selection)),
+            None => self.refuted_try(alloc),
+        }
+    }
+
     // Values with a fault as practice has it, on which the calls are refuted.
     fn refuted_by_fault(&mut self, alloc: Global) -> Result<Option<Selection>, AllocError> {
         let lists = match self.problem.start() {
@@ -218,7 +250,7 @@ impl<'a> Finder<'a> {
             ObjState::Register(start) => {
                 value_faults(alloc, self.problem, &self.index, Some(*start))?
             },
-            ObjState::Mutex(_) => return self.refuted_holders(alloc),
+            ObjState::Mutex(_) => return self.refuted_lock(alloc),
             _ => return Ok(None),
         };
         self.first_refuted(alloc, lists.as_slice())
@@ -236,22 +268,42 @@ impl<'a> Finder<'a> {
         }
     }
 
-    // The same, made as small as can be.
-    fn smallest(&mut self, alloc: Global) -> Result<Option<Selection>, AllocError> {
+    // The selection from its last call on that begins anew, and first the same made as small as can be; nothing where no such call
+    // leaves calls that are refuted.
+    fn anew(&mut self, alloc: Global, selection: &Selection) -> Result<Vec<Selection>, AllocError> {
+        let mut found = Vec::new(alloc);
+        let Some(less) = from_anew(alloc, self.problem, &mut self.judge, selection)? else {
+            return Ok(found);
+        };
+        let mut least = less.copied(alloc)?;
+        make_smaller(alloc, self.problem, &mut self.judge, &mut least)?;
+        found.push(least)?;
+        found.push(less)?;
+        Ok(found)
+    }
+
+    // The same, made as small as can be: where it has many calls also from a call on that begins anew, which comes first.
+    fn smallest(&mut self, alloc: Global) -> Result<Vec<Selection>, AllocError> {
         let Some(mut selection) = self.refuted(alloc)? else {
-            return Ok(None);
+            return Ok(Vec::new(alloc));
         };
         make_smaller(alloc, self.problem, &mut self.judge, &mut selection)?;
-        Ok(Some(selection))
+        let mut found = if selection.key.is_none() && selection.calls.len() > FEW_CALLS {
+            self.anew(alloc, &selection)?
+        } else {
+            Vec::new(alloc)
+        };
+        found.push(selection)?;
+        Ok(found)
     }
 }
 
-// Some calls that a search finds to have no linearization, made as few as can be.
-fn selection_found(
+// Some calls that a search finds to have no linearization, made as few as can be: the fewest first.
+fn selections_found(
     alloc: Global,
     problem: &Problem<AnyObject>,
     work: u64,
-) -> Result<Option<Selection>, AllocError> {
+) -> Result<Vec<Selection>, AllocError> {
     let calls: Vec<usize> = (0..problem.len()).collect(alloc)?;
     let index = CallIndex::new(alloc, problem, calls.as_slice(), None)?;
     let judge = Judge::new(problem, work);
@@ -277,11 +329,11 @@ pub fn core_of(
         IsCoreOf (any_problem problem.now) core.event core.key core.values.items core.calls.items core.firsts.items)) }
     ensures none { IfOk result (λ answer. IfSome answer (λ core. HasNone (any_problem problem.now))) }
 {
-    match selection_found(alloc, problem, work)? {
-        Some(selection) => {
-            let lifts = lifts_for(selection.calls.len());
-            core_of_calls(alloc, problem, selection, lifts)
+    for selection in selections_found(alloc, problem, work)? {
+        let lifts = lifts_for(selection.calls.len());
+        if let Some(core) = core_of_calls(alloc, problem, selection, lifts)? {
+            return Ok(Some(core));
         }
-        None => Ok(None),
     }
+    Ok(None)
 }

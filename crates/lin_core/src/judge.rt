@@ -2,10 +2,11 @@
 //! the whole.
 
 use crate::part_anew::made_anew;
-use crate::part_search::{PartAnswer, answer_within, is_refuted};
+use crate::part_search::{is_refuted, told_within};
 use crate::selection::Selection;
 use lin_history::Problem;
 use lin_object::AnyObject;
+use lin_search::Told;
 use std::alloc::{AllocError, Global};
 
 // How many lifts for each call a search of a selection may make, and how many more: few calls may take that many whatever they
@@ -46,9 +47,9 @@ impl<'a> Judge<'a> {
         alloc: Global,
         calls: &[usize],
         event: u32,
-    ) -> Result<PartAnswer, AllocError> {
+    ) -> Result<Told, AllocError> {
         if self.is_tired() {
-            return Ok(PartAnswer::Unknown);
+            return Ok(Told::Nothing);
         }
         let lifts = lifts_for(calls.len());
         self.work = self
@@ -56,13 +57,13 @@ impl<'a> Judge<'a> {
             .saturating_sub(calls.len() as u64)
             .saturating_sub(1);
         let Some(part) = made_anew(alloc, self.problem, calls, event)? else {
-            return Ok(PartAnswer::Unknown);
+            return Ok(Told::Nothing);
         };
-        let answer = answer_within(alloc, &part, lifts)?;
-        if answer == PartAnswer::Unknown {
+        let told = told_within(alloc, &part, lifts)?;
+        if let Told::Nothing = told {
             self.work = self.work.saturating_sub(lifts);
         }
-        Ok(answer)
+        Ok(told)
     }
 
     /// Whether it shows that they have no linearization.
@@ -72,7 +73,7 @@ impl<'a> Judge<'a> {
         calls: &[usize],
         event: u32,
     ) -> Result<bool, AllocError> {
-        Ok(is_refuted(self.answer(alloc, calls, event)?))
+        Ok(is_refuted(&self.answer(alloc, calls, event)?))
     }
 
     /// The same of a selection.

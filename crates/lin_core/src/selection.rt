@@ -1,5 +1,7 @@
 //! Some calls of a problem, to be looked at by themselves.
 
+ghost use Rattle.std.specs.Prelude.{◌≡◌, []};
+
 use std::alloc::{AllocError, Global};
 
 /// A key of a map, of which only some values are looked at.
@@ -37,7 +39,11 @@ impl Selection {
         key: Option<MapKey>,
         values: Vec<i64>,
         calls: Vec<usize>,
-    ) -> Self {
+    ) -> Self
+        ensures given { (result.event ≡ event) × (result.key ≡ key) × (result.values ≡ values)
+            × (result.calls ≡ calls) }
+        ensures rounds { (result.firsts.items ≡ []) × (result.lasts.items ≡ []) }
+    {
         Selection {
             event,
             key,

@@ -24,7 +24,8 @@ use Rattle.lin_history.specs.Verifier.Flags.{AreKnown}
 use Rattle.lin_history.specs.Problems.LegalLists.{Legal}
 use Rattle.lin_explain.specs.declared.explanation.Explanation.{Explanation}
 use Rattle.lin_explain.specs.declared.explanation.NextCall.{NextCall}
-use Rattle.lin_explain.specs.Explanation.{judged_problem, IsExplanation}
+use Rattle.lin_history.specs.Problems.AnyProblem.{any_problem}
+use Rattle.lin_explain.specs.Explanation.{IsExplanation}
 use Rattle.lin_explain.specs.ExplanationText.{explanation_text}
 use Rattle.lin_explain.specs.RunReplies.{number_at, number_in, replies_of}
 use Rattle.lin_explain.specs.RunExplained.{object_name, numbers_of, IsExplainedBy}
@@ -99,7 +100,7 @@ module _ {Object : Type 0} (h : RecordedHistory) (object : ℕ) (p : ProblemPart
   start_same = start_there (slice_get h.objects object) p.start start
 
   -- it is the part of the history on the object
-  pub part_same : judged_problem p ≡ part_of h object
+  pub part_same : any_problem p ≡ part_of h object
   part_same = rw (start_same, calls) refl
 
 pub legal_same : {State Op Reply : Type 0} (p q : Problem State Op Reply) (s t : State) (k l : List ℕ) → p ≡ q → s ≡ t → k ≡ l → ((x : State) × Legal q t l x) → (x : State) × Legal p s k x
@@ -110,9 +111,9 @@ name_is o d e = rw e refl
 
 -- ---- the lines
 
-module _ {Object : Type 0} (h : RecordedHistory) (object : ℕ) (p : ProblemParts Object ObjState Op Reply) (part : judged_problem p ≡ part_of h object) (calls : p.calls ≡ part_calls h object) where
+module _ {Object : Type 0} (h : RecordedHistory) (object : ℕ) (p : ProblemParts Object ObjState Op Reply) (part : any_problem p ≡ part_of h object) (calls : p.calls ≡ part_calls h object) where
   -- the lines of an explanation of a run of the problem
-  pub lines_are : (name order : List ℕ) (run : List (Placed Reply)) (replies : List (Option Reply)) (lines : List ℕ) (e : Explanation) → name ≡ object_name h object → order ≡ numbers_of h run → replies ≡ replies_of h p.calls run → IsExplanation (judged_problem p) order e
+  pub lines_are : (name order : List ℕ) (run : List (Placed Reply)) (replies : List (Option Reply)) (lines : List ℕ) (e : Explanation) → name ≡ object_name h object → order ≡ numbers_of h run → replies ≡ replies_of h p.calls run → IsExplanation (any_problem p) order e
       → IsExplainedBy h object run lines (explanation_text name p.calls replies order lines e.state e.next.items)
   lines_are name order run replies lines e named same replied explained = record {
     state = e.state;
@@ -123,7 +124,7 @@ module _ {Object : Type 0} (h : RecordedHistory) (object : ℕ) (p : ProblemPart
   }
     where
       here : IsExplanation (part_of h object) (numbers_of h run) e
-      here = subst (λ (q : Problem ObjState Op Reply). IsExplanation q (numbers_of h run) e) part (subst (λ (r : List ℕ). IsExplanation (judged_problem p) r e) same explained)
+      here = subst (λ (q : Problem ObjState Op Reply). IsExplanation q (numbers_of h run) e) part (subst (λ (r : List ℕ). IsExplanation (any_problem p) r e) same explained)
 
       texts_same : {name name' : List ℕ} {l l' : List (ProblemCall Op Reply)} {replies replies' : List (Option Reply)} {run run' : List ℕ} {n n' : List NextCall} → name ≡ name' → l ≡ l' → replies ≡ replies' → run ≡ run' → (lines : List ℕ) (s : ObjState) → n ≡ n'
           → explanation_text name l replies run lines s n ≡ explanation_text name' l' replies' run' lines s n'

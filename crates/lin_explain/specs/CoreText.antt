@@ -1,17 +1,18 @@
 -- How calls are shown that alone have no order (this project's own).
-use Rattle.std.specs.Prelude.{ℕ, ℤ, ◌==◌, ◌++◌, Bool, false, Option, Some, None, List, [], ◌∷◌, codes, length, slice_get, if◌then◌else◌}
-use Rattle.std.specs.List.{list_all}
-use Rattle.std.specs.Option.{option_and_then}
+use Rattle.std.specs.Prelude.{ℕ, ℤ, ◌==◌, ◌++◌, ◌&&◌, nat_lt, Bool, true, false, Option, Some, None, List, [], ◌∷◌, codes, length, slice_get, if◌then◌else◌}
+use Rattle.std.specs.List.{list_all, list_any}
+use Rattle.std.specs.Option.{option_and_then, option_map}
 use Rattle.std.specs.Ordering.{int_eq}
 use Rattle.std.specs.Fmt.{decimal, signed_decimal}
 use Rattle.lin_object.specs.declared.op.Op.{Op}
 use Rattle.lin_object.specs.declared.op.Op.TheVariants as ops
 use Rattle.lin_object.specs.declared.reply.Reply.{Reply}
+use Rattle.lin_object.specs.declared.reply.Reply.TheVariants.{Flag}
 use Rattle.lin_object.specs.PrintedForms.{op_text}
 use Rattle.lin_history.specs.declared.problems.problem.ProblemCall.{ProblemCall}
 use Rattle.lin_explain.specs.declared.core_text.CoreCall.{CoreCall}
 use Rattle.lin_explain.specs.ExplanationText.{key_of}
-use Rattle.lin_explain.specs.TouchingText.{recorded_text}
+use Rattle.lin_explain.specs.TouchingText.{line_of, recorded_text}
 
 -- The key of a map, or the member of a set, that an operation is on; none of another kind's operations.
 abbrev pub key_on : Op → Option ℤ
@@ -68,6 +69,103 @@ abbrev pub core_lines : List ℕ → List (ProblemCall Op Reply) → List ℕ �
 core_lines name calls lines [] = []
 core_lines name calls lines (c ∷ cs) = core_line_of name lines c.is_pending (slice_get calls c.call) ++ core_lines name calls lines cs
 
--- The calls with the line above them; nothing where there are none.
+-- The last event of a call with what is shown of its return.
+abbrev pub event_of : ℕ → Option (ℕ × Reply) → ℕ
+event_of called None = called
+event_of called (Some returned) = returned.0
+
+-- The last event of a call of a core, as it is shown; 0 of none.
+abbrev pub last_event_of : Bool → Option (ProblemCall Op Reply) → ℕ
+last_event_of is_pending None = 0
+last_event_of is_pending (Some call) = event_of call.called (unless_pending is_pending call.returned)
+
+-- The later of two events.
+abbrev pub later : ℕ → ℕ → ℕ
+later a b = if nat_lt a b then b else a
+
+-- The last event of these calls, and of one before.
+abbrev pub last_event : List (ProblemCall Op Reply) → ℕ → List CoreCall → ℕ
+last_event calls before [] = before
+last_event calls before (c ∷ cs) = last_event calls (later before (last_event_of c.is_pending (slice_get calls c.call))) cs
+
+-- The answer is 'yes'.
+abbrev pub is_yes : Reply → Bool
+is_yes (Flag true) = true
+is_yes reply = false
+
+-- The call compares a register with a value.
+abbrev pub is_cas : Option Op → Bool
+is_cas None = false
+is_cas (Some (ops.Cas a b)) = true
+is_cas (Some op) = false
+
+abbrev pub op_at : List (ProblemCall Op Reply) → CoreCall → Option Op
+op_at calls shown = option_map (λ call. call.op) (slice_get calls shown.call)
+
+-- What no other call does, by an operation of the core.
+abbrev pub not_done : Op → List ℕ
+not_done (ops.Write v) = codes "writes such a value"
+not_done ops.Read = codes "writes such a value"
+not_done (ops.Add d) = codes "changes the counter"
+not_done ops.Get = codes "changes the counter"
+not_done (ops.Enqueue v) = codes "puts or takes such an item"
+not_done ops.Dequeue = codes "puts or takes such an item"
+not_done (ops.Push v) = codes "puts or takes such an item"
+not_done ops.Pop = codes "puts or takes such an item"
+not_done (ops.Insert v) = codes "adds or removes such an item"
+not_done (ops.Remove v) = codes "adds or removes such an item"
+not_done (ops.Contains v) = codes "adds or removes such an item"
+not_done op = codes "helps"
+
+abbrev pub not_done_of : Option Op → List ℕ
+not_done_of None = codes "helps"
+not_done_of (Some op) = not_done op
+
+-- The same of all of it: where a call compares, what the others do not do is said in general.
+abbrev pub not_done_by_others : List (ProblemCall Op Reply) → List CoreCall → List ℕ
+not_done_by_others calls core =
+    if list_any (λ shown. is_cas (op_at calls shown)) core then codes "helps" else not_done_of (option_and_then (op_at calls) (slice_get core 0))
+
+-- The call gives its object, or a key or a member of it, what it has then, whatever that had before.
+abbrev pub gives_anew : Op → Option (ℕ × Reply) → Bool
+gives_anew (ops.Write v) returned = true
+gives_anew (ops.Put k v) returned = true
+gives_anew (ops.Insert v) (Some returned) = is_yes returned.1
+gives_anew op returned = false
+
+-- It returned before this event.
+abbrev pub is_back_before : ℕ → Option (ℕ × Reply) → Bool
+is_back_before event None = false
+is_back_before event (Some returned) = nat_lt returned.0 event
+
+-- The first call of a core gives anew, and returned before the second was called. What came before it does not matter then.
+abbrev pub begins_anew : Option (ProblemCall Op Reply) → Option (ProblemCall Op Reply) → Bool
+begins_anew (Some first) (Some second) = gives_anew first.op first.returned && is_back_before second.called first.returned
+begins_anew None second = false
+begins_anew (Some first) None = false
+
+-- The call of this place in a core.
+abbrev pub call_at : List (ProblemCall Op Reply) → List CoreCall → ℕ → Option (ProblemCall Op Reply)
+call_at calls core place = option_and_then (λ shown. slice_get calls shown.call) (slice_get core place)
+
+-- From which line on calls matter, where not all do.
+abbrev pub from_text : List ℕ → Bool → Option (ProblemCall Op Reply) → List ℕ
+from_text lines true (Some first) = codes "from line " ++ decimal (line_of lines first.called) ++ codes " to line "
+from_text lines begins first = codes "up to line "
+
+abbrev pub from_text_of : List (ProblemCall Op Reply) → List ℕ → List CoreCall → List ℕ
+from_text_of calls lines core = from_text lines (begins_anew (call_at calls core 0) (call_at calls core 1)) (call_at calls core 0)
+
+-- Up to which line, and what no other call does.
+abbrev pub until_text : List (ProblemCall Op Reply) → List ℕ → List CoreCall → List ℕ
+until_text calls lines core = decimal (line_of lines (last_event calls 0 core)) ++ codes " " ++ not_done_by_others calls core ++ codes "\n"
+
+-- The line below the calls: between which lines of the input no other call helps.
+abbrev pub others_line : List (ProblemCall Op Reply) → List ℕ → List CoreCall → List ℕ
+others_line calls lines core =
+    codes "no other call " ++ from_text_of calls lines core ++ until_text calls lines core
+
+-- The calls with the lines above and below them; nothing where there are none.
 abbrev pub core_text : List ℕ → List (ProblemCall Op Reply) → List ℕ → List CoreCall → List ℕ
-core_text name calls lines core = if length core == 0 then [] else core_head (length core) (core_key calls core) ++ core_lines name calls lines core
+core_text name calls lines core =
+    if length core == 0 then [] else core_head (length core) (core_key calls core) ++ core_lines name calls lines core ++ others_line calls lines core

@@ -3,22 +3,15 @@ use Rattle.std.specs.Prelude.{◌≡◌, ℕ, ◌<◌, Option, Some, None, List,
 use Rattle.lin_object.specs.declared.op.Op.{Op}
 use Rattle.lin_object.specs.declared.reply.Reply.{Reply}
 use Rattle.lin_object.specs.declared.state.ObjState.{ObjState}
-use Rattle.lin_object.specs.contracts.reply.ReplyPartialEq.TheImpl.{eq-value as reply_eq}
-use Rattle.lin_object.specs.contracts.state.ObjStatePartialEq.TheImpl.{eq-value as state_eq}
 use Rattle.lin_object.specs.StepAnswers.{step_reply}
 use Rattle.lin_object.specs.Kinds.{after}
 use Rattle.lin_history.specs.declared.problems.problem.ProblemCall.{ProblemCall}
 use Rattle.lin_history.specs.Problems.Lists.{In}
-use Rattle.lin_history.specs.Problems.ProblemParts.{ProblemParts}
-use Rattle.lin_history.specs.Problems.Problem.{Problem, problem_of}
+use Rattle.lin_history.specs.Problems.Problem.{Problem}
 use Rattle.lin_history.specs.Problems.Precedence.{Before}
 use Rattle.lin_history.specs.Problems.LegalLists.{Legal}
 use Rattle.lin_explain.specs.declared.explanation.NextCall.{NextCall}
 use Rattle.lin_explain.specs.declared.explanation.Explanation.{Explanation}
-
--- The problem under the tables of the kinds, with the replies' and the states' own equality (this project's own).
-abbrev pub judged_problem : {Object : Type 0} → ProblemParts Object ObjState Op Reply → Problem ObjState Op Reply
-judged_problem {Object} p = problem_of (λ (o : Object). after) state_eq.it reply_eq.it p
 
 -- The call could come next after the run: it is not in it, and every call that precedes it is. So it is a minimal call of
 -- those that the run leaves (Wing and Gong 1993).

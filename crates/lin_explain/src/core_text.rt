@@ -1,11 +1,11 @@
 //! How calls are shown that alone have no order.
-ghost use Rattle.std.specs.Prelude.{◌≡◌, ◌++◌, string_bytes, slice_get, OnOk};
-ghost use Rattle.std.specs.List.{list_all};
+ghost use Rattle.std.specs.Prelude.{◌≡◌, ◌++◌, string_bytes, slice_get, OnOk, IfNone, IfSome, None, Some};
+ghost use Rattle.std.specs.List.{list_all, list_any};
 ghost use Rattle.std.specs.Option.{option_and_then};
-ghost use Rattle.lin_explain.specs.CoreText.{key_on, key_at, is_key, is_on_key, core_key, on_key_text, core_head, unless_pending, core_line, core_line_of, core_lines, core_text};
+ghost use Rattle.lin_explain.specs.CoreText.{key_on, key_at, is_key, is_on_key, core_key, on_key_text, core_head, unless_pending, core_line, core_line_of, core_lines, event_of, last_event_of, later, last_event, is_cas, op_at, not_done, not_done_of, not_done_by_others, is_yes, gives_anew, is_back_before, begins_anew, call_at, from_text_of, until_text, others_line, core_text};
 
 use crate::explanation_text::key_of;
-use crate::touching_text::write_recorded;
+use crate::touching_text::{line_of, write_recorded};
 use lin_history::ProblemCall;
 use lin_object::{Op, Reply};
 use std::alloc::AllocError;
@@ -162,8 +162,212 @@ fn write_calls(
     Ok(())
 }
 
+// The last event of a call with what is shown of its return.
+fn event_of(called: u32, returned: &Option<(u32, Reply)>) -> u32
+    ensures { result ≡ event_of called returned.now }
+{
+    match returned {
+        Some((number, _)) => *number,
+        None => called,
+    }
+}
+
+// The last event of a call of a core, as it is shown; 0 where there is no such call.
+fn last_event_of(calls: &[ProblemCall<Op, Reply>], one: &CoreCall) -> u32
+    ensures { result ≡ last_event_of one.now.is_pending (slice_get calls.now one.now.call) }
+{
+    match calls.get(one.call) {
+        Some(call) => event_of(call.called, &unless_pending(one.is_pending, &call.returned)),
+        None => 0,
+    }
+}
+
+// The later of two events.
+fn later(a: u32, b: u32) -> u32
+    ensures { result ≡ later a b }
+{
+    if a < b { b } else { a }
+}
+
+// The last event of these calls.
+fn last_event(calls: &[ProblemCall<Op, Reply>], core: &[CoreCall]) -> u32
+    ensures { result ≡ last_event calls.now 0 core.now }
+{
+    let mut last = 0;
+    for one in core {
+        last = later(last, last_event_of(calls, one));
+    }
+    last
+}
+
+// The operation of a call of a core.
+fn op_at(calls: &[ProblemCall<Op, Reply>], one: &CoreCall) -> Option<Op>
+    ensures { result ≡ op_at calls.now one.now }
+{
+    match calls.get(one.call) {
+        Some(call) => Some(call.op),
+        None => None,
+    }
+}
+
+// Whether the operation compares a register with a value.
+fn is_cas(op: Option<Op>) -> bool
+    ensures { result ≡ is_cas op }
+{
+    match op {
+        Some(Op::Cas(..)) => true,
+        _ => false,
+    }
+}
+
+// What no other call does, by an operation of the core.
+fn not_done(op: &Op) -> &'static str
+    ensures { result.now ≡ not_done op.now }
+{
+    match op {
+        Op::Write(_) | Op::Read => "writes such a value",
+        Op::Add(_) | Op::Get => "changes the counter",
+        Op::Enqueue(_) | Op::Dequeue | Op::Push(_) | Op::Pop => "puts or takes such an item",
+        Op::Insert(_) | Op::Remove(_) | Op::Contains(_) => "adds or removes such an item",
+        _ => "helps",
+    }
+}
+
+// The same of an operation, where there is one.
+fn not_done_of(op: Option<Op>) -> &'static str
+    ensures { result.now ≡ not_done_of op }
+{
+    match op {
+        Some(op) => not_done(&op),
+        None => "helps",
+    }
+}
+
+// The operation of the first call of a core.
+fn first_op(calls: &[ProblemCall<Op, Reply>], core: &[CoreCall]) -> Option<Op>
+    ensures { result ≡ option_and_then (op_at calls.now) (slice_get core.now 0) }
+{
+    match core.first() {
+        Some(first) => op_at(calls, first),
+        None => None,
+    }
+}
+
+// Whether a call of a core compares a register with a value.
+fn has_cas(calls: &[ProblemCall<Op, Reply>], core: &[CoreCall]) -> bool
+    ensures { result ≡ list_any (λ shown. is_cas (op_at calls.now shown)) core.now }
+{
+    core.iter().any(|one| is_cas(op_at(calls, one)))
+}
+
+// What no other call does, by the calls of a core.
+fn not_done_by_others(calls: &[ProblemCall<Op, Reply>], core: &[CoreCall]) -> &'static str
+    ensures { result.now ≡ not_done_by_others calls.now core.now }
+{
+    if has_cas(calls, core) {
+        return "helps";
+    }
+    not_done_of(first_op(calls, core))
+}
+
+// Whether the answer is 'yes'.
+fn is_yes(reply: &Reply) -> bool
+    ensures { result ≡ is_yes reply.now }
+{
+    matches!(reply, Reply::Flag(true))
+}
+
+// Whether the call gives its object, or a key or a member of it, what it has then, whatever that had before.
+fn gives_anew(op: &Op, returned: &Option<(u32, Reply)>) -> bool
+    ensures { result ≡ gives_anew op.now returned.now }
+{
+    match (op, returned) {
+        (Op::Write(_) | Op::Put(..), _) => true,
+        (Op::Insert(_), Some((_, reply))) => is_yes(reply),
+        _ => false,
+    }
+}
+
+// Whether it returned before this event.
+fn is_back_before(event: u32, returned: &Option<(u32, Reply)>) -> bool
+    ensures { result ≡ is_back_before event returned.now }
+{
+    match returned {
+        Some((number, _)) => *number < event,
+        None => false,
+    }
+}
+
+// The call of this place in a core.
+fn call_at<'c>(
+    calls: &'c [ProblemCall<Op, Reply>],
+    core: &[CoreCall],
+    place: usize,
+) -> Option<&'c ProblemCall<Op, Reply>>
+    ensures none { IfNone result (call_at calls.now core.now place ≡ None) }
+    ensures some { IfSome result (λ call. call_at calls.now core.now place ≡ Some call.now) }
+{
+    calls.get(core.get(place)?.call)
+}
+
+// Whether the first of two calls gives anew, and returned before the second was called.
+fn begins_anew(first: &ProblemCall<Op, Reply>, second: &ProblemCall<Op, Reply>) -> bool
+    ensures { result ≡ begins_anew (Some first.now) (Some second.now) }
+{
+    gives_anew(&first.op, &first.returned) && is_back_before(second.called, &first.returned)
+}
+
+// Appends from which line on calls matter, where not all do.
+fn write_from(
+    out: &mut String,
+    calls: &[ProblemCall<Op, Reply>],
+    lines: &[u64],
+    core: &[CoreCall],
+) -> Result<(), AllocError>
+    ensures { OnOk result (string_bytes out.new
+        ≡ string_bytes out.old ++ from_text_of calls.now lines.now core.now) }
+{
+    if let (Some(first), Some(second)) = (call_at(calls, core, 0), call_at(calls, core, 1)) {
+        if begins_anew(first, second) {
+            let line = line_of(lines, first.called);
+            return write!(out, "from line {line} to line ");
+        }
+    }
+    out.push_str("up to line ")
+}
+
+// Appends up to which line no other call helps, and what none does.
+fn write_until(
+    out: &mut String,
+    calls: &[ProblemCall<Op, Reply>],
+    lines: &[u64],
+    core: &[CoreCall],
+) -> Result<(), AllocError>
+    ensures { OnOk result (string_bytes out.new
+        ≡ string_bytes out.old ++ until_text calls.now lines.now core.now) }
+{
+    let line = line_of(lines, last_event(calls, core));
+    let words = not_done_by_others(calls, core);
+    write!(out, "{line} {words}\n")
+}
+
+// Appends the line below the calls: between which lines of the input no other call helps.
+fn write_others(
+    out: &mut String,
+    calls: &[ProblemCall<Op, Reply>],
+    lines: &[u64],
+    core: &[CoreCall],
+) -> Result<(), AllocError>
+    ensures { OnOk result (string_bytes out.new
+        ≡ string_bytes out.old ++ others_line calls.now lines.now core.now) }
+{
+    out.push_str("no other call ")?;
+    write_from(out, calls, lines, core)?;
+    write_until(out, calls, lines, core)
+}
+
 /// Appends the lines of a core of these calls on the object of this name: how many calls it has, and of a map or a set which key they
-/// are on; and below that each call, with the lines of the input on which its events are. `lines` has the line of each event of the
+/// are on; below that each call, with the lines of the input on which its events are; and then between which lines no other call helps. `lines` has the line of each event of the
 /// input, that of the event of number n at n - 1. Appends nothing where the core has no calls. `AllocError` where memory was refused.
 pub fn write_core(
     out: &mut String,
@@ -179,5 +383,6 @@ pub fn write_core(
         return Ok(());
     }
     write_head(out, core.len(), core_key(calls, core))?;
-    write_calls(out, name, calls, lines, core)
+    write_calls(out, name, calls, lines, core)?;
+    write_others(out, calls, lines, core)
 }

@@ -3,7 +3,8 @@ ghost use Rattle.std.specs.Prelude.{◌≡◌, ℕ, ◌<◌, IfOk, length, map};
 ghost use Rattle.lin_object.specs.declared.state.ObjState.{ObjState as State};
 ghost use Rattle.lin_history.specs.Problems.LegalLists.{Legal};
 ghost use Rattle.lin_history.specs.Problems.Lists.{In};
-ghost use Rattle.lin_explain.specs.Explanation.{judged_problem, next_in, IsExplanation};
+ghost use Rattle.lin_history.specs.Problems.AnyProblem.{any_problem};
+ghost use Rattle.lin_explain.specs.Explanation.{next_in, IsExplanation};
 
 use crate::next_calls::next_calls;
 use lin_history::{Order, Problem};
@@ -34,8 +35,8 @@ fn state_after(
     problem: &Problem<AnyObject>,
     run: &[usize],
 ) -> Result<ObjState, AllocError>
-    requires { (t : State) × Legal (judged_problem problem.now) problem.now.start run.now t }
-    ensures { IfOk result (λ state. Legal (judged_problem problem.now) problem.now.start run.now
+    requires { (t : State) × Legal (any_problem problem.now) problem.now.start run.now t }
+    ensures { IfOk result (λ state. Legal (any_problem problem.now) problem.now.start run.now
         state) }
 {
     let mut state = AnyObject.copy_state(alloc, problem.start())?;
@@ -57,7 +58,7 @@ fn next_call(
     call: usize,
 ) -> Result<NextCall, AllocError>
     requires { call < length problem.now.calls }
-    ensures { IfOk result (λ next. next ≡ next_in (judged_problem problem.now) state.now call) }
+    ensures { IfOk result (λ next. next ≡ next_in (any_problem problem.now) state.now call) }
 {
     let asked = problem.call(call);
     let answer = match AnyObject.step(alloc, state, asked.process, &asked.op)? {
@@ -76,7 +77,7 @@ fn with_answers(
 ) -> Result<Vec<NextCall>, AllocError>
     requires { (c : ℕ) → In c calls.now → c < length problem.now.calls }
     ensures { IfOk result (λ next. next.items
-        ≡ map (next_in (judged_problem problem.now) state.now) calls.now) }
+        ≡ map (next_in (any_problem problem.now) state.now) calls.now) }
 {
     let mut next = Vec::new(alloc);
     for call in calls {
@@ -95,8 +96,8 @@ pub fn explain(
     problem: &Problem<AnyObject>,
     run: &Order,
 ) -> Result<Explanation, AllocError>
-    requires { (t : State) × Legal (judged_problem problem.now) problem.now.start run.now t }
-    ensures { IfOk result (λ explanation. IsExplanation (judged_problem problem.now) run.now
+    requires { (t : State) × Legal (any_problem problem.now) problem.now.start run.now t }
+    ensures { IfOk result (λ explanation. IsExplanation (any_problem problem.now) run.now
         explanation) }
 {
     let state = state_after(alloc, problem, run.calls())?;

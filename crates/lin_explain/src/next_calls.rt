@@ -2,7 +2,8 @@
 ghost use Rattle.std.specs.Prelude.{◌≡◌, ℕ, ◌<◌, ◌↔◌, ◌⊎◌, true, false, IfOk, IsSomeAnd, length, slice_get};
 ghost use Rattle.lin_history.specs.Problems.Continuations.{has};
 ghost use Rattle.lin_history.specs.Problems.Lists.{In};
-ghost use Rattle.lin_explain.specs.Explanation.{judged_problem, AreNextCalls};
+ghost use Rattle.lin_history.specs.Problems.AnyProblem.{any_problem};
+ghost use Rattle.lin_explain.specs.Explanation.{AreNextCalls};
 ghost use Rattle.lin_explain.specs.FirstReturn.{IsFirstReturn};
 
 use lin_history::{Problem, ProblemCall};
@@ -81,7 +82,7 @@ pub(crate) fn next_calls(
     run: &[usize],
 ) -> Result<Vec<usize>, AllocError>
     requires { (c : ℕ) → In c run.now → c < length problem.now.calls }
-    ensures { IfOk result (λ next. AreNextCalls (judged_problem problem.now) run.now next.items) }
+    ensures { IfOk result (λ next. AreNextCalls (any_problem problem.now) run.now next.items) }
 {
     let calls = problem.calls();
     let flags = run_flags(alloc, calls.len(), run)?;

@@ -29,7 +29,7 @@ pub struct ShownRun<'p> {
 }
 
 // The line on which the event of this number is, where the numbers count from 1; 0 where none is known.
-fn line_of(lines: &[u64], event: u32) -> u64
+pub(crate) fn line_of(lines: &[u64], event: u32) -> u64
     ensures { result ≡ line_of lines.now event }
 {
     lines

@@ -1,4 +1,4 @@
-use Rattle.lin_ahead.specs.AnyProblem.{any_problem}
+use Rattle.lin_history.specs.Problems.AnyProblem.{any_problem}
 use Rattle.lin_core.proofs.CoreLemmas.{enough_by_key_as}
 use Rattle.lin_core.proofs.part_check.is_enough_by_key.Goals as goal
 

@@ -1,5 +1,5 @@
 use Rattle.std.proofs.Common.{true≢false, sym, ◌∙◌}
-use Rattle.lin_explain.specs.Explanation.{judged_problem}
+use Rattle.lin_history.specs.Problems.AnyProblem.{any_problem}
 use Rattle.lin_explain.proofs.NextLemmas.{early_next, next_early, next_skip, next_more, next_done}
 use Rattle.lin_explain.proofs.next_calls.next_calls.Goals as goal
 use Rattle.lin_explain.proofs.next_calls.next_calls.Goals.{then-comes_next+in_ok-push, else-comes_next}
@@ -9,7 +9,7 @@ run_flags-requires c = rw c.calls-calls.ensures.calls c.requires
 
 pub loop-call-preserved : goal.loop-call-preserved
 loop-call-preserved c =
-    let p = judged_problem c.args.problem.now in
+    let p = any_problem c.args.problem.now in
     let returns = rw (c.calls-calls.ensures.calls, c.as_slice.ensures.value) at c.first_return-first.ensures in
     let test = rw (c.calls-calls.ensures.calls, c.as_slice-in-loop-call.ensures.value) at c.comes_next.ensures in
     elim c.if-comes_next.branch [
@@ -22,4 +22,4 @@ loop-call-preserved c =
     ]
 
 pub returns : goal.returns
-returns c = next_done (judged_problem c.args.problem.now) c.args.run.now c.loop-call.call _ (rw c.calls-calls.ensures.calls at c.loop-call-test.false) c.loop-call.invariant
+returns c = next_done (any_problem c.args.problem.now) c.args.run.now c.loop-call.call _ (rw c.calls-calls.ensures.calls at c.loop-call-test.false) c.loop-call.invariant

@@ -2,7 +2,7 @@ use Rattle.std.proofs.Common.{◌≡◌, ◌∙◌}
 use Rattle.std.specs.List.{slice_get}
 use Rattle.std.proofs.lemmas.Result.{on_ok_weaker}
 use Rattle.lin_history.specs.Locality.RecordedWhole.{start_at, part_of}
-use Rattle.lin_explain.specs.Explanation.{judged_problem}
+use Rattle.lin_history.specs.Problems.AnyProblem.{any_problem}
 use Rattle.lin_explain.specs.RunExplained.{object_name}
 use Rattle.lin_explain.proofs.RunLemmas.{placed_known, numbers_are, part_same, start_same, legal_same, name_is, lines_are}
 use Rattle.lin_explain.proofs.run_explained.write_run_explained.Goals as goal
@@ -17,7 +17,7 @@ replies_of-requires c =
 
 pub explain-requires : goal.explain-requires
 explain-requires c =
-    legal_same (judged_problem c.in_ok-problem.problem) (part_of c.args.history.now c.args.object) c.in_ok-problem.problem.start (start_at c.args.history.now c.args.object) c.in_ok-order.order c.requires.run.0
+    legal_same (any_problem c.in_ok-problem.problem) (part_of c.args.history.now c.args.object) c.in_ok-problem.problem.start (start_at c.args.history.now c.args.object) c.in_ok-order.order c.requires.run.0
     (part_same c.args.history.now c.args.object c.in_ok-problem.problem c.in_ok-problem.ensures.start c.in_ok-problem.ensures.calls)
     (start_same c.args.history.now c.args.object c.in_ok-problem.problem c.in_ok-problem.ensures.start c.in_ok-problem.ensures.calls)
     (c.in_ok-order.ensures ∙ numbers_are c.args.history.now c.args.object c.requires.run.0 c.args.run.now _ c.requires.run.2)
