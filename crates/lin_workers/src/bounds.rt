@@ -5,6 +5,19 @@ use lin_search::Stop;
 use std::alloc::AllocError;
 use std::marker::Model;
 
+/// A way on which the check of an object goes.
+#[derive(Clone, Copy, PartialEq, Eq, Debug)]
+pub enum Way {
+    /// By what is known ahead of a search: a first search, or a search by key.
+    Ahead,
+    /// The full search.
+    Full,
+    /// Looking for a few calls that alone have no order.
+    Core,
+    /// Searches of prefixes.
+    Prefixes,
+}
+
 /// What knows when the time for a search is up, and is told what was done. It is asked and told every few thousand lifts, by each
 /// thread that searches. What it is told is a hint: it need not do anything with it.
 pub trait Watcher: Sync {
@@ -19,13 +32,16 @@ pub trait Watcher: Sync {
     fn is_up(&self) -> bool
         ensures { IsTrue result → IsSome (seconds self.now) };
 
-    /// Whether what was stored is shown while the search goes on: else `add_stored` need not be called.
-    fn is_shown(&self) -> bool {
+    /// Whether what is stored is counted while a search goes on: else `add_stored` need not be called.
+    fn is_counted(&self) -> bool {
         false
     }
 
     /// The object of this index, which has so many calls, is searched from now on, by one thread.
     fn begin(&self, _object: usize, _calls: usize) {}
+
+    /// The check of the object goes on this way from now on.
+    fn enter(&self, _way: Way) {}
 
     /// So many workers share the search from now on.
     fn share(&self, _workers: usize) {}

@@ -17,7 +17,7 @@ mod tasks;
 mod verdict;
 mod workers;
 
-pub use bounds::{Bounds, UntilUp, Unwatched, Watcher};
+pub use bounds::{Bounds, UntilUp, Unwatched, Watcher, Way};
 pub use check::{check_alone, check_object, check_over_table, number_stored, patience_of};
 pub use deadline::Deadline;
 pub use options::{MAX_LIMIT, MAX_SECONDS, MAX_SHARDS, MAX_WORKERS, OptionFault, Options};

@@ -1,11 +1,5 @@
 -- What is answered of one object (this project's own; the definition is that of Herlihy and Wing 1990).
 use Rattle.std.specs.Prelude.{◌≡◌, ℕ, IsSome, List, Option, Some, None}
-use Rattle.lin_ahead.specs.declared.first_answer.FirstAnswer.{FirstAnswer}
-use Rattle.lin_ahead.specs.declared.first_answer.FirstAnswer.TheVariants as first
-use Rattle.lin_parts.specs.declared.keys.key_answer.KeyAnswer.{KeyAnswer}
-use Rattle.lin_parts.specs.declared.keys.key_answer.KeyAnswer.TheVariants as by_key
-use Rattle.lin_prefixes.specs.declared.part_answer.PartAnswer.{PartAnswer}
-use Rattle.lin_prefixes.specs.declared.part_answer.PartAnswer.TheVariants as told
 use Rattle.lin_history.specs.Problems.Problem.{Problem}
 use Rattle.lin_history.specs.Problems.Lists.{IsLeast}
 use Rattle.lin_history.specs.Problems.Linearizations.{IsRun, IsLinearization}
@@ -32,14 +26,3 @@ IsObjectAnswer p question bounds Undecided = MayBeUndecided p bounds
 -- Such an answer, with a number of configurations stored.
 abbrev pub IsAnswered : {State Op Reply : Type 0} → Problem State Op Reply → Question → Bounds → ObjectAnswer × ℕ → Type 0
 IsAnswered p question bounds r = IsObjectAnswer p question bounds r.0 × IsNumberStored p r.1
-
--- What a search by key tells of the problem.
-abbrev pub told_by_key : KeyAnswer → PartAnswer
-told_by_key (by_key.Found order) = told.Found order
-told_by_key by_key.Refuted = told.Refuted
-
--- What a first search tells of it.
-abbrev pub told_by_first : FirstAnswer → PartAnswer
-told_by_first (first.Found order) = told.Found order
-told_by_first first.Refuted = told.Refuted
-told_by_first first.Exhausted = told.Unknown

@@ -2,9 +2,10 @@
 //! that is proved depends on it.
 ghost use Rattle.std.specs.Prelude.{◌≡◌, IsSome, IsTrue};
 
-use crate::listener::{Listener, SoFar, Spent};
+use crate::listener::{Listener, SoFar, Spent, Undecided};
+use crate::way_times::WayTimes;
 use lin_history::History;
-use lin_workers::{Options, Watcher};
+use lin_workers::{Options, Watcher, Way};
 use std::sync::atomic::Ordering::SeqCst;
 use std::sync::atomic::{AtomicBool, AtomicU64, AtomicUsize};
 use std::time::{Clock, Duration, Instant};
@@ -23,8 +24,10 @@ pub(crate) struct CheckWatcher<'a, C, L> {
     is_bounded: bool,
     begun: Option<Instant>,
     was_up: AtomicBool,
-    // Which time it was last shown: the first after two seconds, the second after four.
+    // Which time it was last shown, the first after two seconds, the second after four, and how many calls were tried by then.
     turn: AtomicU64,
+    tried_at_turn: AtomicU64,
+    ways: WayTimes,
     object: AtomicUsize,
     calls: AtomicUsize,
     workers: AtomicUsize,
@@ -57,6 +60,8 @@ impl<'a, C: Clock, L: Listener> CheckWatcher<'a, C, L> {
             begun: time_now(clock, is_bounded || is_shown),
             was_up: AtomicBool::new(false),
             turn: AtomicU64::new(0),
+            tried_at_turn: AtomicU64::new(0),
+            ways: WayTimes::new(),
             object: AtomicUsize::new(0),
             calls: AtomicUsize::new(0),
             workers: AtomicUsize::new(1),
@@ -72,6 +77,11 @@ impl<'a, C: Clock, L: Listener> CheckWatcher<'a, C, L> {
         self.begun?.elapsed(self.clock).ok()
     }
 
+    // The time in microseconds, where the check reads the clock.
+    fn micros(&self) -> u64 {
+        self.time().map_or(0, micros_of)
+    }
+
     // Shows how far the search has come where two seconds have gone since that was last shown. One thread of several shows it.
     fn show_in_time(&self, time: Option<Duration>) {
         let Some(time) = time else {
@@ -85,20 +95,23 @@ impl<'a, C: Clock, L: Listener> CheckWatcher<'a, C, L> {
                 .compare_exchange(last, turn, SeqCst, SeqCst)
                 .is_ok()
         {
-            self.show();
+            self.show(SECONDS_BETWEEN.saturating_mul(turn - last));
         }
     }
 
-    // Shows how far the search of the object has come.
-    fn show(&self) {
+    // Shows how far the search of the object has come, after so many seconds, at least one, in which that was not shown.
+    fn show(&self, seconds: u64) {
         let object = self.object.load(SeqCst);
         if object >= self.history.object_count() {
             return;
         }
         let tried = self.tried.load(SeqCst);
+        let before = self.tried_at_turn.swap(tried, SeqCst);
         self.listener.show(&SoFar {
             object: self.history.object(object).name,
+            way: self.ways.now(),
             tried: tried.saturating_sub(self.tried_before.load(SeqCst)),
+            tried_in_a_second: tried.saturating_sub(before) / seconds.max(1),
             stored: self.stored.load(SeqCst),
             furthest: self.furthest.load(SeqCst),
             calls: self.calls.load(SeqCst) as u64,
@@ -106,16 +119,50 @@ impl<'a, C: Clock, L: Listener> CheckWatcher<'a, C, L> {
         });
     }
 
-    // Tells what the check took, which has ended.
-    pub(crate) fn end(&self) {
-        if self.is_bounded {
-            self.listener.end(&Spent {
-                tried: self.tried.load(SeqCst),
-                time: self.time(),
-                is_time_up: self.was_up.load(SeqCst),
-            });
+    // The object that was searched last, as one that is undecided.
+    fn last(&self) -> Option<Undecided<'_>> {
+        let object = self.object.load(SeqCst);
+        if object >= self.history.object_count() {
+            return None;
         }
+        self.ways.enter(Way::Full, self.micros());
+        let info = self.history.object(object);
+        Some(Undecided {
+            object: info.name,
+            kind: info.kind,
+            furthest: self.furthest.load(SeqCst),
+            calls: self.calls.load(SeqCst) as u64,
+            longest: self.begun.map(|_| self.ways.longest()),
+        })
     }
+
+    // Tells what a check took that has ended so.
+    fn tell(&self, ended_at: Option<Undecided<'_>>) {
+        self.listener.leave_undecided(&Spent {
+            tried: self.tried.load(SeqCst),
+            time: self.time(),
+            is_time_up: self.was_up.load(SeqCst),
+            ended_at,
+        });
+    }
+
+    // Tells what the check took, which ended at the object that was searched last.
+    pub(crate) fn end_here(&self) {
+        self.tell(self.last());
+    }
+
+    // Tells what the check took, which ended with something undecided.
+    pub(crate) fn end_of_all(&self) {
+        self.tell(None);
+    }
+}
+
+// The time in microseconds.
+fn micros_of(time: Duration) -> u64 {
+    let micros = u64::from(time.subsec_micros());
+    time.as_secs()
+        .saturating_mul(1_000_000)
+        .saturating_add(micros)
 }
 
 // Whether so many seconds have gone, where a number is given and the clock says the time.
@@ -159,8 +206,8 @@ impl<'a, C: Clock + Sync, L: Listener + Sync> Watcher for CheckWatcher<'a, C, L>
         is_up
     }
 
-    fn is_shown(&self) -> bool {
-        self.is_shown
+    fn is_counted(&self) -> bool {
+        self.is_shown || self.is_bounded
     }
 
     fn begin(&self, object: usize, calls: usize) {
@@ -170,6 +217,11 @@ impl<'a, C: Clock + Sync, L: Listener + Sync> Watcher for CheckWatcher<'a, C, L>
         self.tried_before.store(self.tried.load(SeqCst), SeqCst);
         self.stored.store(0, SeqCst);
         self.furthest.store(0, SeqCst);
+        self.ways.begin(self.micros());
+    }
+
+    fn enter(&self, way: Way) {
+        self.ways.enter(way, self.micros());
     }
 
     fn share(&self, workers: usize) {

@@ -2,7 +2,7 @@
 
 ghost use Rattle.std.specs.Prelude.{◌≡◌, Some, map, option_map, slice_get, IfOk};
 ghost use Rattle.lin_history.specs.Recorder.Parts.{start_of, part_calls};
-ghost use Rattle.lin_ahead.specs.AnyProblem.{any_problem};
+ghost use Rattle.lin_history.specs.Problems.AnyProblem.{any_problem};
 ghost use Rattle.lincheck.specs.Explained.{told_in, TellsCore};
 
 use crate::object_core::core_of_object;

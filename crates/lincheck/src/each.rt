@@ -100,7 +100,9 @@ pub(crate) fn check_each_with<R: AllocGlobal + Threads + Clock + Sync, G: Gate, 
         gate,
     };
     let checked = judge_each(&setting, history)?;
-    watcher.end();
+    if checked.statuses.as_slice().contains(&Status::Undecided) {
+        watcher.end_of_all();
+    }
     Ok(checked)
 }
 

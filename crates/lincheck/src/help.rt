@@ -114,6 +114,7 @@ prints
   these 2 calls on key 1 alone have no order:
     1 e add(1) = true (lines 2 and 3)
     1 e add(1) = true (lines 4 and 5)
+  no other call from line 2 to line 5 adds or removes such an item
   longest run: 1 of 2 calls
   1 1 e add(1) = true
   after the run: e = {1}

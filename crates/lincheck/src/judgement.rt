@@ -206,6 +206,8 @@ pub(crate) fn check_with<R: AllocGlobal + Threads + Clock + Sync, G: Gate, L: Li
         gate,
     };
     let checked = judge(&setting, history)?;
-    watcher.end();
+    if let Verdict::Undecided { .. } = checked.verdict {
+        watcher.end_here();
+    }
     Ok(checked)
 }

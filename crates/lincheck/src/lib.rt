@@ -21,6 +21,7 @@ mod request;
 mod setting;
 mod status;
 mod verdict;
+mod way_times;
 
 pub use answer_form::AnswerForm;
 pub use device::{DeviceFault, Sink, Source, StdSink, StdSource};
@@ -29,10 +30,10 @@ pub use fault::RunFault;
 pub use judgement::check;
 pub use lin_workers::{
     CheckFault, FreeGate, Gate, MAX_LIMIT, MAX_SECONDS, MAX_SHARDS, MAX_WORKERS, OptionFault,
-    Options,
+    Options, Way,
 };
 pub use lines::report;
-pub use listener::{Listener, NoListener, SoFar, Spent};
+pub use listener::{Listener, NoListener, SoFar, Spent, Undecided};
 pub use pipeline::{run, run_each, run_explained, run_with};
 pub use request::{DEFAULT_SHARDS, DEFAULT_WORKERS, Request, options_of};
 pub use status::{Status, status_code};

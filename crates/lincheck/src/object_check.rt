@@ -15,26 +15,26 @@
 ghost use Rattle.std.specs.Prelude.{◌≡◌, ◌≤◌, IfOk, IfSome, IfNone, IsSome, IsTrue, None};
 ghost use Rattle.std.specs.ControlFlow.{ForBreak, ForContinue};
 ghost use Rattle.lin_history.specs.Problems.Problem.{Problem as ProblemOf};
-ghost use Rattle.lin_ahead.specs.AnyProblem.{any_problem};
-ghost use Rattle.lin_prefixes.specs.PartAnswer.{IsAnswerTo};
+ghost use Rattle.lin_history.specs.Problems.AnyProblem.{any_problem};
+ghost use Rattle.lin_search.specs.Told.{IsRightOf};
 ghost use Rattle.lin_unseen.specs.SameRuns.{HasRunsOf};
 ghost use Rattle.lin_workers.specs.Bounds.{Bounds as BoundsOf, without_time};
 ghost use Rattle.lin_workers.specs.Verdict.{IsNumberStored, IsObjectVerdict, IsToldAlone};
-ghost use Rattle.lincheck.specs.ObjectAnswer.{HasNoOrder, IsAnswered, IsObjectAnswer, told_by_first, told_by_key};
+ghost use Rattle.lincheck.specs.ObjectAnswer.{HasNoOrder, IsAnswered, IsObjectAnswer};
 
 use crate::object_answer::{ObjectAnswer, Question};
 use crate::object_core::core_of_object;
 use crate::setting::Setting;
-use lin_ahead::{FirstAnswer, known_ahead, search_first};
+use lin_ahead::{known_ahead, search_first};
 use lin_history::Problem;
 use lin_object::{AnyObject, ObjState, Op, Reply};
-use lin_parts::{KeyAnswer, search_by_key};
-use lin_prefixes::{PartAnswer, longest_run_by_prefixes, search_in_rounds};
-use lin_search::OwnMemo;
+use lin_parts::search_by_key;
+use lin_prefixes::{longest_run_by_prefixes, search_in_rounds};
+use lin_search::{AtTimes, OwnMemo, Stop, Told};
 use lin_unseen::unseen_made_one;
 use lin_workers::{
-    Alone, Bounds, Gate, ObjectVerdict, Patience, UntilUp, Watcher, check_alone, check_over_table,
-    number_stored, patience_of,
+    Alone, Bounds, Gate, ObjectVerdict, Patience, UntilUp, Watcher, Way, check_alone,
+    check_over_table, number_stored, patience_of,
 };
 use std::alloc::{AllocError, AllocGlobal, Global};
 use std::ops::ControlFlow;
@@ -196,41 +196,26 @@ fn turn_after(
 
 // ---- what is known ahead
 
-// What a search by key tells.
-fn told_by_key(answer: KeyAnswer) -> PartAnswer
-    ensures { result ≡ told_by_key answer }
-{
-    match answer {
-        KeyAnswer::Found(order) => PartAnswer::Found(order),
-        KeyAnswer::Refuted => PartAnswer::Refuted,
-    }
-}
-
-// What a first search tells.
-fn told_by_first(answer: FirstAnswer) -> PartAnswer
-    ensures { result ≡ told_by_first answer }
-{
-    match answer {
-        FirstAnswer::Found(order) => PartAnswer::Found(order),
-        FirstAnswer::Refuted => PartAnswer::Refuted,
-        FirstAnswer::Exhausted => PartAnswer::Unknown,
-    }
-}
-
 // What a first search tells of an object, where something is known ahead of it.
-fn told_first(
+fn told_first<S: Stop>(
     alloc: Global,
     problem: &Problem<AnyObject>,
     limit: Option<u64>,
-) -> Result<PartAnswer, AllocError>
-    ensures { IfOk result (IsAnswerTo (any_problem problem.now)) }
+    stop: &mut S,
+) -> Result<Told, AllocError>
+    ensures { IfOk result (IsRightOf (any_problem problem.now)) }
 {
     let Some(ahead) = known_ahead(alloc, problem)? else {
-        return Ok(PartAnswer::Unknown);
+        return Ok(Told::Nothing);
     };
     let lifts = LIFTS_AHEAD.saturating_mul(problem.len() as u64);
-    let answer = search_first(alloc, problem, &ahead, within(lifts, limit))?;
-    Ok(told_by_first(answer))
+    search_first(
+        alloc,
+        problem,
+        &ahead,
+        within(lifts, limit),
+        &mut AtTimes::new(stop),
+    )
 }
 
 // What is told of an object before a full search: by key of a map or a set, else by a first search.
@@ -238,12 +223,14 @@ fn told_ahead<W: Watcher>(
     alloc: Global,
     problem: &Problem<AnyObject>,
     bounds: &Bounds<'_, W>,
-) -> Result<PartAnswer, AllocError>
-    ensures { IfOk result (IsAnswerTo (any_problem problem.now)) }
+) -> Result<Told, AllocError>
+    ensures { IfOk result (IsRightOf (any_problem problem.now)) }
 {
-    match search_by_key(alloc, problem, bounds.limit(), &mut UntilUp::new(bounds))? {
-        Some(answer) => Ok(told_by_key(answer)),
-        None => told_first(alloc, problem, bounds.limit()),
+    bounds.watcher().enter(Way::Ahead);
+    let mut stop = UntilUp::new(bounds);
+    match search_by_key(alloc, problem, bounds.limit(), &mut stop)? {
+        Told::Nothing => told_first(alloc, problem, bounds.limit(), &mut stop),
+        known => Ok(known),
     }
 }
 
@@ -267,6 +254,7 @@ fn search_alone<R: AllocGlobal, G: Gate, W: Watcher>(
         return Ok(Alone::Stalled(0));
     };
     let bounds = Bounds::new(limit, setting.bounds.watcher());
+    bounds.watcher().enter(Way::Full);
     check_alone(setting.rt.alloc(), full, memo, patience, &bounds)
 }
 
@@ -282,6 +270,7 @@ fn search_shared<R: AllocGlobal + Threads + Sync, G: Gate, W: Watcher>(
     ensures time { IfOk result (λ r. IfNone r.0 (IsSome setting.now.bounds.seconds)) }
     ensures stored { IfOk result (λ r. IsNumberStored (any_problem problem.now) r.1) }
 {
+    setting.bounds.watcher().enter(Way::Full);
     check_over_table(
         setting.rt,
         memo,
@@ -412,9 +401,9 @@ fn answer_by_prefixes<W: Watcher>(
 {
     if !asked.is_refuted {
         match search_in_rounds(alloc, problem, lifts, &mut UntilUp::new(bounds))? {
-            PartAnswer::Found(order) => return Ok(ControlFlow::Break(ObjectAnswer::Yes(order))),
-            PartAnswer::Unknown => return Ok(ControlFlow::Continue(false)),
-            PartAnswer::Refuted => {}
+            Told::Found(order) => return Ok(ControlFlow::Break(ObjectAnswer::Yes(order))),
+            Told::Nothing => return Ok(ControlFlow::Continue(false)),
+            Told::Refuted => {}
         }
     }
     match answer_refuted(alloc, problem, bounds, asked.question, lifts)? {
@@ -443,6 +432,8 @@ fn told_by_prefixes<R: AllocGlobal, G: Gate, W: Watcher>(
         return Ok(ControlFlow::Continue(asked.is_refuted));
     };
     let alloc = setting.rt.alloc();
+    let watcher = setting.bounds.watcher();
+    watcher.enter(Way::Core);
     let is_refuted = is_refuted_by_core(alloc, problem, asked.is_refuted, turn)?;
     let asked = Asked {
         is_refuted,
@@ -450,6 +441,7 @@ fn told_by_prefixes<R: AllocGlobal, G: Gate, W: Watcher>(
     };
     let lifts = turn.lifts.max(first_lifts(problem, is_refuted));
     let lifts = within(lifts, setting.bounds.limit());
+    watcher.enter(Way::Prefixes);
     match answer_by_prefixes(alloc, problem, &setting.bounds, asked, lifts)? {
         ControlFlow::Break(answer) => Ok(ControlFlow::Break((answer, stored))),
         ControlFlow::Continue(is_refuted) => Ok(ControlFlow::Continue(is_refuted)),
@@ -617,11 +609,11 @@ fn by_searches<R: AllocGlobal + Threads + Sync, G: Gate, W: Watcher>(
 fn told_at_first<R: AllocGlobal, G: Gate, W: Watcher>(
     setting: &Setting<'_, '_, R, G, W>,
     problem: &Problem<AnyObject>,
-) -> Result<PartAnswer, AllocError>
-    ensures { IfOk result (IsAnswerTo (any_problem problem.now)) }
+) -> Result<Told, AllocError>
+    ensures { IfOk result (IsRightOf (any_problem problem.now)) }
 {
     if setting.gate.wants_workers() {
-        return Ok(PartAnswer::Unknown);
+        return Ok(Told::Nothing);
     }
     told_ahead(setting.rt.alloc(), problem, &setting.bounds)
 }
@@ -637,11 +629,11 @@ pub(crate) fn answer_object<R: AllocGlobal + Threads + Sync, G: Gate, W: Watcher
     ensures { IfOk result (IsAnswered (any_problem problem.now) question setting.now.bounds) }
 {
     match told_at_first(setting, problem)? {
-        PartAnswer::Found(order) => Ok((ObjectAnswer::Yes(order), 0)),
-        PartAnswer::Refuted if asks_no_run(question) && !is_small(setting.bounds.limit()) => {
+        Told::Found(order) => Ok((ObjectAnswer::Yes(order), 0)),
+        Told::Refuted if asks_no_run(question) && !is_small(setting.bounds.limit()) => {
             Ok((ObjectAnswer::No(None), 0))
         }
-        PartAnswer::Refuted => by_searches(
+        Told::Refuted => by_searches(
             setting,
             problem,
             Asked {
@@ -649,7 +641,7 @@ pub(crate) fn answer_object<R: AllocGlobal + Threads + Sync, G: Gate, W: Watcher
                 is_refuted: true,
             },
         ),
-        PartAnswer::Unknown => by_searches(
+        Told::Nothing => by_searches(
             setting,
             problem,
             Asked {

@@ -1,7 +1,7 @@
 //! Looking for a core of one object.
 
 ghost use Rattle.std.specs.Prelude.{IfOk, IfSome};
-ghost use Rattle.lin_ahead.specs.AnyProblem.{any_problem};
+ghost use Rattle.lin_history.specs.Problems.AnyProblem.{any_problem};
 ghost use Rattle.lin_core.specs.Cores.{HasNone, IsCoreOf};
 
 use lin_core::{Core, core_of};

@@ -62,14 +62,20 @@ fn read_text<S: Source>(alloc: Global, source: &mut S) -> Result<Vec<u8>, RunFau
     Ok(text)
 }
 
-// The answer to a text that is no history.
-fn refused(alloc: Global, fault: &TextFault) -> Result<(Status, Vec<u8>), AllocError>
+// The answer to a text that is no history. The listener is told.
+fn refused<L: Listener>(
+    alloc: Global,
+    text: &[u8],
+    fault: &TextFault,
+    listener: &L,
+) -> Result<(Status, Vec<u8>), AllocError>
     ensures { IfOk result (λ answer. (fault.now.cause ≢ Cause.OutOfMemory)
         × (answer.0 ≡ Status.Refused) × (answer.1.items ≡ fault_line fault.now)) }
 {
     if fault.cause == Cause::OutOfMemory {
         return Err(AllocError);
     }
+    listener.refuse(text, fault);
     let mut printed = Vec::new(alloc);
     write_cause(alloc, fault, &mut printed)?;
     Ok((Status::Refused, printed))
@@ -110,38 +116,38 @@ fn verdict_printed<R: AllocGlobal + Threads + Clock + Sync, L: Listener + Sync>(
 // What a text is answered by a report: the status, and what is printed.
 fn answer_by_report<R: AllocGlobal + Threads + Clock + Sync, L: Listener + Sync>(
     rt: &R,
-    text: &[u8],
+    text: Vec<u8>,
     options: &Options,
     listener: &L,
 ) -> Result<(Status, Vec<u8>), AllocError>
-    ensures { IfOk result (λ answer. Prints options.now AnswerForm.Report text.now answer.0
+    ensures { IfOk result (λ answer. Prints options.now AnswerForm.Report text.items answer.0
         answer.1.items) }
 {
-    match read_history(rt.alloc(), text) {
-        Ok(history) => verdict_printed(rt, &history, options, None, listener),
-        Err(fault) => refused(rt.alloc(), &fault),
+    match read_history(rt.alloc(), text.as_slice()) {
+        Ok(history) => {
+            drop(text);
+            verdict_printed(rt, &history, options, None, listener)
+        }
+        Err(fault) => refused(rt.alloc(), text.as_slice(), &fault, listener),
     }
 }
 
 // The same with why the longest run ends.
 fn answer_explained<R: AllocGlobal + Threads + Clock + Sync, L: Listener + Sync>(
     rt: &R,
-    text: &[u8],
+    text: Vec<u8>,
     options: &Options,
     listener: &L,
 ) -> Result<(Status, Vec<u8>), AllocError>
-    ensures { IfOk result (λ answer. Prints options.now AnswerForm.Explained text.now answer.0
+    ensures { IfOk result (λ answer. Prints options.now AnswerForm.Explained text.items answer.0
         answer.1.items) }
 {
-    match read_history_and_lines(rt.alloc(), text) {
-        Ok((history, lines)) => verdict_printed(
-            rt,
-            &history,
-            options,
-            Some(lines.as_slice()),
-            listener,
-        ),
-        Err(fault) => refused(rt.alloc(), &fault),
+    match read_history_and_lines(rt.alloc(), text.as_slice()) {
+        Ok((history, lines)) => {
+            drop(text);
+            verdict_printed(rt, &history, options, Some(lines.as_slice()), listener)
+        }
+        Err(fault) => refused(rt.alloc(), text.as_slice(), &fault, listener),
     }
 }
 
@@ -170,50 +176,50 @@ fn each_printed<R: AllocGlobal + Threads + Clock + Sync, L: Listener + Sync>(
 // What a text is answered with a line for each object.
 fn answer_each<R: AllocGlobal + Threads + Clock + Sync, L: Listener + Sync>(
     rt: &R,
-    text: &[u8],
+    text: Vec<u8>,
     options: &Options,
     listener: &L,
 ) -> Result<(Status, Vec<u8>), AllocError>
-    ensures { IfOk result (λ answer. Prints options.now AnswerForm.Each text.now answer.0
+    ensures { IfOk result (λ answer. Prints options.now AnswerForm.Each text.items answer.0
         answer.1.items) }
 {
-    match read_history(rt.alloc(), text) {
-        Ok(history) => each_printed(rt, &history, options, None, listener),
-        Err(fault) => refused(rt.alloc(), &fault),
+    match read_history(rt.alloc(), text.as_slice()) {
+        Ok(history) => {
+            drop(text);
+            each_printed(rt, &history, options, None, listener)
+        }
+        Err(fault) => refused(rt.alloc(), text.as_slice(), &fault, listener),
     }
 }
 
 // The same with cores.
 fn answer_each_explained<R: AllocGlobal + Threads + Clock + Sync, L: Listener + Sync>(
     rt: &R,
-    text: &[u8],
+    text: Vec<u8>,
     options: &Options,
     listener: &L,
 ) -> Result<(Status, Vec<u8>), AllocError>
-    ensures { IfOk result (λ answer. Prints options.now AnswerForm.EachExplained text.now answer.0
+    ensures { IfOk result (λ answer. Prints options.now AnswerForm.EachExplained text.items answer.0
         answer.1.items) }
 {
-    match read_history_and_lines(rt.alloc(), text) {
-        Ok((history, lines)) => each_printed(
-            rt,
-            &history,
-            options,
-            Some(lines.as_slice()),
-            listener,
-        ),
-        Err(fault) => refused(rt.alloc(), &fault),
+    match read_history_and_lines(rt.alloc(), text.as_slice()) {
+        Ok((history, lines)) => {
+            drop(text);
+            each_printed(rt, &history, options, Some(lines.as_slice()), listener)
+        }
+        Err(fault) => refused(rt.alloc(), text.as_slice(), &fault, listener),
     }
 }
 
 // What a text is answered in this form: the status, and what is printed.
 fn answer<R: AllocGlobal + Threads + Clock + Sync, L: Listener + Sync>(
     rt: &R,
-    text: &[u8],
+    text: Vec<u8>,
     options: &Options,
     form: AnswerForm,
     listener: &L,
 ) -> Result<(Status, Vec<u8>), AllocError>
-    ensures { IfOk result (λ answer. Prints options.now form text.now answer.0 answer.1.items) }
+    ensures { IfOk result (λ answer. Prints options.now form text.items answer.0 answer.1.items) }
 {
     match form {
         AnswerForm::Report => answer_by_report(rt, text, options, listener),
@@ -248,16 +254,9 @@ fn ended(status: Status, written: Result<(), DeviceFault>) -> Result<Status, Run
     }
 }
 
-// Tells the listener which text was refused, if it was, and with which answer.
-fn tell_refusal<L: Listener + Sync>(listener: &L, status: Status, text: &[u8], answer: &[u8]) {
-    if status == Status::Refused {
-        listener.refuse(text, answer);
-    }
-}
-
 /// Does what `run`, `run_explained` or `run_each` does, as this form says, or what `run_each` does and tells behind each object that is
 /// not linearizable a few calls that alone have no order, where such are found; while a listener is told how far the check has come, what
-/// it took, and which text was refused. What is written is the same.
+/// was left undecided, and which text is refused. What is written is the same.
 /// Conditions, faults and what is left after them are those of `run`.
 pub fn run_with<R: AllocGlobal + Threads + Clock + Sync, S: Source, W: Sink, L: Listener + Sync>(
     rt: &R,
@@ -279,11 +278,10 @@ pub fn run_with<R: AllocGlobal + Threads + Clock + Sync, S: Source, W: Sink, L: 
         Ok(text) => text,
         Err(fault) => return Err(fault),
     };
-    let Ok((status, answer)) = answer(rt, text.as_slice(), options, form, listener) else {
+    let Ok((status, answer)) = answer(rt, text, options, form, listener) else {
         return Err(RunFault::Memory);
     };
     let written = write_answer(sink, answer.as_slice());
-    tell_refusal(listener, status, text.as_slice(), answer.as_slice());
     ended(status, written)
 }
 

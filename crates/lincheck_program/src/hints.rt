@@ -1,146 +1,183 @@
-//! What helps with a text that is refused, where its answer alone does not say what to do.
+//! What helps with a text that is refused, where its answer alone does not say what to do: what was there, and what is allowed.
 
-ghost use Rattle.std.specs.Prelude.{◌≤◌, length};
+mod before;
+mod looks;
+mod refused_line;
+mod seen;
+mod words;
 
+use before::{Before, declared, hint_of_pending, hint_of_too_many, kind_named};
+use lin_object::{Kind, kind_of_name};
+use lin_text::{Cause, TextFault};
+use looks::look_of;
+use refused_line::RefusedLine;
+use seen::{is_text_in, is_text_there, seen, word_at};
 use serde_json::Value;
 use std::alloc::{AllocError, Global};
+use words::{EVENTS, KINDS, NUMBERS, RESULTS, arguments_of, kind_word, operations_of};
 
-// A word that is refused is shown where it has no more letters.
-const MOST_LETTERS: usize = 64;
-
-// What a line has a word of.
-#[derive(Clone, Copy, PartialEq, Eq, Debug)]
-enum Topic {
-    Event,
-    Kind,
-    Operation,
+// What helps, as it stands here.
+fn said(alloc: Global, words: &str) -> Result<String, AllocError> {
+    format!(in alloc; "{words}")
 }
 
-impl Topic {
-    // The topic of which a line had a wrong word or none that was refused with this answer.
-    fn of(answer: &[u8]) -> Option<Topic> {
-        if answer.ends_with(b": bad event\n") {
-            return Some(Topic::Event);
-        }
-        if answer.ends_with(b": bad kind\n") {
-            return Some(Topic::Kind);
-        }
-        if answer.ends_with(b": bad operation\n") {
-            return Some(Topic::Operation);
-        }
-        None
-    }
+// What stands in the line under a key, and what is allowed there.
+fn seen_and(alloc: Global, value: &Value, key: &str, allowed: &str) -> Result<String, AllocError> {
+    let seen = seen(alloc, value, key)?;
+    format!(in alloc; "{seen}; {allowed}")
+}
 
-    // Under which name the word is in the line.
-    fn field(self) -> &'static str {
-        match self {
-            Topic::Event => "event",
-            Topic::Kind => "kind",
-            Topic::Operation => "op",
-        }
-    }
-
-    // What a word is not that is refused.
-    fn name(self) -> &'static str {
-        match self {
-            Topic::Event => "event",
-            Topic::Kind => "kind",
-            Topic::Operation => "operation of this kind",
-        }
-    }
-
-    // The words that there are.
-    fn words(self) -> &'static str {
-        match self {
-            Topic::Event => "events are object, call, return, fail and info",
-            Topic::Kind => "kinds are register, counter, queue, stack, set, mutex and map",
-            Topic::Operation =>
-                "register: write, read, cas; counter: add, get; queue: enq, deq; stack: push, pop; set: add, remove, contains; mutex: lock, unlock, try_lock; map: put, get, delete",
-        }
+// What helps with an event that is none.
+fn hint_of_event(alloc: Global, value: &Value) -> Result<String, AllocError> {
+    match word_at(value, "event") {
+        Some("fail") => said(alloc, "\"fail\" needs {\"format\":2} as the first line"),
+        Some("info") => said(alloc, "\"info\" needs {\"format\":2} as the first line"),
+        _ => seen_and(alloc, value, "event", EVENTS),
     }
 }
 
-// The number of the line in an answer that refuses it: `line 3: bad event`.
-fn line_number(answer: &[u8]) -> usize {
-    let mut number = 0usize;
-    for byte in answer {
-        if *byte == b':' {
-            return number;
-        }
-        if byte.is_ascii_digit() {
-            let digit = byte.wrapping_sub(b'0') as usize;
-            number = number.wrapping_mul(10).wrapping_add(digit);
-        }
-    }
-    number
+// The kind that the line declares.
+fn kind_at(value: &Value) -> Option<Kind> {
+    kind_of_name(word_at(value, "kind")?)
 }
 
-// Where the first line of a text ends: at a line feed, or with the text.
-fn first_end(text: &[u8]) -> usize
-    ensures { result ≤ length text.now }
-{
-    for (index, byte) in text.iter().enumerate() {
-        if *byte == b'\n' {
-            return index;
-        }
-    }
-    text.len()
-}
-
-// The line of a text that has this number, counted from 1. It is empty where the text has fewer lines.
-fn line_of(text: &[u8], number: usize) -> &[u8] {
-    let mut rest = text;
-    for _ in 1..number {
-        let end = first_end(rest);
-        let Some((_, behind)) = rest[end..].split_first() else {
-            return &[];
-        };
-        rest = behind;
-    }
-    &rest[..first_end(rest)]
-}
-
-// Whether a word can be shown as it is: it is short, and has letters that print, and no quotes.
-fn is_shown(word: &str) -> bool {
-    word.len() <= MOST_LETTERS
-        && word
-            .as_bytes()
-            .iter()
-            .all(|byte| byte.is_ascii_graphic() && *byte != b'"')
-}
-
-// What helps with a line with this word.
-fn hint_with(alloc: Global, topic: Topic, word: &str) -> Result<String, AllocError> {
-    let name = topic.name();
-    let words = topic.words();
-    match (topic, word) {
-        (Topic::Event, "fail" | "info") => {
-            format!(in alloc; "\"{word}\" needs {{\"format\":2}} as the first line")
-        }
-        (_, word) if is_shown(word) => format!(in alloc; "\"{word}\" is no {name}; {words}"),
-        _ => format!(in alloc; "this is no {name}; {words}"),
+// Whether the line declares a kind that has no start.
+fn has_no_start(value: &Value) -> bool {
+    match kind_at(value) {
+        Some(kind) => !kind.starts_with_number(),
+        None => false,
     }
 }
 
-// What helps with a line, where a word is wrong or is missing.
-fn hint_of_line(alloc: Global, topic: Topic, line: &[u8]) -> Result<String, AllocError> {
-    let field = topic.field();
-    let words = topic.words();
-    let Ok(value) = Value::from_slice(alloc, line) else {
-        return Err(AllocError);
+// What helps with a start that is none.
+fn hint_of_start(alloc: Global, value: &Value) -> Result<String, AllocError> {
+    if has_no_start(value) {
+        return said(alloc, "only a register and a counter have a \"start\"");
+    }
+    let allowed = "a start is a whole number from -2^63 to 2^63-1";
+    seen_and(alloc, value, "start", allowed)
+}
+
+// What helps with an operation that the object's kind has not.
+fn hint_of_operation(alloc: Global, value: &Value, before: &Before) -> Result<String, AllocError> {
+    let seen = seen(alloc, value, "op")?;
+    match kind_named(before, word_at(value, "object")) {
+        Some(kind) => {
+            let operations = operations_of(kind);
+            let kind = kind_word(kind);
+            format!(in alloc; "{seen}; {kind} has {operations}")
+        }
+        None => Ok(seen),
+    }
+}
+
+// What helps with arguments that the operation does not take.
+fn hint_of_arguments(alloc: Global, value: &Value, before: &Before) -> Result<String, AllocError> {
+    if is_text_in(value, "args") {
+        return seen_and(alloc, value, "args", NUMBERS);
+    }
+    let seen = seen(alloc, value, "args")?;
+    match (
+        kind_named(before, word_at(value, "object")),
+        word_at(value, "op"),
+    ) {
+        (Some(kind), Some(op)) => {
+            let takes = arguments_of(kind, op);
+            let kind = kind_word(kind);
+            format!(in alloc; "{seen}; \"{op}\" of {kind} takes {takes}")
+        }
+        _ => Ok(seen),
+    }
+}
+
+// What helps with a result that is none.
+fn hint_of_result(alloc: Global, value: &Value) -> Result<String, AllocError> {
+    let seen = seen_and(alloc, value, "result", RESULTS)?;
+    if is_text_there(value, "result") {
+        format!(in alloc; "{seen}; {NUMBERS}")
+    } else {
+        Ok(seen)
+    }
+}
+
+// What helps with a line that is a JSON object, and was refused for this.
+fn hint_of_value(
+    alloc: Global,
+    value: &Value,
+    before: &Before,
+    cause: Cause,
+) -> Result<String, AllocError> {
+    match cause {
+        Cause::BadEvent => hint_of_event(alloc, value),
+        Cause::BadProcess => {
+            seen_and(
+                alloc,
+                value,
+                "process",
+                "a process is a whole number from 0 to 4294967295",
+            )
+        }
+        Cause::BadObject => {
+            let allowed = "a name has 1 to 64 bytes, of A-Z a-z 0-9 _ . / : -";
+            seen_and(alloc, value, "object", allowed)
+        }
+        Cause::UnknownObject => {
+            let declared = declared(alloc, before)?;
+            seen_and(alloc, value, "object", declared.as_str())
+        }
+        Cause::BadKind => seen_and(alloc, value, "kind", KINDS),
+        Cause::BadStart => hint_of_start(alloc, value),
+        Cause::BadOp => hint_of_operation(alloc, value, before),
+        Cause::BadArgs => hint_of_arguments(alloc, value, before),
+        Cause::BadResult => hint_of_result(alloc, value),
+        Cause::Busy(process) | Cause::OtherObject(process) => {
+            hint_of_pending(alloc, before, process)
+        }
+        Cause::TooManyCalls => hint_of_too_many(alloc, before, word_at(value, "object")),
+        _ => said(alloc, words_for(cause)),
+    }
+}
+
+// What helps whatever the line says.
+fn words_for(cause: Cause) -> &'static str {
+    match cause {
+        Cause::InputTooLong => {
+            "objects are judged one by one, so each may have a text of its own"
+        }
+        Cause::BadFormat => "the header is {\"format\":2}; a text without one is of format 1",
+        Cause::Declared => "an object is declared once, before its first call",
+        Cause::ProcessEnded(_) => {
+            "an \"info\" ended it; a client that comes back takes a new process number"
+        }
+        Cause::NoCall(_) => {
+            "a \"return\", a \"fail\" or an \"info\" ends the call of the process that it names"
+        }
+        Cause::TooManyObjects =>
+            "there are 1024 at most; objects are judged one by one, so some may have a text of their own",
+        _ => "docs/FORMAT.md says what a line may hold",
+    }
+}
+
+// What helps with a line that was refused for this, after these lines.
+fn hint_of_line(
+    alloc: Global,
+    refused: &RefusedLine<'_>,
+    cause: Cause,
+) -> Result<String, AllocError> {
+    let Ok(value) = Value::from_slice(alloc, refused.line) else {
+        return said(alloc, words_for(cause));
     };
-    match value.get(field).and_then(Value::as_str) {
-        Some(word) => hint_with(alloc, topic, word),
-        None => format!(in alloc; "the line has no word for \"{field}\"; {words}"),
-    }
+    let before = Before::read(alloc, refused.before)?;
+    hint_of_value(alloc, &value, &before, cause)
 }
 
-/// What helps with a text that was refused with this answer; nothing where the answer says all. `AllocError` where memory was
-/// refused.
-pub fn hint_of(alloc: Global, text: &[u8], answer: &[u8]) -> Result<Option<String>, AllocError> {
-    let Some(topic) = Topic::of(answer) else {
-        return Ok(None);
-    };
-    let line = line_of(text, line_number(answer));
-    Ok(Some(hint_of_line(alloc, topic, line)?))
+/// What helps with a text that is refused for this fault. `AllocError` where memory was refused.
+pub fn hint_of(alloc: Global, text: &[u8], fault: &TextFault) -> Result<String, AllocError> {
+    let refused = RefusedLine::of(text, fault.line);
+    match fault.cause {
+        Cause::NotJson | Cause::NotObject | Cause::LineTooLong => {
+            said(alloc, look_of(text, refused.line).words())
+        }
+        cause => hint_of_line(alloc, &refused, cause),
+    }
 }

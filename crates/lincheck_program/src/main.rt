@@ -2,6 +2,7 @@
 //! linearizable.
 #![tactic(auto)]
 
+mod advice;
 mod hints;
 mod standard_error;
 
@@ -10,6 +11,7 @@ use lincheck::{
     status_code,
 };
 use standard_error::OnStandardError;
+use std::io::IsTerminal;
 use std::process::ExitCode;
 use std::thread::Threads;
 use std::time::Clock;
@@ -18,6 +20,16 @@ use std::{env, io};
 // The words after the program's name.
 fn words(rt: &HostRuntime) -> io::Result<Vec<String>> {
     Ok(env::args(rt)?.skip(1).collect(rt.alloc())?)
+}
+
+// Whether a word after the program's name is no option and no number, as the name of a file.
+fn has_bare_word(rt: &HostRuntime) -> bool {
+    match words(rt) {
+        Ok(words) => words.iter().any(|word| {
+            !word.starts_with('-') && word.parse::<u64>().is_err()
+        }),
+        Err(_) => false,
+    }
 }
 
 // What the user asks for.
@@ -36,19 +48,15 @@ fn check<R: AllocGlobal + Threads + Clock + Sync>(
     options: &Options,
     form: AnswerForm,
 ) -> Result<Status, RunFault> {
-    let listener = OnStandardError::new(rt);
+    let listener = OnStandardError::new(rt, options);
+    if rt.stdin().is_terminal() {
+        let _ = eprintln!(rt;
+            "lincheck: type a history here and end it with Ctrl-D, or call lincheck < HISTORY"
+        );
+    }
     let mut source = StdSource::new(rt.reader());
     let mut sink = StdSink::new(io::writer(rt));
-    let answer = run_with(threads, &mut source, &mut sink, options, form, &listener);
-    if let Ok(Status::Undecided) = answer {
-        listener.say_why_undecided(options, is_of_each(form));
-    }
-    answer
-}
-
-// Whether a line is printed for each object in this form.
-fn is_of_each(form: AnswerForm) -> bool {
-    matches!(form, AnswerForm::Each | AnswerForm::EachExplained)
+    run_with(threads, &mut source, &mut sink, options, form, &listener)
 }
 
 // The exit status of an answer; a fault is told on standard error.
@@ -78,6 +86,9 @@ fn carry_out<R: AllocGlobal + Threads + Clock + Sync>(
         },
         Request::Refused(text) => {
             let _ = eprint!(rt; "{text}");
+            if has_bare_word(rt) {
+                let _ = eprintln!(rt; "lincheck reads standard input: lincheck < HISTORY");
+            }
             ended(rt, Ok(Status::Refused))
         }
     }

@@ -80,7 +80,7 @@ fn search_until_stalled<O: SeqObject, M: Memo<O>, W: Watcher>(
     let has_stalled = AtomicBool::new(false);
     let mut memo = WatchedMemo::new(memo, progress, &has_stalled);
     let mut none = NoStop;
-    let mut stop = UntilOver::new(&mut none, &has_stalled, &Unwatched);
+    let mut stop = UntilOver::new(&mut none, &has_stalled, &Unwatched, problem.len());
     search_unless_starved(alloc, problem, &task.config, &mut memo, bounds, &mut stop)
 }
 

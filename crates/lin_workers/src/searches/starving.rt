@@ -22,7 +22,7 @@ use std::thread::yield_now;
 // room where the others have none.) Each of them asks the system for memory, which takes some microseconds.
 const PATIENCE: u32 = 100_000;
 
-// How many runs a search that is shown looks at from one time that it says what was stored to the next.
+// How many runs a search that is counted looks at from one time that it says what was stored to the next.
 const LOOKS_TO_TELL: u32 = 4_096;
 
 // For so many calls of the problem it counts the calls of one run less of those that it looks at.
@@ -46,9 +46,11 @@ pub(crate) fn search_unless_starved<O: SeqObject, M: Memo<O>, S: Stop, W: Watche
     ensures memo { M.changes memo.old memo.new }
     ensures stop { S.follows stop.old stop.new }
 {
-    if bounds.watcher().is_shown() {
-        let mut watch = Shown::new(bounds.watcher(), problem.len());
-        return search_watched(alloc, problem, config, memo, bounds, stop, &mut watch);
+    if bounds.watcher().is_counted() {
+        let mut watch = Counted::new(bounds.watcher(), problem.len());
+        let answer = search_watched(alloc, problem, config, memo, bounds, stop, &mut watch);
+        watch.tell();
+        return answer;
     }
     let mut watch = Refusals { more: 0 };
     search_watched(alloc, problem, config, memo, bounds, stop, &mut watch)
@@ -74,7 +76,7 @@ fn search_watched<O: SeqObject, M: Memo<O>, S: Stop, W: Watcher, V: Watch>(
     let is_over = AtomicBool::new(false);
     let outcome = {
         let mut memo = WatchedMemo::new(memo, watch, &is_over);
-        let mut until = UntilOver::new(stop, &is_over, bounds.watcher());
+        let mut until = UntilOver::new(stop, &is_over, bounds.watcher(), problem.len());
         let limit = bounds.limit();
         let outcome = search_passing_over(alloc, problem, config, &mut memo, limit, &mut until)?;
         until.end();
@@ -105,9 +107,10 @@ pub(crate) fn scout_unless_starved<O: SeqObject, M: Memo<O>, S: Stop, W: Watcher
     ensures stop { S.follows stop.old stop.new }
 {
     let watcher = job.bounds.watcher();
-    if watcher.is_shown() {
-        let mut watch = Shown::new(watcher, job.problem.len());
+    if watcher.is_counted() {
+        let mut watch = Counted::new(watcher, job.problem.len());
         scout_watched(job, config, scouting, memo, stop, &mut watch);
+        watch.tell();
     } else {
         let mut watch = Refusals { more: 0 };
         scout_watched(job, config, scouting, memo, stop, &mut watch);
@@ -130,7 +133,7 @@ fn scout_watched<O: SeqObject, M: Memo<O>, S: Stop, W: Watcher, V: Watch>(
 {
     let is_over = AtomicBool::new(false);
     let mut memo = WatchedMemo::new(memo, watch, &is_over);
-    let mut stop = UntilOver::new(stop, &is_over, job.bounds.watcher());
+    let mut stop = UntilOver::new(stop, &is_over, job.bounds.watcher(), job.problem.len());
     let _ended = scout(
         job.alloc,
         job.problem,
@@ -164,10 +167,10 @@ impl Watch for Refusals {
     }
 }
 
-// What watches a search that is shown: also how many configurations were stored since it was last told, and how many calls the
+// What watches a search that is counted: also how many configurations were stored since it was last told, and how many calls the
 // furthest run has that was looked at.
 #[derive(Drop)]
-struct Shown<'c, W> {
+struct Counted<'c, W> {
     refusals: Refusals,
     watcher: &'c W,
     calls: usize,
@@ -177,10 +180,10 @@ struct Shown<'c, W> {
     furthest: u64,
 }
 
-impl<'c, W> Shown<'c, W> {
+impl<'c, W> Counted<'c, W> {
     // Of a search that begins, of a problem of so many calls.
     fn new(watcher: &'c W, calls: usize) -> Self {
-        Shown {
+        Counted {
             refusals: Refusals { more: 0 },
             watcher,
             calls,
@@ -203,7 +206,16 @@ impl<'c, W> Shown<'c, W> {
     }
 }
 
-impl<'c, W: Watcher> Watch for Shown<'c, W> {
+impl<'c, W: Watcher> Counted<'c, W> {
+    // Says what was stored since it was last said, and how far the furthest run came. (Within the trait's calls below it is said
+    // without this one: a call there that bears the bound of the watcher is not proved.)
+    fn tell(&mut self) {
+        self.watcher.add_stored(self.stored, self.furthest);
+        self.stored = 0;
+    }
+}
+
+impl<'c, W: Watcher> Watch for Counted<'c, W> {
     fn look(&mut self, lifted: &CallSet) -> bool {
         self.count(lifted);
         if self.untold == 0 {

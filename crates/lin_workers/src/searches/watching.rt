@@ -1,6 +1,6 @@
 //! A memo that watches the search over it, and a stop that ends the search where it says so. It is a hint: nothing is proved of
 //! what is watched, and nothing that is proved depends on it.
-ghost use Rattle.std.specs.Prelude.{◌≡◌};
+ghost use Rattle.std.specs.Prelude.{◌≡◌, ◌<◌};
 
 use crate::bounds::Watcher;
 use lin_history::Problem;
@@ -10,10 +10,14 @@ use std::sync::atomic::AtomicBool;
 use std::sync::atomic::Ordering::SeqCst;
 
 // How many lifts a search makes from one look at the flag to the next.
-const LIFTS_BETWEEN: u32 = 64;
+const LIFTS_BETWEEN: u32 = 32;
 
-// How many lifts it makes from one look at the clock to the next. Where thousands of calls overlap, a lift may take a millisecond.
+// How many lifts it makes from one look at the clock to the next.
 const LIFTS_TO_CLOCK: u32 = 256;
+
+// How many calls an object has at least whose search looks at the clock as often as at the flag. Where thousands of calls overlap, a
+// lift may take a millisecond.
+const MANY_CALLS: usize = 4_096;
 
 /// What watches a search, by what it asks of its memo and what it is answered.
 pub(crate) trait Watch {
@@ -144,12 +148,31 @@ pub(crate) struct UntilOver<'a, 'b, 'c, S, W> {
     stop: &'a mut S,
     is_over: &'b AtomicBool,
     watcher: &'c W,
+    has_many_calls: bool,
     lifts: u32,
 }
 
+impl<'a, 'b, 'c, S, W> UntilOver<'a, 'b, 'c, S, W> {
+    // How many lifts are made from one look at the clock to the next.
+    fn lifts_to_clock(&self) -> u32
+        ensures { 0 < result }
+    {
+        if self.has_many_calls {
+            LIFTS_BETWEEN
+        } else {
+            LIFTS_TO_CLOCK
+        }
+    }
+}
+
 impl<'a, 'b, 'c, S, W: Watcher> UntilOver<'a, 'b, 'c, S, W> {
-    // Over this stop.
-    pub(crate) fn new(stop: &'a mut S, is_over: &'b AtomicBool, watcher: &'c W) -> Self
+    // Over this stop, of a search of so many calls.
+    pub(crate) fn new(
+        stop: &'a mut S,
+        is_over: &'b AtomicBool,
+        watcher: &'c W,
+        calls: usize,
+    ) -> Self
         ensures stop { result.stop.now ≡ stop.old }
         ensures same_reference { result.stop.ghost_name ≡ stop.entry.ghost_name }
     {
@@ -157,6 +180,7 @@ impl<'a, 'b, 'c, S, W: Watcher> UntilOver<'a, 'b, 'c, S, W> {
             stop,
             is_over,
             watcher,
+            has_many_calls: calls >= MANY_CALLS,
             lifts: 0,
         }
     }
@@ -164,7 +188,7 @@ impl<'a, 'b, 'c, S, W: Watcher> UntilOver<'a, 'b, 'c, S, W> {
     // Tells how many lifts were made since that was last told: the search has ended.
     pub(crate) fn end(&self) {
         self.watcher
-            .add_tried(u64::from(self.lifts % LIFTS_TO_CLOCK));
+            .add_tried(u64::from(self.lifts % self.lifts_to_clock()));
     }
 }
 
@@ -181,8 +205,10 @@ impl<'a, 'b, 'c, S: Stop, W: Watcher> Stop for UntilOver<'a, 'b, 'c, S, W> {
     fn ask(&mut self) -> Option<u64> {
         let lifts = self.lifts;
         if lifts % LIFTS_BETWEEN == 0 {
-            if lifts % LIFTS_TO_CLOCK == 0 {
-                self.watcher.add_tried(made_before(lifts));
+            if lifts % self.lifts_to_clock() == 0 {
+                if lifts > 0 {
+                    self.watcher.add_tried(u64::from(self.lifts_to_clock()));
+                }
                 if self.watcher.is_up() {
                     return Some(0);
                 }
@@ -201,13 +227,4 @@ impl<'a, 'b, 'c, S: Stop, W: Watcher> Stop for UntilOver<'a, 'b, 'c, S, W> {
       second.0 ∙ first.0,
       S.chained a.stop.now b.stop.now c.stop.now first.1 second.1,
     ) };
-}
-
-// How many lifts were made since the clock was last asked, which is asked at the first and after each 256 lifts.
-fn made_before(lifts: u32) -> u64 {
-    if lifts == 0 {
-        0
-    } else {
-        u64::from(LIFTS_TO_CLOCK)
-    }
 }

@@ -1,5 +1,5 @@
 use Rattle.std.proofs.Common.{refl, subst}
-use Rattle.lin_ahead.specs.AnyProblem.{any_problem}
+use Rattle.lin_history.specs.Problems.AnyProblem.{any_problem}
 use Rattle.lincheck.specs.ObjectAnswer.{IsAnswered}
 use Rattle.lincheck.proofs.JudgeLemmas.{breaks}
 use Rattle.lincheck.proofs.object_check.by_turns.Goals as goal

@@ -1,5 +1,5 @@
 use Rattle.std.proofs.lemmas.Result.{IfOk-weaker}
-use Rattle.lin_ahead.specs.AnyProblem.{any_problem}
+use Rattle.lin_history.specs.Problems.AnyProblem.{any_problem}
 use Rattle.lin_workers.specs.Bounds.{without_time}
 use Rattle.lincheck.proofs.RunsLemmas.{some_verdict_back, number_back}
 use Rattle.lincheck.proofs.object_check.search_shared.Goals as goal

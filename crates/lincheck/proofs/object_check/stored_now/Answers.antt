@@ -1,4 +1,4 @@
-use Rattle.lin_ahead.specs.AnyProblem.{any_problem}
+use Rattle.lin_history.specs.Problems.AnyProblem.{any_problem}
 use Rattle.lincheck.proofs.RunsLemmas.{some_number_back}
 use Rattle.lincheck.proofs.object_check.stored_now.Goals as goal
 

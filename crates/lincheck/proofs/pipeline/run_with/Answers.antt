@@ -11,9 +11,9 @@ returns-in_default-clause-ran g c = ran_nothing c.args.options.now c.args.form _
 
 pub returns-clause-ran : goal.returns-clause-ran
 returns-clause-ran g c =
-    let prints = rw c.as_slice.ensures.value at c.in-Ok-answer.ensures in
-    let ok = rw c.as_slice-2.ensures.value at c.write_answer-written.ensures.ok in
-    let prefix = rw c.as_slice-2.ensures.value at c.write_answer-written.ensures.prefix in
+    let prints = c.in-Ok-answer.ensures in
+    let ok = rw c.as_slice.ensures.value at c.write_answer-written.ensures.ok in
+    let prefix = rw c.as_slice.ensures.value at c.write_answer-written.ensures.prefix in
     rw c.ended.ensures (ran_ended c.args.options.now c.args.form _ _ _ c.in-Ok.text.items c.in-Ok-answer.status c.in-Ok-answer.answer.items c.write_answer-written.result c.in-Ok.ensures.text prints ok prefix)
 
 pub returns-clause-source : goal.returns-clause-source
