@@ -20,7 +20,7 @@ from pathlib import Path
 HERE = Path(__file__).resolve().parent
 CRATES = HERE.parent / "crates"
 REFUSED = (4, b"", b"lincheck: out of memory\n")
-PROGRESS = re.compile(rb"^lincheck: \S+: \d+ calls tried, .*\n", re.M)
+PROGRESS = re.compile(rb"^lincheck: \S+: .*\d+ calls tried, .*\n", re.M)
 
 
 def built(room):

@@ -4,6 +4,7 @@
 mod boards;
 mod checks;
 mod command_line;
+mod cores;
 mod cuts;
 mod devices;
 mod fakes;

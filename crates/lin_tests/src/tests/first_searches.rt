@@ -3,16 +3,16 @@
 use super::random::random_history;
 use super::searches::Event::{Call, Return};
 use super::searches::{Event, Part, plainly_searched, posed_by};
-use lin_ahead::{FirstAnswer, known_ahead, search_first};
+use lin_ahead::{known_ahead, search_first};
 use lin_object::{Kind, Op, Reply};
-use lin_search::Outcome;
+use lin_search::{NoStop, Outcome, Told};
 use std::alloc::{AllocError, Global};
 
 // Whether the first search answered what the search without a memo did.
-fn is_as_plain(first: &FirstAnswer, plain: &Outcome) -> bool {
+fn is_as_plain(first: &Told, plain: &Outcome) -> bool {
     match (first, plain) {
-        (FirstAnswer::Found(order), Outcome::Found(least)) => order.calls() == least.calls(),
-        (FirstAnswer::Refuted, Outcome::Refuted(_)) => true,
+        (Told::Found(order), Outcome::Found(least)) => order.calls() == least.calls(),
+        (Told::Refuted, Outcome::Refuted(_)) => true,
         _ => false,
     }
 }
@@ -22,7 +22,7 @@ fn first_is_as_plain(alloc: Global, problem: &Part) -> Result<bool, AllocError> 
     let Some(ahead) = known_ahead(alloc, problem)? else {
         return Ok(false);
     };
-    let first = search_first(alloc, problem, &ahead, 1_000_000)?;
+    let first = search_first(alloc, problem, &ahead, 1_000_000, &mut NoStop)?;
     Ok(is_as_plain(&first, &plainly_searched(alloc, problem)?))
 }
 
@@ -66,13 +66,9 @@ const GET_OF_MORE_THAN_WAS_ADDED: [Event; 8] = [
 ];
 
 // What a first search of so many lifts answers, where something is known ahead.
-fn first_told(
-    alloc: Global,
-    problem: &Part,
-    lifts: u64,
-) -> Result<Option<FirstAnswer>, AllocError> {
+fn first_told(alloc: Global, problem: &Part, lifts: u64) -> Result<Option<Told>, AllocError> {
     match known_ahead(alloc, problem)? {
-        Some(ahead) => Ok(Some(search_first(alloc, problem, &ahead, lifts)?)),
+        Some(ahead) => Ok(Some(search_first(alloc, problem, &ahead, lifts, &mut NoStop)?)),
         None => Ok(None),
     }
 }
@@ -81,10 +77,5 @@ fn first_told(
 #[test]
 fn after_a_call_that_changes_nothing_no_other_is_tried(rt: HostRuntime) {
     let problem = posed_by(rt.alloc(), Kind::Counter, &GET_OF_MORE_THAN_WAS_ADDED);
-    assert!(rt;
-        matches!(
-            first_told(rt.alloc(), &problem, 5),
-            Ok(Some(FirstAnswer::Refuted))
-        )
-    );
+    assert!(rt; matches!(first_told(rt.alloc(), &problem, 5), Ok(Some(Told::Refuted))));
 }

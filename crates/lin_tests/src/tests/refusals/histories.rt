@@ -6,11 +6,12 @@ ghost use Rattle.lin_history.specs.Problems.Linearizations.{IsLinearization};
 
 use super::checking::are_calls;
 use super::starved::{Attempt, Starved, TIMES, is_refused};
-use lin_ahead::{FirstAnswer, known_ahead, search_first};
+use lin_ahead::{known_ahead, search_first};
 use lin_history::{
     BuildFault, Builder, History, Order, Placed, Problem, ProblemFault, WholeOrder, join, verify,
 };
 use lin_object::{AnyObject, Kind, ObjState, Op, Reply};
+use lin_search::{NoStop, Told};
 use lin_text::{Cause, read_history};
 use std::alloc::{AllocError, Global};
 use std::mem;
@@ -247,9 +248,9 @@ fn first_order(alloc: Global, history: &History) -> Result<Option<Order>, AllocE
     let Some(ahead) = known_ahead(alloc, &problem)? else {
         return Ok(None);
     };
-    match search_first(alloc, &problem, &ahead, 100)? {
-        FirstAnswer::Found(order) => Ok(Some(order)),
-        FirstAnswer::Refuted | FirstAnswer::Exhausted => Ok(None),
+    match search_first(alloc, &problem, &ahead, 100, &mut NoStop)? {
+        Told::Found(order) => Ok(Some(order)),
+        Told::Refuted | Told::Nothing => Ok(None),
     }
 }
 
