@@ -7,6 +7,7 @@ mod seen;
 mod words;
 
 use before::{Before, declared, hint_of_pending, hint_of_too_many, kind_named};
+use lin_history::{MAX_NAME_BYTES, MAX_OBJECTS};
 use lin_object::{Kind, kind_of_name};
 use lin_text::{Cause, TextFault};
 use looks::look_of;
@@ -118,8 +119,10 @@ fn hint_of_value(
             )
         }
         Cause::BadObject => {
-            let allowed = "a name has 1 to 64 bytes, of A-Z a-z 0-9 _ . / : -";
-            seen_and(alloc, value, "object", allowed)
+            let seen = seen(alloc, value, "object")?;
+            format!(in alloc;
+                "{seen}; a name has 1 to {MAX_NAME_BYTES} bytes, of A-Z a-z 0-9 _ . / : -"
+            )
         }
         Cause::UnknownObject => {
             let declared = declared(alloc, before)?;
@@ -132,6 +135,9 @@ fn hint_of_value(
         Cause::BadResult => hint_of_result(alloc, value),
         Cause::Busy(process) | Cause::OtherObject(process) => {
             hint_of_pending(alloc, before, process)
+        }
+        Cause::TooManyObjects => {
+            format!(in alloc; "there are {MAX_OBJECTS} at most; some may have a text of their own")
         }
         Cause::TooManyCalls => hint_of_too_many(alloc, before, word_at(value, "object")),
         _ => said(alloc, words_for(cause)),
@@ -152,8 +158,6 @@ fn words_for(cause: Cause) -> &'static str {
         Cause::NoCall(_) => {
             "a \"return\", a \"fail\" or an \"info\" ends the call of the process that it names"
         }
-        Cause::TooManyObjects =>
-            "there are 1024 at most; objects are judged one by one, so some may have a text of their own",
         _ => "docs/FORMAT.md says what a line may hold",
     }
 }

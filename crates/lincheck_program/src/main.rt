@@ -22,13 +22,30 @@ fn words(rt: &HostRuntime) -> io::Result<Vec<String>> {
     Ok(env::args(rt)?.skip(1).collect(rt.alloc())?)
 }
 
-// Whether a word after the program's name is no option and no number, as the name of a file.
-fn has_bare_word(rt: &HostRuntime) -> bool {
-    match words(rt) {
-        Ok(words) => words.iter().any(|word| {
-            !word.starts_with('-') && word.parse::<u64>().is_err()
-        }),
-        Err(_) => false,
+// Whether the word is an option behind which a number stands.
+fn takes_number(word: &str) -> bool {
+    matches!(word, "--workers" | "--shards" | "--limit" | "--seconds")
+}
+
+// Whether one of the words is neither an option nor what stands behind one: it may be the name of a file.
+fn has_bare_word(words: &[String]) -> bool {
+    let mut is_behind_option = false;
+    for word in words {
+        if !is_behind_option && !word.starts_with('-') {
+            return true;
+        }
+        is_behind_option = takes_number(word.as_str());
+    }
+    false
+}
+
+// What helps where the words are refused.
+fn say_what_helps(rt: &HostRuntime) {
+    let Ok(words) = words(rt) else {
+        return;
+    };
+    if has_bare_word(words.as_slice()) {
+        let _ = eprintln!(rt; "lincheck reads standard input: lincheck < HISTORY");
     }
 }
 
@@ -86,9 +103,7 @@ fn carry_out<R: AllocGlobal + Threads + Clock + Sync>(
         },
         Request::Refused(text) => {
             let _ = eprint!(rt; "{text}");
-            if has_bare_word(rt) {
-                let _ = eprintln!(rt; "lincheck reads standard input: lincheck < HISTORY");
-            }
+            say_what_helps(rt);
             ended(rt, Ok(Status::Refused))
         }
     }
