@@ -151,6 +151,10 @@ fn refusal<S: Stop>(left: &mut Option<u64>, stop: &mut S) -> Option<Outcome>
 // notes each configuration that it comes to.
 const STEPS_AT_FIRST: u64 = 10_000;
 
+// After how many steps the stop is asked between lifts. Where thousands of calls overlap, a search may go back for seconds and lift
+// none. A step takes some microseconds at most, if it is no lift.
+const STEPS_BETWEEN: u64 = 4_096;
+
 /// On what terms a search is made.
 #[derive(Clone, Copy)]
 pub(crate) struct Terms {
@@ -599,6 +603,18 @@ fn passes_over_after(terms: Terms, steps: u64) -> bool
     terms.passes_over && steps >= STEPS_AT_FIRST
 }
 
+// What the stop answers between lifts, where it is asked after so many steps.
+fn told_between<S: Stop>(steps: u64, stop: &mut S) -> Option<u64>
+    ensures told { IfSome result (S.tells stop.new) }
+    ensures follows { S.follows stop.old stop.new }
+{
+    if steps % STEPS_BETWEEN == 0 {
+        stop.ask_between()
+    } else {
+        None
+    }
+}
+
 // Searches on from a path without a frame until the search ends. Where the configuration there is refuted, the search
 // is back at it; it is not handed to the memo.
 fn search_on<O: SeqObject, M: Memo<O>, S: Stop>(
@@ -643,6 +659,12 @@ fn search_on<O: SeqObject, M: Memo<O>, S: Stop>(
     loop {
         tally.terms.passes_over = passes_over_after(terms, steps);
         steps = steps.saturating_add(1);
+        if let Some(told) = told_between(steps, stop) {
+            return Ok(Ended {
+                outcome: Outcome::Stopped(told),
+                whole: tally.whole,
+            });
+        }
         match step(path, position, memo, &mut tally, identical, stop)? {
             ControlFlow::Continue(next) => position = next,
             ControlFlow::Break(outcome) => {
@@ -783,7 +805,7 @@ pub(crate) fn search_from<O: SeqObject, M: Memo<O>, S: Stop>(
 ///
 /// A *lift* is one child that was made, whether or not the memo has it. `Undecided` where a limit is given
 /// and as many lifts were made and another was to be made. Before each lift that the limit allows, the stop
-/// is asked: `Stopped` with its number where it answers one. `Found` is the least completion, and `Refuted`
+/// is asked, and between lifts after each 4,096 steps: `Stopped` with its number where it answers one. `Found` is the least completion, and `Refuted`
 /// is returned only where there is none, whatever the memo forgets or who else writes to it. No answer of the
 /// memo ends a search. `AllocError` where memory was refused; what was noted before stays in the memo.
 ///

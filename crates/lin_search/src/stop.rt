@@ -1,7 +1,7 @@
 //! What may stop a search.
 ghost use Rattle.std.specs.Prelude.{◌≡◌, ℕ, IfSome};
 
-/// What a search asks before each lift: whether it is to stop.
+/// What a search asks before each lift, and now and then between lifts: whether it is to stop.
 ///
 /// A stop names a fact about its state for each number that it may answer, and a relation from an old
 /// state to a new one that each of its calls keeps.
@@ -16,6 +16,15 @@ pub trait Stop {
     fn ask(&mut self) -> Option<u64>
         ensures told { IfSome result (λ told. tells self.new told) }
         ensures follows { follows self.old self.new };
+
+    /// The same between lifts: a search that goes back, or passes calls over, may take long without a lift. It is asked seldom, and
+    /// is no lift. A stop without a body of its own lets the search go on.
+    fn ask_between(&mut self) -> Option<u64>
+        ensures told { IfSome result (λ told. tells self.new told) }
+        ensures follows { follows self.old self.new }
+    {
+        None
+    }
 
     ghost unchanged: { (s : Self) → follows s s };
 
@@ -87,6 +96,10 @@ impl<'a, S: Stop> Stop for AtTimes<'a, S> {
             self.left = ASKED_BETWEEN;
         }
         told
+    }
+
+    fn ask_between(&mut self) -> Option<u64> {
+        self.stop.ask_between()
     }
 
     ghost unchanged = { λ s. (refl, S.unchanged s.stop.now) };

@@ -221,6 +221,13 @@ impl<'a, 'b, 'c, S: Stop, W: Watcher> Stop for UntilOver<'a, 'b, 'c, S, W> {
         self.stop.ask()
     }
 
+    fn ask_between(&mut self) -> Option<u64> {
+        if self.watcher.is_up() || self.is_over.load(SeqCst) {
+            return Some(0);
+        }
+        self.stop.ask_between()
+    }
+
     ghost unchanged = { λ s. (refl, S.unchanged s.stop.now) };
 
     ghost chained = { λ a b c first second. (

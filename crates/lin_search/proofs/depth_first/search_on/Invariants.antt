@@ -5,12 +5,12 @@ use Rattle.lin_search.specs.Path.{frames_of}
 use Rattle.lin_search.specs.Progress.{IsProgress, HoldsSearched, bound, work}
 use Rattle.lin_search.proofs.depth_first.search_on.Given as goal
 
-abbrev pub decreases-loop-next : goal.decreases-loop-next
-decreases-loop-next g l =
+abbrev pub decreases-loop-told : goal.decreases-loop-told
+decreases-loop-told g l =
     work (length l.path.entries.problem.calls) l.fn.path.config.lifted (frames_of g.O.SeqObject.undone l.path.frames.items l.path.config.state) l.path.config.lifted (bound (problem_of g.O.SeqObject.after g.O.State.PartialEq.eq g.O.Reply.PartialEq.eq l.path.entries.problem) l.position.candidate)
 
-abbrev pub invariant-loop-next : goal.invariant-loop-next
-invariant-loop-next g l = record {
+abbrev pub invariant-loop-told : goal.invariant-loop-told
+invariant-loop-told g l = record {
   problem : l.path.entries.problem ≡ l.fn.path.entries.problem;
   progress : IsProgress (problem_of g.O.SeqObject.after g.O.State.PartialEq.eq g.O.Reply.PartialEq.eq l.path.entries.problem) l.fn.path.config l.fn.terms.limit l.path.entries.lifted (frames_of g.O.SeqObject.undone l.path.frames.items l.path.config.state) l.tally.left l.path.config l.position.longest l.position.candidate;
   memo : g.M.Memo.changes l.fn.memo l.memo;
