@@ -1,5 +1,5 @@
 -- Parts made anew, and what a search tells of them.
-use Rattle.std.proofs.Common.{◌≡◌, ℕ, zero, suc, ◌<◌, List, [], ◌∷◌, length, subst, arith}
+use Rattle.std.proofs.Common.{◌≡◌, ℕ, zero, suc, ◌<◌, List, [], ◌∷◌, length, refl, subst, arith}
 use Rattle.std.specs.Prelude.{slice_get, slice_index}
 use Rattle.lin_object.specs.declared.op.Op.{Op}
 use Rattle.lin_object.specs.declared.reply.Reply.{Reply}
@@ -13,7 +13,7 @@ use Rattle.lin_history.specs.Problems.AnyProblem.{any_problem}
 use Rattle.lin_parts.specs.Parts.{IsRising, part_of, name}
 use Rattle.lin_prefixes.specs.Prefixes.{HasNoRunWith}
 use Rattle.lin_prefixes.specs.Freed.{IsLoosePrefix}
-use Rattle.lin_ahead.proofs.AnyLemmas.{of_any}
+use Rattle.lin_history.specs.ReplyLemmas.{reply_same}
 use Rattle.lin_prefixes.specs.PartAnswer.{IsPartAnswer}
 use Rattle.lin_parts.specs.PartLemmas.{name_in}
 use Rattle.lin_prefixes.proofs.LooseLemmas.{no_run_by_loose}
@@ -36,4 +36,4 @@ module _ {Object : Type 0} (whole part : ProblemParts Object ObjState Op Reply) 
   part_answer kept rises count same Refuted h = (part.calls, record { count = count; same = same; rises = rising_at kept rises }, at_part (λ p. IsRightOf p Refuted) h)
 
   pub loose_answer : (k : ℕ) (kept takers : List ℕ) → k < length whole.calls → IsLoosePrefix (any_problem whole) k kept takers part.calls → IsRightOf (any_problem part) Refuted → HasNoRunWith (any_problem whole) k kept
-  loose_answer k kept takers last loose h = no_run_by_loose (any_problem whole) k kept takers part.calls loose last (of_any whole []) (at_part (λ p. IsRightOf p Refuted) h)
+  loose_answer k kept takers last loose h = no_run_by_loose (any_problem whole) k kept takers part.calls loose last (record { after_is = λ s process op. refl; exact = reply_same }) (at_part (λ p. IsRightOf p Refuted) h)

@@ -1,98 +1,17 @@
--- A run of a queue without some calls that took an item or found none, and without the calls that put those items in.
-use Rattle.std.proofs.Common.{◌≡◌, ℕ, Bool, true, false, cond, Option, Some, None, List, [], ◌∷◌, ◌++◌, length, ◌⊎◌, inl, inr, refl, sym, ◌∙◌, ap, subst, append_assoc, append-nil}
-use Rattle.std.specs.Prelude.{ℤ, slice_get, IfSome}
+-- A run of a queue or a stack without some calls that took an item or found none, and without the calls that put those items in.
+use Rattle.std.proofs.Common.{◌≡◌, ℕ, Some, List, [], ◌∷◌, ◌++◌, ◌⊎◌, inl, inr, refl, sym, ◌∙◌, ap, subst, append_assoc}
+use Rattle.std.specs.Prelude.{ℤ}
 use Rattle.lin_object.specs.declared.op.Op.{Op}
-use Rattle.lin_object.specs.declared.op.Op.TheVariants.{Write, Read, Cas, Add, Get, Enqueue, Dequeue, Push, Pop, Insert, Remove, Contains, Lock, Unlock, TryLock, Put, Lookup, Delete}
 use Rattle.lin_object.specs.declared.reply.Reply.{Reply}
-use Rattle.lin_object.specs.declared.reply.Reply.TheVariants.{Okay, Int, Empty}
 use Rattle.lin_object.specs.declared.state.ObjState.{ObjState}
-use Rattle.lin_object.specs.declared.state.ObjState.TheVariants.{Queue}
-use Rattle.lin_object.specs.Kinds.Queue.{queue_step}
-use Rattle.lin_history.specs.declared.problems.problem.ProblemCall.{ProblemCall}
 use Rattle.lin_history.specs.Problems.Problem.{Problem}
 use Rattle.lin_history.specs.Problems.Lists.{In, IsDistinct}
-use Rattle.lin_history.specs.Problems.ListLemmas.{in_early, in_late, in_either, in_place, apart}
-use Rattle.lin_history.specs.Problems.LegalLists.{fits, state_if_fits, after_call, next, Legal}
-use Rattle.lin_history.specs.Problems.Precedence.{Before}
-use Rattle.lin_ahead.specs.Queue.{IsOfQueue, Puts, Took}
-use Rattle.lin_ahead.proofs.AnswerLemmas.{Is, state_of, reply_of}
-use Rattle.lin_ahead.proofs.QueueLemmas.{QueueStep, queue_leaves, stepped, has_call}
+use Rattle.lin_history.specs.Problems.ListLemmas.{in_early, in_late, in_either, in_place}
+use Rattle.lin_history.specs.Problems.LegalLists.{Legal}
+use Rattle.lin_ahead.specs.Impossible.{AddsItem}
+use Rattle.lin_prefixes.proofs.ItemStepLemmas.{HoldsItems}
 use Rattle.lin_prefixes.proofs.LackLemmas.{in_or_not}
-use Rattle.lin_prefixes.specs.Freed.{Dequeued, IsFreed, IsThinned}
-
--- ---- items
-
--- the last item, or one before it
-last_split : (xs : List ℤ) (v : ℤ) (front : List ℤ) (w : ℤ) (rest : List ℤ) → xs ++ v ∷ [] ≡ front ++ w ∷ rest
-    → ((v ≡ w) × (xs ≡ front) × (rest ≡ [])) ⊎ ((more : List ℤ) × (xs ≡ front ++ w ∷ more) × (rest ≡ more ++ v ∷ []))
-last_split [] v [] w rest e = inl ((cc), refl, (cc))
-last_split [] v (z ∷ []) w rest e = absurd (cc)
-last_split [] v (z ∷ (y ∷ front)) w rest e = absurd (cc)
-last_split (x ∷ xs) v [] w rest e = inr (xs, (let h : x ≡ w = cc in ap (λ (y : ℤ). y ∷ xs) h), (let t : xs ++ v ∷ [] ≡ rest = cc in sym t))
-last_split (x ∷ xs) v (z ∷ front) w rest e =
-    let h : x ≡ z = cc in
-    let tail : xs ++ v ∷ [] ≡ front ++ w ∷ rest = cc in
-    elim (last_split xs v front w rest tail) [
-      | inl q ↦ (let f = q.1 in inl (q.0, cc, q.2))
-      | inr q ↦ (let f = q.1 in inr (q.0, cc, q.2))
-    ]
-
-empty_not : (front : List ℤ) (w : ℤ) (rest : List ℤ) → [] ≡ front ++ w ∷ rest → ⊥
-empty_not [] w rest e = cc
-empty_not (x ∷ front) w rest e = cc
-
-same_items : (a b : List ℤ) → Queue a ≡ Queue b → a ≡ b
-same_items a b e = cc
-
-both_same : (s t : ObjState) (r q : Reply) → s ≡ t → r ≡ q → Is (Some (s, r)) t q
-both_same s t r q e f = cc
-
--- ---- one step
-
--- A step that leaves the queue with this item in it: the item was there before, and the step is one without it too; or it was put in last.
-abbrev Moved : List ℤ → Op → Reply → List ℤ → ℤ → List ℤ → Type 0
-Moved items op r front w rest =
-    ((a : List ℤ) × (b : List ℤ) × (items ≡ a ++ w ∷ b) × Is (queue_step (a ++ b) op) (Queue (front ++ rest)) r)
-    ⊎ ((op ≡ Enqueue w) × (items ≡ front) × (rest ≡ []))
-
-moved_in : (items : List ℤ) (v : ℤ) (m : ObjState) (r : Reply) (front : List ℤ) (w : ℤ) (rest : List ℤ) → Is (queue_step items (Enqueue v)) m r → m ≡ Queue (front ++ w ∷ rest) → Moved items (Enqueue v) r front w rest
-moved_in items v m r front w rest e f =
-    let same : items ++ v ∷ [] ≡ front ++ w ∷ rest = same_items (items ++ v ∷ []) (front ++ w ∷ rest) (state_of e ∙ f) in
-    elim (last_split items v front w rest same) [
-      | inl q ↦ inr (ap Enqueue q.0, q.1, q.2)
-      | inr q ↦ inl (front, q.0, q.1, both_same (Queue ((front ++ q.0) ++ v ∷ [])) (Queue (front ++ rest)) Okay r (ap Queue (append_assoc front q.0 (v ∷ []) ∙ ap (λ (l : List ℤ). front ++ l) (sym q.2))) (reply_of e))
-    ]
-
-moved_out : (items : List ℤ) (m : ObjState) (r : Reply) (front : List ℤ) (w : ℤ) (rest : List ℤ) → Is (queue_step items Dequeue) m r → m ≡ Queue (front ++ w ∷ rest) → Moved items Dequeue r front w rest
-moved_out [] m r front w rest e f = absurd (empty_not front w rest (same_items [] (front ++ w ∷ rest) (state_of e ∙ f)))
-moved_out (u ∷ items) m r front w rest e f =
-    inl (u ∷ front, rest, ap (λ (l : List ℤ). u ∷ l) (same_items items (front ++ w ∷ rest) (state_of e ∙ f)), both_same (Queue (front ++ rest)) (Queue (front ++ rest)) (Int u) r refl (reply_of e))
-
-moved : (items : List ℤ) (op : Op) (m : ObjState) (r : Reply) (front : List ℤ) (w : ℤ) (rest : List ℤ) → Is (queue_step items op) m r → m ≡ Queue (front ++ w ∷ rest) → Moved items op r front w rest
-moved items (Enqueue v) m r front w rest e f = moved_in items v m r front w rest e f
-moved items Dequeue m r front w rest e f = moved_out items m r front w rest e f
-moved items (Write v) m r front w rest e f = absurd (cc)
-moved items Read m r front w rest e f = absurd (cc)
-moved items (Cas x y) m r front w rest e f = absurd (cc)
-moved items (Add d) m r front w rest e f = absurd (cc)
-moved items Get m r front w rest e f = absurd (cc)
-moved items (Push v) m r front w rest e f = absurd (cc)
-moved items Pop m r front w rest e f = absurd (cc)
-moved items (Insert v) m r front w rest e f = absurd (cc)
-moved items (Remove v) m r front w rest e f = absurd (cc)
-moved items (Contains v) m r front w rest e f = absurd (cc)
-moved items Lock m r front w rest e f = absurd (cc)
-moved items Unlock m r front w rest e f = absurd (cc)
-moved items TryLock m r front w rest e f = absurd (cc)
-moved items (Put k v) m r front w rest e f = absurd (cc)
-moved items (Lookup k) m r front w rest e f = absurd (cc)
-moved items (Delete k) m r front w rest e f = absurd (cc)
-
-if_fits : (b : Bool) (m : ObjState) → b ≡ true → cond b (Some m) None ≡ Some m
-if_fits true m e = refl
-if_fits false m e = absurd (cc)
-
--- ---- lists of calls
+use Rattle.lin_prefixes.specs.Freed.{IsFreed, IsThinned, TookOut}
 
 split_place : (xs ys early : List ℕ) (b : ℕ) (late : List ℕ) → xs ++ ys ≡ early ++ b ∷ late → ((more : List ℕ) × (early ≡ xs ++ more) × (ys ≡ more ++ b ∷ late)) ⊎ ((more : List ℕ) × (xs ≡ early ++ b ∷ more))
 split_place [] ys early b late e = inl (early, refl, e)
@@ -140,10 +59,11 @@ module _ (p : Problem ObjState Op Reply) (takers r : List ℕ) where
 
 -- ---- legal lists
 
-module _ {p : Problem ObjState Op Reply} {start : List ℤ} (of_queue : IsOfQueue p start) where
-  restep : (a : List ℤ) (m : ObjState) (c : ℕ) (x : ProblemCall Op Reply) (r : Reply) → slice_get p.calls c ≡ Some x → Is (queue_step a x.op) m r → fits p.same_reply r x.returned ≡ true → next p (Queue a) c ≡ Some m
-  restep a m c x r there is fit = ap (after_call p (Queue a)) there ∙ ap (state_if_fits p.same_reply x.returned) (of_queue.after_is (Queue a) x.process x.op ∙ is) ∙ if_fits (fits p.same_reply r x.returned) m fit
+empty_not : (front : List ℤ) (w : ℤ) (rest : List ℤ) → [] ≡ front ++ w ∷ rest → ⊥
+empty_not [] w rest e = cc
+empty_not (x ∷ front) w rest e = cc
 
+module _ (p : Problem ObjState Op Reply) where
   split : (xs ys : List ℕ) (s t : ObjState) → Legal p s (xs ++ ys) t → (m : ObjState) × Legal p s xs m × Legal p m ys t
   split [] ys s t h = (s, refl, h)
   split (x ∷ xs) ys s t h = let k = split xs ys h.0 t h.2 in (k.0, (h.0, h.1, k.1), k.2)
@@ -152,70 +72,65 @@ module _ {p : Problem ObjState Op Reply} {start : List ℤ} (of_queue : IsOfQueu
   join [] ys s m t h k = subst (λ (u : ObjState). Legal p u ys t) (sym h) k
   join (x ∷ xs) ys s m t h k = (h.0, h.1, join xs ys h.0 m t h.2 k)
 
-  still_queue : (l : List ℕ) (items : List ℤ) (t : ObjState) → Legal p (Queue items) l t → (rest : List ℤ) × (t ≡ Queue rest)
-  still_queue [] items t h = (items, sym h)
-  still_queue (c ∷ cs) items t (m, step, more) =
-      let call = has_call of_queue (Queue items) m c step in
-      let k = stepped of_queue items m c call.0 call.1 step in
-      let one = queue_leaves items call.0.op m k.0 k.1 in
-      still_queue cs one.rest t (subst (λ (s : ObjState). Legal p s cs t) one.ends more)
+-- of an object whose states are lists of items, of which the first is taken
+module _ {p : Problem ObjState Op Reply} {state : List ℤ → ObjState} {IsTaker : ℕ → Type 0} (holds : HoldsItems p state IsTaker) where
+  still_items : (l : List ℕ) (items : List ℤ) (t : ObjState) → Legal p (state items) l t → (rest : List ℤ) × (t ≡ state rest)
+  still_items [] items t h = (items, sym h)
+  still_items (c ∷ cs) items t (m, step, more) =
+      let one = holds.leaves items m c step in
+      still_items cs one.0 t (subst (λ (s : ObjState). Legal p s cs t) one.1 more)
 
   -- An item that is there at the end was there before, and the calls are legal without it; or one of them put it in, and they are legal without that.
   abbrev Found : List ℕ → List ℤ → List ℤ → ℤ → List ℤ → Type 0
   Found l items front w rest =
-      ((a : List ℤ) × (b : List ℤ) × (items ≡ a ++ w ∷ b) × Legal p (Queue (a ++ b)) l (Queue (front ++ rest)))
-      ⊎ ((early : List ℕ) × (e : ℕ) × (late : List ℕ) × (l ≡ early ++ e ∷ late) × Puts p e w × Legal p (Queue items) (early ++ late) (Queue (front ++ rest)))
+      ((a : List ℤ) × (b : List ℤ) × (items ≡ a ++ w ∷ b) × Legal p (state (a ++ b)) l (state (front ++ rest)))
+      ⊎ ((early : List ℕ) × (e : ℕ) × (late : List ℕ) × (l ≡ early ++ e ∷ late) × AddsItem p e w × Legal p (state items) (early ++ late) (state (front ++ rest)))
 
-  find : (l : List ℕ) (items front : List ℤ) (w : ℤ) (rest : List ℤ) → Legal p (Queue items) l (Queue (front ++ w ∷ rest)) → Found l items front w rest
-  find [] items front w rest h = inl (front, rest, same_items items (front ++ w ∷ rest) h, refl)
+  find : (l : List ℕ) (items front : List ℤ) (w : ℤ) (rest : List ℤ) → Legal p (state items) l (state (front ++ w ∷ rest)) → Found l items front w rest
+  find [] items front w rest h = inl (front, rest, holds.same_items items (front ++ w ∷ rest) h, refl)
   find (c ∷ cs) items front w rest (m, step, more) =
-      let call = has_call of_queue (Queue items) m c step in
-      let k = stepped of_queue items m c call.0 call.1 step in
-      let one = queue_leaves items call.0.op m k.0 k.1 in
-      elim (find cs one.rest front w rest (subst (λ (s : ObjState). Legal p s cs (Queue (front ++ w ∷ rest))) one.ends more)) [
-        | inl q ↦ elim (moved items call.0.op m k.0 q.0 w q.1 k.1 (one.ends ∙ ap Queue q.2)) [
-          | inl s ↦ inl (s.0, s.1, s.2, (Queue (q.0 ++ q.1), restep (s.0 ++ s.1) (Queue (q.0 ++ q.1)) c call.0 k.0 call.1 s.3 k.2, q.3))
-          | inr s ↦ inr ([], c, cs, refl, (call.0, call.1, s.0), subst (λ (l : List ℤ). Legal p (Queue l) cs (Queue (front ++ rest))) (ap (λ (l : List ℤ). q.0 ++ l) s.2 ∙ append-nil q.0 ∙ sym s.1) q.3)
+      let one = holds.leaves items m c step in
+      elim (find cs one.0 front w rest (subst (λ (s : ObjState). Legal p s cs (state (front ++ w ∷ rest))) one.1 more)) [
+        | inl q ↦ elim (holds.moved items q.0 w q.1 c (step ∙ ap Some (one.1 ∙ ap state q.2))) [
+          | inl s ↦ inl (s.0, s.1, s.2, (state (q.0 ++ q.1), s.3, q.3))
+          | inr s ↦ inr ([], c, cs, refl, s.0, subst (λ (l : List ℤ). Legal p (state l) cs (state (front ++ rest))) (sym s.1) q.3)
         ]
-        | inr q ↦ inr (c ∷ q.0, q.1, q.2, ap (λ (l : List ℕ). c ∷ l) q.3, q.4, (Queue one.rest, step ∙ ap Some one.ends, q.5))
+        | inr q ↦ inr (c ∷ q.0, q.1, q.2, ap (λ (l : List ℕ). c ∷ l) q.3, q.4, (state one.0, step ∙ ap Some one.1, q.5))
       ]
 
   -- without it the list is legal, or without it and a call that put in what it took
-  without_taker : (xs : List ℕ) (g : ℕ) (ys : List ℕ) (t : ObjState) → Dequeued p g → Legal p (Queue []) (xs ++ g ∷ ys) t
-      → Legal p (Queue []) (xs ++ ys) t ⊎ ((early : List ℕ) × (e : ℕ) × (late : List ℕ) × (w : ℤ) × (xs ≡ early ++ e ∷ late) × Puts p e w × Took p g w × Legal p (Queue []) (early ++ (late ++ ys)) t)
-  without_taker xs g ys t (x, there, op, (q, back)) h =
-      let parts = split xs (g ∷ ys) (Queue []) t h in
-      let here = still_queue xs [] parts.0 parts.1 in
-      go here.0 (subst (λ (s : ObjState). Legal p (Queue []) xs s) here.1 parts.1) (subst (λ (s : ObjState). Legal p s (g ∷ ys) t) here.1 parts.2)
+  abbrev WithoutTaker : List ℕ → ℕ → List ℕ → ObjState → Type 0
+  WithoutTaker xs g ys t = Legal p (state []) (xs ++ ys) t ⊎ ((early : List ℕ) × (e : ℕ) × (late : List ℕ) × (w : ℤ) × (xs ≡ early ++ e ∷ late) × AddsItem p e w × TookOut p g w × Legal p (state []) (early ++ (late ++ ys)) t)
+
+  without_taker : (xs : List ℕ) (g : ℕ) (ys : List ℕ) (t : ObjState) → IsTaker g → Legal p (state []) (xs ++ g ∷ ys) t → WithoutTaker xs g ys t
+  without_taker xs g ys t taker h =
+      let parts = split p xs (g ∷ ys) (state []) t h in
+      let here = still_items xs [] parts.0 parts.1 in
+      go here.0 (subst (λ (s : ObjState). Legal p (state []) xs s) here.1 parts.1) (subst (λ (s : ObjState). Legal p s (g ∷ ys) t) here.1 parts.2)
     where
-      go : (items : List ℤ) → Legal p (Queue []) xs (Queue items) → Legal p (Queue items) (g ∷ ys) t
-          → Legal p (Queue []) (xs ++ ys) t ⊎ ((early : List ℕ) × (e : ℕ) × (late : List ℕ) × (w : ℤ) × (xs ≡ early ++ e ∷ late) × Puts p e w × Took p g w × Legal p (Queue []) (early ++ (late ++ ys)) t)
-      go [] before (m, step, more) =
-          let k = stepped of_queue [] m g x there step in
-          let is : Is (queue_step [] Dequeue) m k.0 = subst (λ (o : Op). Is (queue_step [] o) m k.0) op k.1 in
-          inl (join xs ys (Queue []) (Queue []) t before (subst (λ (s : ObjState). Legal p s ys t) (sym (state_of is)) more))
-      go (w ∷ rest) before (m, step, more) =
-          let k = stepped of_queue (w ∷ rest) m g x there step in
-          let is : Is (queue_step (w ∷ rest) Dequeue) m k.0 = subst (λ (o : Op). Is (queue_step (w ∷ rest) o) m k.0) op k.1 in
-          let after_ : Legal p (Queue rest) ys t = subst (λ (s : ObjState). Legal p s ys t) (sym (state_of is)) more in
-          let fit : fits p.same_reply k.0 (Some q) ≡ true = subst (λ (o : Option (ℕ × Reply)). fits p.same_reply k.0 o ≡ true) back k.2 in
-          let reply : q.1 ≡ Int w = sym (of_queue.exact k.0 q.1 fit) ∙ sym (reply_of is) in
-          elim (find xs [] [] w rest before) [
+      go : (items : List ℤ) → Legal p (state []) xs (state items) → Legal p (state items) (g ∷ ys) t → WithoutTaker xs g ys t
+      go items before (m, step, more) = elim (holds.takes items m g taker step) [
+        | inl none ↦ inl (join p xs ys (state []) (state []) t (subst (λ (l : List ℤ). Legal p (state []) xs (state l)) none.0 before) (subst (λ (s : ObjState). Legal p s ys t) none.1 more))
+        | inr one ↦ taken one.0 one.1 one.3 (subst (λ (l : List ℤ). Legal p (state []) xs (state l)) one.2 before) (subst (λ (s : ObjState). Legal p s ys t) one.4 more)
+      ]
+        where
+          taken : (w : ℤ) (rest : List ℤ) → TookOut p g w → Legal p (state []) xs (state (w ∷ rest)) → Legal p (state rest) ys t → WithoutTaker xs g ys t
+          taken w rest took front back = elim (find xs [] [] w rest front) [
             | inl s ↦ absurd (empty_not s.0 w s.1 s.2)
-            | inr s ↦ inr (s.0, s.1, s.2, w, s.3, s.4, (x, there, op, (q.0, back ∙ ap (λ (a : Reply). Some (q.0, a)) reply)), subst (λ (l : List ℕ). Legal p (Queue []) l t) (append_assoc s.0 s.2 ys) (join (s.0 ++ s.2) ys (Queue []) (Queue rest) t s.5 after_))
+            | inr s ↦ inr (s.0, s.1, s.2, w, s.3, s.4, took, subst (λ (l : List ℕ). Legal p (state []) l t) (append_assoc s.0 s.2 ys) (join p (s.0 ++ s.2) ys (state []) (state rest) t s.5 back))
           ]
 
-  module _ (takers r : List ℕ) (all : (g : ℕ) → In g takers → Dequeued p g) where
+  module _ (takers r : List ℕ) (all : (g : ℕ) → In g takers → IsTaker g) where
     -- what is left of a run without one of the calls that took
     abbrev Without : ℕ → List ℕ → Type 0
-    Without g l = (m : List ℕ) × IsThinned p takers r m × ((t : ObjState) × Legal p (Queue []) m t) × ((b : ℕ) → In b m → In b l) × (In g m → ⊥)
+    Without g l = (m : List ℕ) × IsThinned p takers r m × ((t : ObjState) × Legal p (state []) m t) × ((b : ℕ) → In b m → In b l) × (In g m → ⊥)
 
-    without : (g : ℕ) (l : List ℕ) → In g takers → In g l → IsThinned p takers r l → (t : ObjState) → Legal p (Queue []) l t → Without g l
+    without : (g : ℕ) (l : List ℕ) → In g takers → In g l → IsThinned p takers r l → (t : ObjState) → Legal p (state []) l t → Without g l
     without g l taker there k t h =
         let at = in_place g l there in
-        go at.0 at.1 at.2 (subst (λ (m : List ℕ). IsThinned p takers r m) at.2 k) (subst (λ (m : List ℕ). Legal p (Queue []) m t) at.2 h)
+        go at.0 at.1 at.2 (subst (λ (m : List ℕ). IsThinned p takers r m) at.2 k) (subst (λ (m : List ℕ). Legal p (state []) m t) at.2 h)
       where
-        go : (xs ys : List ℕ) → l ≡ xs ++ g ∷ ys → IsThinned p takers r (xs ++ g ∷ ys) → Legal p (Queue []) (xs ++ g ∷ ys) t → Without g l
+        go : (xs ys : List ℕ) → l ≡ xs ++ g ∷ ys → IsThinned p takers r (xs ++ g ∷ ys) → Legal p (state []) (xs ++ g ∷ ys) t → Without g l
         go xs ys e k h =
             let once = thinned_without p takers r xs g ys (inl taker) k in
             let gone = (distinct_without g xs ys k.distinct).1 in
@@ -229,8 +144,8 @@ module _ {p : Problem ObjState Op Reply} {start : List ℤ} (of_queue : IsOfQueu
                   )
             ]
 
-    pub thin_all : (gs : List ℕ) → ((g : ℕ) → In g gs → In g takers) → (l : List ℕ) → IsThinned p takers r l → (t : ObjState) → Legal p (Queue []) l t
-        → (m : List ℕ) × IsThinned p takers r m × ((u : ObjState) × Legal p (Queue []) m u) × ((b : ℕ) → In b m → In b l) × ((g : ℕ) → In g gs → In g m → ⊥)
+    pub thin_all : (gs : List ℕ) → ((g : ℕ) → In g gs → In g takers) → (l : List ℕ) → IsThinned p takers r l → (t : ObjState) → Legal p (state []) l t
+        → (m : List ℕ) × IsThinned p takers r m × ((u : ObjState) × Legal p (state []) m u) × ((b : ℕ) → In b m → In b l) × ((g : ℕ) → In g gs → In g m → ⊥)
     thin_all [] among l k t h = (l, k, (t, h), (λ b i. i), (λ g i there. i))
     thin_all (g ∷ gs) among l k t h =
         let rest = thin_all gs (λ b i. among b (inr i)) l k t h in

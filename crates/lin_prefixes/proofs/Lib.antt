@@ -4,6 +4,7 @@ pub mod ListLemmas
 pub mod BeatenLemmas
 pub mod LackLemmas
 pub mod WalkLemmas
+pub mod ItemStepLemmas
 pub mod FreedLemmas
 pub mod LooseLemmas
 pub mod CrossedLemmas

@@ -12,7 +12,7 @@
 //! - `parts_anew`: parts of a problem, made anew by their events; `anew_search`: searches of them, with a budget of lifts.
 //! - `conflicts`: groups of calls of which each run lacks one; `choices`: which calls are left out, by conflicts.
 //! - `untold_groups`: groups of calls that are not asked of again.
-//! - `open_takers`: open dequeues that may stay out of a run of a queue.
+//! - `open_takers`: open dequeues and pops that may stay out of a run of a queue or a stack.
 //! - `crossed_calls`: two calls of which each would have to come before the other.
 //! - `whole_search`: the search of a whole problem by its prefixes; `whole_answer`: what it answers.
 #![tactic(auto)]

@@ -1,62 +1,67 @@
-//! Open dequeues that may stay out of a run of a queue. Without one, and without the call that put in what it took, a run stays
-//! one: first in, first out, so all others take what they took.
-ghost use Rattle.std.specs.Prelude.{◌≡◌, ◌<◌, ℕ, ℤ, Some, [], IsTrue, length};
-ghost use Rattle.lin_object.specs.declared.state.ObjState.TheVariants.{Queue};
+//! Open dequeues and pops that may stay out of a run of a queue or a stack. Without one, and without the call that put in what it
+//! took, a run stays one: all others take what they took.
+ghost use Rattle.std.specs.Prelude.{◌≡◌, ◌↔◌, ◌<◌, ℕ, ℤ, Some, [], IsTrue, length};
 ghost use Rattle.lin_history.specs.Problems.Lists.{In};
 ghost use Rattle.lin_history.specs.Problems.AnyProblem.{any_problem};
-ghost use Rattle.lin_ahead.specs.Queue.{Puts, Took};
-ghost use Rattle.lin_prefixes.specs.Freed.{AreTakers, Dequeued, IsFreed};
+ghost use Rattle.lin_ahead.specs.Impossible.{AddsItem};
+ghost use Rattle.lin_prefixes.specs.Freed.{AreTakers, HasReturned, IsFreed, TookOut};
 
 use crate::call_lists::has_call;
-use lin_history::Problem;
-use lin_object::{AnyObject, ObjState, Op, Reply};
+use lin_history::{Problem, ProblemCall};
+use lin_object::{AnyObject, Items, ObjState, Op, Reply};
 use std::alloc::{AllocError, Global};
 
-// Whether the call is a dequeue that returned.
-fn is_dequeued(problem: &Problem<AnyObject>, call: usize) -> bool
-    ensures { IsTrue result → Dequeued (any_problem problem.now) call }
+// Whether there is no item.
+fn has_none(items: &Items) -> bool
+    ensures { IsTrue result ↔ (items.now ≡ []) }
+{
+    items.first().is_none()
+}
+
+// Whether the call has this operation, and returned.
+fn has_returned(problem: &Problem<AnyObject>, call: usize, op: &Op) -> bool
+    ensures { IsTrue result → HasReturned (any_problem problem.now) op.now call }
 {
     if call >= problem.len() {
         return false;
     }
     let made = problem.call(call);
-    match (&made.op, &made.returned) {
-        (Op::Dequeue, Some(_)) => true,
-        _ => false,
-    }
+    made.op == *op && made.returned.is_some()
 }
 
-// Whether the object starts as an empty queue.
-fn starts_as_queue(problem: &Problem<AnyObject>) -> bool
-    ensures { IsTrue result → problem.now.start ≡ Queue [] }
+// Whether each of the calls has this operation, and returned.
+fn have_returned(problem: &Problem<AnyObject>, takers: &[usize], op: &Op) -> bool
+    ensures { IsTrue result → (g : ℕ) → In g takers.now
+        → HasReturned (any_problem problem.now) op.now g }
 {
-    match problem.start() {
-        ObjState::Queue(items) => items.first().is_none(),
-        _ => false,
-    }
-}
-
-/// Whether there are no such calls, or each is a dequeue that returned, of a queue that starts empty.
-pub(crate) fn are_takers(problem: &Problem<AnyObject>, takers: &[usize]) -> bool
-    ensures { IsTrue result → AreTakers (any_problem problem.now) takers.now }
-{
-    if takers.is_empty() {
-        return true;
-    }
-    if !starts_as_queue(problem) {
-        return false;
-    }
     for taker in takers {
-        if !is_dequeued(problem, *taker) {
+        if !has_returned(problem, *taker, op) {
             return false;
         }
     }
     true
 }
 
+/// Whether there are no such calls, or each is a dequeue that returned, of a queue that starts empty, or each is a pop that
+/// returned, of a stack that starts empty.
+pub(crate) fn are_takers(problem: &Problem<AnyObject>, takers: &[usize]) -> bool
+    ensures { IsTrue result → AreTakers (any_problem problem.now) takers.now }
+{
+    if takers.is_empty() {
+        return true;
+    }
+    match problem.start() {
+        ObjState::Queue(items) if has_none(items) => {
+            have_returned(problem, takers, &Op::Dequeue)
+        },
+        ObjState::Stack(items) if has_none(items) => { have_returned(problem, takers, &Op::Pop) },
+        _ => false,
+    }
+}
+
 // Whether the call may have returned with the item.
 fn may_have_taken(problem: &Problem<AnyObject>, call: usize, item: i64) -> bool
-    ensures { Took (any_problem problem.now) call item → IsTrue result }
+    ensures { TookOut (any_problem problem.now) call item → IsTrue result }
 {
     if call >= problem.len() {
         return true;
@@ -69,7 +74,8 @@ fn may_have_taken(problem: &Problem<AnyObject>, call: usize, item: i64) -> bool
 
 // Whether some of the calls may have returned with the item.
 fn some_may_have_taken(problem: &Problem<AnyObject>, takers: &[usize], item: i64) -> bool
-    ensures { (g : ℕ) → In g takers.now → Took (any_problem problem.now) g item → IsTrue result }
+    ensures { (g : ℕ) → In g takers.now → TookOut (any_problem problem.now) g item
+        → IsTrue result }
 {
     for taker in takers {
         if may_have_taken(problem, *taker, item) {
@@ -82,10 +88,11 @@ fn some_may_have_taken(problem: &Problem<AnyObject>, takers: &[usize], item: i64
 // The item that the call puts in.
 fn item_put(problem: &Problem<AnyObject>, call: usize) -> Option<i64>
     requires { call < length problem.now.calls }
-    ensures { (w : ℤ) → Puts (any_problem problem.now) call w → result ≡ Some w }
+    ensures { (w : ℤ) → AddsItem (any_problem problem.now) call w → result ≡ Some w }
 {
     match &problem.call(call).op {
         Op::Enqueue(item) => Some(*item),
+        Op::Push(item) => Some(*item),
         _ => None,
     }
 }
@@ -104,8 +111,24 @@ pub(crate) fn may_be_freed(problem: &Problem<AnyObject>, takers: &[usize], call:
     }
 }
 
-/// The dequeues up to the call that returned after it was called, but for those listed; of a queue that starts empty. It is a
-/// hint.
+// The event at which a call returned that takes an item out of a queue or off a stack.
+fn taken_at(made: &ProblemCall<Op, Reply>) -> Option<u32> {
+    match (&made.op, &made.returned) {
+        (Op::Dequeue | Op::Pop, Some((event, _))) => Some(*event),
+        _ => None,
+    }
+}
+
+// Whether the object starts as an empty queue or an empty stack.
+fn starts_empty(problem: &Problem<AnyObject>) -> bool {
+    match problem.start() {
+        ObjState::Queue(items) | ObjState::Stack(items) => has_none(items),
+        _ => false,
+    }
+}
+
+/// The dequeues or pops up to the call that returned after it was called, but for those listed; of a queue or a stack that starts
+/// empty. It is a hint.
 pub(crate) fn open_takers(
     alloc: Global,
     problem: &Problem<AnyObject>,
@@ -113,16 +136,16 @@ pub(crate) fn open_takers(
     kept: &[usize],
 ) -> Result<Vec<usize>, AllocError> {
     let mut takers = Vec::new(alloc);
-    if !starts_as_queue(problem) {
+    if !starts_empty(problem) {
         return Ok(takers);
     }
     let Some(last) = problem.calls().get(call) else {
         return Ok(takers);
     };
     for (c, made) in problem.calls().iter().enumerate() {
-        if let (Op::Dequeue, Some((event, _))) = (&made.op, &made.returned)
+        if let Some(event) = taken_at(made)
             && c <= call
-            && *event >= last.called
+            && event >= last.called
             && !has_call(kept, c)
         {
             takers.push(c)?;

@@ -104,7 +104,7 @@ pub(crate) struct Wanted<'a> {
     pub(crate) takers: &'a [usize],
 }
 
-// An operation with no step at a queue.
+// An operation with no step at a queue or a stack.
 const NO_STEP: Op = Op::Read;
 
 // Whether the return of the call, at this event, is one of those wanted.

@@ -1,14 +1,9 @@
-use Rattle.std.proofs.Common.{ℕ, get_or, inr, refl, arith}
-use Rattle.lin_history.specs.Problems.AnyProblem.{any_problem}
-use Rattle.lin_prefixes.specs.Freed.{Dequeued}
-use Rattle.lin_prefixes.proofs.ListLemmas.{each_next, each_end}
+use Rattle.std.proofs.Common.{inl, inr, sym, ◌∙◌, ap}
+use Rattle.lin_object.specs.declared.state.ObjState.TheVariants.{Queue, Stack}
 use Rattle.lin_prefixes.proofs.open_takers.are_takers.Goals as goal
 
-pub loop-taker-preserved : goal.loop-taker-preserved
-loop-taker-preserved c = each_next (λ (b : ℕ). Dequeued (any_problem c.args.problem.now) b) c.args.takers.now c.loop-taker.taker-index (get_or c.args.takers.now c.loop-taker.taker-index 0) c.loop-taker-test.true refl (c.is_dequeued.ensures c.if-not-is_dequeued.false) c.loop-taker.invariant
+pub returns-in-Queue : goal.returns-in-Queue
+returns-in-Queue c = λ yes. inr (inl (sym c.start.ensures ∙ c.in-Queue.is ∙ ap Queue (c.has_none.ensures.0 c.if-has_none.true), c.have_returned.ensures yes))
 
-pub returns : goal.returns
-returns c = λ yes. record {
-  start = inr (c.starts_as_queue.ensures c.if-not-starts_as_queue.false);
-  each = each_end (λ (b : ℕ). Dequeued (any_problem c.args.problem.now) b) c.args.takers.now c.loop-taker.taker-index (let a = c.loop-taker-test.false in omega (arith, a)) c.loop-taker.invariant;
-}
+pub returns-in-Stack : goal.returns-in-Stack
+returns-in-Stack c = λ yes. inr (inr (sym c.start.ensures ∙ c.in-Stack.is ∙ ap Stack (c.has_none-in-Stack-1.ensures.0 c.if-has_none-2.true), c.have_returned-in-Stack.ensures yes))

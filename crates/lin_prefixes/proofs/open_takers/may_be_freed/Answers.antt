@@ -1,7 +1,7 @@
 use Rattle.std.proofs.Common.{◌≡◌, inl, inr, sym, ◌∙◌, true≢false, subst, rules, w64, to_z, of_z}
 use Rattle.std.specs.Prelude.{ℤ}
 use Rattle.lin_history.specs.Problems.AnyProblem.{any_problem}
-use Rattle.lin_ahead.specs.Queue.{Took}
+use Rattle.lin_prefixes.specs.Freed.{TookOut}
 use Rattle.lin_prefixes.proofs.open_takers.may_be_freed.Goals as goal
 
 pub returns-in-Some : goal.returns-in-Some
@@ -12,7 +12,7 @@ returns-in-Some c = λ freed. elim freed [
       let put = c.item_put.ensures q.1 q.4 in
       let is = c.in-Some.is in
       let item : q.1 ≡ c.in-Some.item = cc in
-      c.some_may_have_taken.ensures q.0 q.2 (subst (λ (v : ℤ). Took (any_problem c.args.problem.now) q.0 v) (item ∙ sym same) q.3)
+      c.some_may_have_taken.ensures q.0 q.2 (subst (λ (v : ℤ). TookOut (any_problem c.args.problem.now) q.0 v) (item ∙ sym same) q.3)
       )
 ]
 

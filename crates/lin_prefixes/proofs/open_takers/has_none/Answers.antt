@@ -1,0 +1,5 @@
+use Rattle.lin_ahead.proofs.RowLemmas.{first_none}
+use Rattle.lin_prefixes.proofs.open_takers.has_none.Goals as goal
+
+pub returns : goal.returns
+returns c = first_none c.args.items.now c.first.result c.is_none.result c.first.ensures c.is_none.ensures
