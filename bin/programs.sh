@@ -1,4 +1,4 @@
-# What the scripts of this folder share. Where one fails it ends by `fail`, since 0 to 4 are the program's statuses.
+# What the scripts of this folder share. One that fails ends by `fail`, since 0 to 4 are the program's statuses.
 #
 # `self` is the script that reads this file, and `top` the repository, whatever link, folder or CDPATH it was called by.
 unset CDPATH
@@ -12,44 +12,44 @@ fail() {
     exit 70
 }
 
-# Whether the program is there and none of the files named was changed since it was built. A folder is newer once a file in
-# it came or went.
+# Whether the program is there and none of the files named has changed since it was built. A folder is newer once a file in
+# it was added or removed.
 is_current() {
     local program=$1 newer
     shift
     [ -x "$program" ] || return 1
-    newer=$(find "$@" -newer "$program" -print -quit) || fail "whether $program is of these sources can't be told: find failed"
+    newer=$(find "$@" -newer "$program" -print -quit) || fail "cannot tell whether $program was built from these sources: find failed"
     [ -z "$newer" ]
 }
 
-# Whether the proved program is there, of these sources.
+# Whether the proved program is there, built from these sources.
 is_proved() {
     is_current "$proved" "$top/crates.txt" "$top"/crates/*/src "$top"/crates/*/specs "$top"/crates/*/proofs
 }
 
-# Whether the program as tried is there, of these sources.
+# Whether the unproved build is there, of these sources.
 is_tried() {
     is_current "$tried" "$top/crates.txt" "$top"/crates/*/src "$top/bin/build_unproved.py"
 }
 
-# Ends where there is no toolchain.
+# Ends if there is no toolchain.
 require_toolchain() {
     command -v rt >/dev/null && return
-    fail "no program is built yet, and the Rattle toolchain, which builds it, is not on this machine (its command rt is on no folder of the PATH)"
+    fail "there is no program yet, and it cannot be built: the Rattle toolchain is not on this machine (no folder of the PATH has its command rt)"
 }
 
-# Goes on as this program. Bash would take an empty file for a script that ends with 0.
+# Becomes this program. Bash would take an empty file for a script that ends with 0.
 become() {
     shopt -s execfail
     exec "$@"
-    fail "$1 can't be run: remove it, and it will be built again"
+    fail "cannot run $1: remove it, and it will be built again"
 }
 
 # Opens a room: a folder for all that a build makes. It waits until no other run of this script has one. However the script
 # ends, even killed, the room is removed then, and what runs in it ends.
 open_room() {
     room=$top/out/${self##*/}_room
-    exec {lock}<"$self" || fail "$self can't be read"
+    exec {lock}<"$self" || fail "cannot read $self"
     if ! flock -n "$lock"; then
         echo "lincheck: another ${self##*/} is building; waiting for it .." >&2
         flock "$lock" || fail "flock failed"
@@ -57,7 +57,7 @@ open_room() {
     # a group of its own, so that what ends this script does not end it
     exec {lifeline}> >(set -m; remove_after <&0 >/dev/null 2>&1 &)
     # there may be a room where all was killed that could remove it
-    rm -rf "$room" && mkdir -p "$room" && : >"$room/started" || fail "$room can't be written"
+    rm -rf "$room" && mkdir -p "$room" && : >"$room/started" || fail "cannot write to $room"
 }
 
 # Removes the room once this script, which alone has the other end of standard input, has closed it or is gone. The lines read
