@@ -856,7 +856,7 @@ FAMILIES = {
         for share in (5, 15, 30)
     },
     **{
-        f"unknown_{processes}_{share}_no": Family("the same, with stale reads", "calls", [160, 200], 1, unknown(processes, share, stale))
+        f"unknown_{processes}_{share}_no": Family("the same, with stale reads", "calls", [160], 1, unknown(processes, share, stale))
         for processes, stale in ((5, 8), (10, 12), (20, 24))
         for share in (5, 15, 30)
     },
