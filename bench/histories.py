@@ -329,9 +329,10 @@ def timing_out(model, processes, calls, share, seed=SEED):
 
 
 def with_stale_reads(events, count, values, seed=SEED):
-    """So many reads at even distances, each with another value."""
+    """So many reads of the second half, at even distances, each with another value."""
     chance = random.Random(seed)
     places = [place for place, event in enumerate(events) if event.op == "read" and event.reply is not None]
+    places = places[len(places) // 2 :]
     for number in range(count):
         place = places[len(places) * (2 * number + 1) // (2 * count)]
         events[place] = events[place]._replace(reply=(events[place].reply + chance.randrange(1, values)) % values)
@@ -717,6 +718,7 @@ class Family(NamedTuple):
 
 CALLS = [512, 1024, 2048, 4096]
 MORE_CALLS = [*CALLS, 8192, 16384]
+STALE_READS = {5: 8, 10: 12, 20: 24}
 COUNTER_CALLS = [1024, 4096, 16384]
 BACKLOG_CALLS = [400, *MORE_CALLS]
 ALL_CALLS = [65536, 131072, 262144]
@@ -856,9 +858,14 @@ FAMILIES = {
         for share in (5, 15, 30)
     },
     **{
-        f"unknown_{processes}_{share}_no": Family("the same, with stale reads", "calls", [160], 1, unknown(processes, share, stale))
-        for processes, stale in ((5, 8), (10, 12), (20, 24))
-        for share in (5, 15, 30)
+        f"unknown_{processes}_{share}_no": Family("the same, with stale reads", "calls", [160], 1, unknown(processes, share, STALE_READS[processes]))
+        for processes, share in ((5, 5), (5, 15), (10, 5), (10, 15), (20, 5))
+    },
+    **{
+        f"unknown_{processes}_{share}_stale": Family(
+            "the same, with stale reads that pending calls explain", "calls", [200], 0, unknown(processes, share, STALE_READS[processes])
+        )
+        for processes, share in ((5, 30), (10, 15), (10, 30), (20, 5), (20, 15), (20, 30))
     },
     "unknown_objects": Family("registers of 150 to 190 calls, 5 clients, values 0 to 4, 5 to 30 % of the calls never return", "objects", [100], 0, unknown_objects),
     "crashed": Family("pending writes before 1,000 calls, and an impossible read", "pending", [1, 2, 4, 6], 1, crashed),
