@@ -44,10 +44,10 @@ const ROUNDS_FOR_A_GROUP: usize = 1;
 // of a lift. Of a bound or a group more, since these searches have few rounds, and what they tell saves many others.
 const STEPS_FOR_A_LIFT: u64 = 16;
 
-const STEPS_FOR_A_LIFT_OF_A_BOUND: u64 = 32;
+const STEPS_FOR_A_LIFT_OF_A_BOUND: u64 = 64;
 
 // How many of these steps are taken off the lifts that are left as one.
-const STEPS_LIKE_A_LIFT: u64 = 8;
+const STEPS_LIKE_A_LIFT: u64 = 32;
 
 // How many steps such a search makes at most, times how many calls there are. With more calls a step takes longer, and more of them are
 // wanted: with thousands of calls it is no good bet, and the full search would wait for it.
