@@ -269,6 +269,76 @@ def simulated(model, processes, calls, stops=0):
     return events
 
 
+class FewValues:
+    """A register with `cas` and values 0 to 4."""
+
+    kind = "register"
+    values = 5
+
+    def __init__(self):
+        self.value = 0
+
+    def choose(self, chance, number):
+        op = chance.choice(["write", "read", "cas"])
+        if op == "read":
+            return op, None
+        written = chance.randrange(self.values)
+        return (op, written) if op == "write" else (op, (chance.randrange(self.values), written))
+
+    def reply(self, op, value):
+        if op == "read":
+            return self.value
+        if op == "write":
+            self.value = value
+            return OKAY
+        was_there = self.value == value[0]
+        if was_there:
+            self.value = value[1]
+        return "true" if was_there else "false"
+
+
+def timing_out(model, processes, calls, share, seed=SEED):
+    """The events of so many calls, as of `simulated`, of which so many in a hundred never return: their clients go on as new ones.
+    Such a call takes effect at once, later or never, each as often as the others."""
+    chance = random.Random(seed)
+    events, called, done, late, made = [], {}, {}, [], 0
+    clients, fresh = list(range(processes)), processes
+    while made < calls or called or done:
+        if late and chance.random() < 0.05:
+            model.reply(*late.pop(chance.randrange(len(late))))
+        place = chance.randrange(processes)
+        process = clients[place]
+        if process in called:
+            op, value = called.pop(process)
+            if chance.random() * 100 >= share:
+                done[process] = Event(process, op, value, model.reply(op, value))
+                continue
+            clients[place], fresh = fresh, fresh + 1
+            when = chance.choice(["at once", "later", "never"])
+            if when == "at once":
+                model.reply(op, value)
+            elif when == "later":
+                late.append((op, value))
+        elif process in done:
+            events.append(done.pop(process))
+        elif made < calls:
+            made += 1
+            called[process] = model.choose(chance, made)
+            events.append(Event(process, *called[process], None))
+    return events
+
+
+def with_stale_reads(events, count, values, seed=SEED):
+    """So many reads of the second half, at even distances, each with another value."""
+    chance = random.Random(seed)
+    places = [place for place, event in enumerate(events) if event.op == "read" and event.reply is not None]
+    places = places[len(places) // 2 :]
+    for number in range(count):
+        place = places[len(places) * (2 * number + 1) // (2 * count)]
+        events[place] = events[place]._replace(reply=(events[place].reply + chance.randrange(1, values)) % values)
+    return events
+
+
 def with_swapped_results(events, op):
     """Two results of the operation, at nine tenths of the history and 20 later, in each other's place."""
     places = [place for place, event in enumerate(events) if event.op == op and isinstance(event.reply, int)]
@@ -444,6 +514,25 @@ def register_refuted_midway(processes):
 def stopping(stops):
     """A register of four processes, and so many more that stop within a `cas`."""
     return lambda calls: lines("x", "register", simulated(Exchanged(), 4 + stops, calls, stops))
+
+
+def unknown(processes, share, stale=0, seed=SEED):
+    """A register of few values, some of whose calls never return, and perhaps so many stale reads."""
+
+    def history(calls):
+        events = timing_out(FewValues(), processes, calls, share, seed)
+        return lines("x", "register", with_stale_reads(events, stale, FewValues.values, seed))
+
+    return history
+
+
+def unknown_objects(number):
+    """So many registers in turn, of 150 to 190 calls by 5 clients, 5 to 30 % of them of unknown outcome."""
+    chance = random.Random(SEED)
+    for object_number in range(number):
+        events = timing_out(FewValues(), 5, chance.randrange(150, 191), chance.randrange(5, 31), object_number)
+        of_object = (event._replace(process=event.process + 1000 * object_number) for event in events)
+        yield from lines(f"x{object_number}", "register", of_object)
 
 
 def crashed(writes):
@@ -629,6 +718,7 @@ class Family(NamedTuple):
 
 CALLS = [512, 1024, 2048, 4096]
 MORE_CALLS = [*CALLS, 8192, 16384]
+STALE_READS = {5: 8, 10: 12, 20: 24}
 COUNTER_CALLS = [1024, 4096, 16384]
 BACKLOG_CALLS = [400, *MORE_CALLS]
 ALL_CALLS = [65536, 131072, 262144]
@@ -760,6 +850,24 @@ FAMILIES = {
     "unseen_gets": Family("the same of a key", "puts", [8, 16, 20, 32], 1, unseen_at_once("map", "put", "get", 7)),
     "unseen_deqs": Family("the same of a queue", "items", [8, 16, 20, 32], 1, unseen_at_once("queue", "enq", "deq")),
     "unseen_pops": Family("the same of a stack", "items", [8, 16, 20, 32], 1, unseen_at_once("stack", "push", "pop")),
+    **{
+        f"unknown_{processes}_{share}": Family(
+            f"a register with cas, values 0 to 4, {processes} clients, {share} % of the calls never return", "calls", [160, 1000, 4000], 0, unknown(processes, share)
+        )
+        for processes in (5, 10, 20)
+        for share in (5, 15, 30)
+    },
+    **{
+        f"unknown_{processes}_{share}_no": Family("the same, with stale reads", "calls", [160], 1, unknown(processes, share, STALE_READS[processes]))
+        for processes, share in ((5, 5), (5, 15), (10, 5), (10, 15), (20, 5))
+    },
+    **{
+        f"unknown_{processes}_{share}_stale": Family(
+            "the same, with stale reads that pending calls explain", "calls", [200], 0, unknown(processes, share, STALE_READS[processes])
+        )
+        for processes, share in ((5, 30), (10, 15), (10, 30), (20, 5), (20, 15), (20, 30))
+    },
+    "unknown_objects": Family("registers of 150 to 190 calls, 5 clients, values 0 to 4, 5 to 30 % of the calls never return", "objects", [100], 0, unknown_objects),
     "crashed": Family("pending writes before 1,000 calls, and an impossible read", "pending", [1, 2, 4, 6], 1, crashed),
     "additions": Family("concurrent additions of different numbers, and an impossible get", "additions", [14, 16, 18, 20], 1, additions),
     "shared_additions": Family(

@@ -19,6 +19,7 @@ use lin_ahead::{
     KnownAhead, known_ahead, search_first, some_came_too_early, some_push_crosses,
     some_was_taken_twice,
 };
+use lin_fewer::{has_many_pending, least_linearization};
 use lin_history::{Problem, ProblemEvent};
 use lin_object::AnyObject;
 use lin_parts::{is_part, search_by_key};
@@ -38,6 +39,19 @@ const ROUNDS: usize = 16;
 const ROUNDS_FOR_A_BOUND: usize = 2;
 
 const ROUNDS_FOR_A_GROUP: usize = 1;
+
+// How many steps count as a lift of a search that tries pending calls only between completed ones: a step takes a quarter of the time
+// of a lift. Of a bound or a group more, since these searches have few rounds, and what they tell saves many others.
+const STEPS_FOR_A_LIFT: u64 = 16;
+
+const STEPS_FOR_A_LIFT_OF_A_BOUND: u64 = 32;
+
+// How many of these steps are taken off the lifts that are left as one.
+const STEPS_LIKE_A_LIFT: u64 = 8;
+
+// How many steps such a search makes at most, times how many calls there are. With more calls a step takes longer, and more of them are
+// wanted: with thousands of calls it is no good bet, and the full search would wait for it.
+const MOST_STEPS_TIMES_CALLS: u64 = 200_000_000;
 
 // What counts as a lift beside the lifts: each part that is made, and so many of its calls; and of what is done between searches so
 // many looks at a call.
@@ -63,6 +77,19 @@ fn rounds_for(wish: Wish, known: &Option<KnownAhead>) -> usize {
     }
 }
 
+// How many steps a search of so many calls makes beside one of so many lifts. `None` where it is no good bet.
+fn steps_for(wish: Wish, lifts: u64, calls: usize) -> Option<u64> {
+    let for_a_lift = match wish {
+        Wish::Order => STEPS_FOR_A_LIFT,
+        Wish::Bound | Wish::Group => STEPS_FOR_A_LIFT_OF_A_BOUND,
+    };
+    let steps = lifts.saturating_mul(for_a_lift);
+    if steps.saturating_mul(calls as u64) > MOST_STEPS_TIMES_CALLS {
+        return None;
+    }
+    Some(steps)
+}
+
 // What a search by key tells, of a map or a set; else what a search tells that keeps what it refuted.
 fn told_by_key<S: Stop>(
     alloc: Global,
@@ -78,8 +105,8 @@ fn told_by_key<S: Stop>(
     }
 }
 
-// What a search of so many lifts tells: a first search where something is known ahead.
-fn told_within<S: Stop>(
+// What a search tells that goes by the order of the calls: a first search where something is known ahead.
+fn told_in_order<S: Stop>(
     alloc: Global,
     part: &Problem<AnyObject>,
     known: &Option<KnownAhead>,
@@ -93,6 +120,18 @@ fn told_within<S: Stop>(
         Some(ahead) => search_first(alloc, part, ahead, lifts, &mut AtTimes::new(stop)),
         None => told_by_key(alloc, part, lifts, stop),
     }
+}
+
+// What a search of so many steps tells that tries pending calls only between completed ones.
+fn told_in_steps<S: Stop>(
+    alloc: Global,
+    part: &Problem<AnyObject>,
+    steps: u64,
+    stop: &mut S,
+) -> Result<Told, AllocError>
+    ensures { IfOk result (IsRightOf (any_problem part.now)) }
+{
+    least_linearization(alloc, part, steps, &mut AtTimes::new(stop))
 }
 
 // Whether what is known ahead shows that there is no linearization: some calls were in vain, or they cross, of a queue by what they
@@ -140,13 +179,15 @@ fn looks_at(untold: &UntoldGroups, calls: &[usize]) -> u64 {
 }
 
 /// Searches of parts of a problem of the seven kinds, each made anew: first searches where something is known ahead, searches by
-/// key of maps and sets, and searches that keep what they refuted for other parts. Each makes no more lifts than are left of
+/// key of maps and sets, and searches that keep what they refuted for other parts. Of a problem with many pending calls each of these
+/// that says nothing is followed by one that tries pending calls only between completed ones. Each makes no more lifts than are left of
 /// those that were given at the start, where a search by key counts the lifts for each key alone. Work that makes no lifts is
 /// taken off them too. Where none are left or the stop answers, they say nothing.
 #[derive(Drop)]
 pub(crate) struct AnewSearch<'a, S> {
     events: Vec<ProblemEvent>,
     lifts: u64,
+    has_many_pending: bool,
     untold: UntoldGroups,
     stop: &'a mut S,
 }
@@ -162,6 +203,7 @@ impl<'a, S: Stop> AnewSearch<'a, S> {
         Ok(AnewSearch {
             events: problem.timeline(alloc)?,
             lifts,
+            has_many_pending: has_many_pending(problem),
             untold: UntoldGroups::new(alloc),
             stop,
         })
@@ -179,24 +221,62 @@ impl<'a, S: Stop> AnewSearch<'a, S> {
         self.lifts > 0 && self.stop.ask().is_none()
     }
 
+    // What a search tells that tries pending calls only between completed ones, of the parts of a problem with many of them.
+    fn told_by_blocks(
+        &mut self,
+        alloc: Global,
+        part: &Problem<AnyObject>,
+        wish: Wish,
+        lifts: u64,
+    ) -> Result<Told, AllocError>
+        ensures { IfOk result (IsRightOf (any_problem part.now)) }
+    {
+        if !self.has_many_pending {
+            return Ok(Told::Nothing);
+        }
+        let Some(steps) = steps_for(wish, lifts, part.len()) else {
+            return Ok(Told::Nothing);
+        };
+        self.take(steps / STEPS_LIKE_A_LIFT);
+        told_in_steps(alloc, part, steps, self.stop)
+    }
+
+    // What is told of the problem with so many lifts for each search.
+    fn told_within(
+        &mut self,
+        alloc: Global,
+        part: &Problem<AnyObject>,
+        known: &Option<KnownAhead>,
+        wish: Wish,
+        lifts: u64,
+    ) -> Result<Told, AllocError>
+        requires { IfSome known.now (IsRightAhead (any_problem part.now)) }
+        ensures { IfOk result (IsRightOf (any_problem part.now)) }
+    {
+        match told_in_order(alloc, part, known, lifts, self.stop)? {
+            Told::Nothing => self.told_by_blocks(alloc, part, wish, lifts),
+            told => Ok(told),
+        }
+    }
+
     // What is told of the problem, by searches of more and more lifts.
     fn answer_in_rounds(
         &mut self,
         alloc: Global,
         part: &Problem<AnyObject>,
         known: &Option<KnownAhead>,
-        rounds: usize,
+        wish: Wish,
     ) -> Result<Told, AllocError>
         requires { IfSome known.now (IsRightAhead (any_problem part.now)) }
         ensures { IfOk result (IsRightOf (any_problem part.now)) }
     {
         let mut wanted = FIRST_LIFTS.saturating_mul(part.len() as u64);
-        for _ in 0..rounds {
+        for _ in 0..rounds_for(wish, known) {
             if self.stop.ask().is_some() {
                 return Ok(Told::Nothing);
             }
             let lifts = self.take(wanted);
-            match told_within(alloc, part, known, lifts, self.stop)? {
+            match self.told_within(alloc, part, known, wish, lifts)? {
                 Told::Nothing if self.lifts > 0 => wanted = wanted.saturating_mul(GROWTH),
                 answer => return Ok(answer),
             }
@@ -221,8 +301,7 @@ impl<'a, S: Stop> AnewSearch<'a, S> {
         if shows_none(alloc, part, &known)? {
             return Ok(Told::Refuted);
         }
-        let rounds = rounds_for(wish, &known);
-        self.answer_in_rounds(alloc, part, &known, rounds)
+        self.answer_in_rounds(alloc, part, &known, wish)
     }
 
     // What is told of the problem, which may be the whole.

@@ -1,0 +1,6 @@
+use Rattle.lin_history.specs.Problems.Problem.{problem_of}
+use Rattle.lin_fewer.specs.Fronts.{HasCompletedBelow}
+use Rattle.lin_fewer.proofs.front.first_left.Given as goal
+
+abbrev pub invariant-loop-call : goal.invariant-loop-call
+invariant-loop-call g l = HasCompletedBelow (problem_of g.O.SeqObject.after g.O.State.PartialEq.eq g.O.Reply.PartialEq.eq l.problem) l.set l.call

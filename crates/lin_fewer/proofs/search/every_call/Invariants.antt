@@ -1,0 +1,6 @@
+use Rattle.lin_history.specs.Problems.Problem.{problem_of}
+use Rattle.lin_fewer.specs.Knowledge.{IsEveryTo}
+use Rattle.lin_fewer.proofs.search.every_call.Given as goal
+
+abbrev pub invariant-loop-call : goal.invariant-loop-call
+invariant-loop-call g l = IsEveryTo (problem_of g.O.SeqObject.after g.O.State.PartialEq.eq g.O.Reply.PartialEq.eq l.problem) l.every l.call

@@ -1,0 +1,5 @@
+pub mod Fewer
+pub mod Knowledge
+pub mod Nodes
+pub mod Fronts
+pub mod Answers
