@@ -23,7 +23,7 @@ ghost use Rattle.lin_workers.specs.Verdict.{IsNumberStored, IsObjectVerdict, IsT
 ghost use Rattle.lincheck.specs.ObjectAnswer.{HasNoOrder, IsAnswered, IsObjectAnswer};
 
 use crate::object_answer::{ObjectAnswer, Question};
-use crate::object_core::core_of_object;
+use crate::object_fault::fault_of_object;
 use crate::setting::Setting;
 use lin_ahead::{known_ahead, search_first};
 use lin_history::Problem;
@@ -334,14 +334,14 @@ fn answer_alone(alone: Alone, is_refuted: bool) -> ControlFlow<(ObjectAnswer, u6
     }
 }
 
-// ---- cores
+// ---- faults that a reader can see
 
-// Whether the object has a core, as far as one is found.
-fn has_core(alloc: Global, problem: &Problem<AnyObject>) -> Result<bool, AllocError>
+// Whether the object has a core, or a get for whose reply the adds leave no room, as far as one is found.
+fn has_fault(alloc: Global, problem: &Problem<AnyObject>) -> Result<bool, AllocError>
     ensures { IfOk result (λ has. IsTrue has → HasNoOrder (any_problem problem.now)) }
 {
-    match core_of_object(alloc, problem)? {
-        Some(_core) => Ok(true),
+    match fault_of_object(alloc, problem)? {
+        Some(_fault) => Ok(true),
         None => Ok(false),
     }
 }
@@ -359,7 +359,7 @@ fn is_refuted_by_core(
     if is_refuted || !turn.looks_for_core {
         return Ok(is_refuted);
     }
-    has_core(alloc, problem)
+    has_fault(alloc, problem)
 }
 
 // ---- searches of prefixes
