@@ -192,38 +192,46 @@ impl<'a> Timeline<'a> {
         }
     }
 
+    // The get, if its reply can't follow that of this earlier one, or the start, where so much must have been added and taken off
+    // between them.
+    fn guess_from(
+        &self,
+        from: Option<usize>,
+        get: usize,
+        last: &Find,
+        must: Tally,
+    ) -> Option<Guess> {
+        let first = match from {
+            Some(call) => self.find(call)?,
+            None => Find::start(self.start),
+        };
+        Some(Guess {
+            from,
+            get,
+            up: last.is_beyond(&first, must)?,
+            events: last.back.place.saturating_sub(first.call.place),
+        })
+    }
+
     // Back from a get over so many events at most: the nearest get, or the start, that its reply can't follow.
     fn nearest(&self, get: usize, last: &Find, most: usize) -> Option<Guess> {
         let mut must = Tally::none();
         let end = last.call.place.min(self.events.len());
         for place in (end.saturating_sub(most)..end).rev() {
-            match self.events.get(place) {
-                Some(ProblemEvent::Call(call)) => must = self.with_call(must, *call, end),
-                Some(ProblemEvent::Return(call)) => {
-                    if let Some(first) = self.find(*call) {
-                        if let Some(up) = last.is_beyond(&first, must) {
-                            return Some(Guess {
-                                from: Some(*call),
-                                get,
-                                up,
-                                events: last.back.place.saturating_sub(first.call.place),
-                            });
-                        }
+            match self.events.get(place)? {
+                ProblemEvent::Call(call) => must = self.with_call(must, *call, end),
+                ProblemEvent::Return(call) => {
+                    let guess = self.guess_from(Some(*call), get, last, must);
+                    if guess.is_some() {
+                        return guess;
                     }
                 }
-                None => {}
             }
         }
         if end > most {
             return None;
         }
-        let up = last.is_beyond(&Find::start(self.start), must)?;
-        Some(Guess {
-            from: None,
-            get,
-            up,
-            events: last.back.place,
-        })
+        self.guess_from(None, get, last, must)
     }
 
     // The guess with the fewest events: of each get over the nearest events before it, and of the first gets that are known to have

@@ -6,7 +6,7 @@
 //! 2. *Turns* (`by_turns`): the full search of the calling thread goes on until it makes no progress for long, and then searches of
 //!    prefixes are made. Each turn goes about twice as far as the one before. So neither way waits long for the other, whichever of
 //!    them is soon done. The full search keeps what it refuted, and goes on from there in its next turn. Where the first turn's search
-//!    stalls, a core is looked for: a few calls that alone have no order show that there is none.
+//!    stalls, a core is looked for, or a get of a counter for whose reply the adds leave no room: either shows that there is none.
 //! 3. *To the end* (`to_the_end`): the calling thread goes on by itself where there is to be one worker. Else workers share the search.
 //!
 //! A search that met the limit is not begun again: what follows are the tasks of workers, each with a limit of its own. What the
