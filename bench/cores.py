@@ -110,6 +110,11 @@ def may_go(kind, call, values, at):
     return is_idle(kind, call) or where not in ("any", None) and where not in values
 
 
+def is_refused_cas(call):
+    """Whether it is a `cas` that answered 'no': then a core has all calls that change anything."""
+    return call["op"] == "cas" and call["returned"] is not PENDING and call["returned"][1] is False
+
+
 def begins_anew(kind, start, calls, kept, values, before):
     """Whether the first call that is kept begins anew, behind these calls and before the other ones."""
     first = calls[kept[0]]
@@ -149,7 +154,8 @@ def check(kind, start, calls, core):
     if has_order(kind, start, part):
         return "its calls have an order"
     others = [c for k, c in enumerate(calls) if k not in kept and c["called"] <= event]
-    needed = [c for c in others if not may_go(kind, c, values, at)]
+    needs_all = kind == "register" and any(is_refused_cas(calls[k]) for k in kept)
+    needed = [c for c in others if not (is_idle(kind, c) if needs_all else may_go(kind, c, values, at))]
     if kind != "mutex" and needed and not begins_anew(kind, start, calls, kept, values, needed):
         return "a call that it needs is left out"
     for less, earlier in smaller(kind, calls, kept, event, values, at):
