@@ -1,4 +1,4 @@
-use Rattle.std.proofs.Common.{◌≡◌, map, subst, ap, sym, ◌∙◌, List, ℕ}
+use Rattle.std.proofs.Common.{◌≡◌, map, ap, ◌∙◌, List, ℕ}
 use Rattle.lin_history.specs.Problems.AnyProblem.{any_problem}
 use Rattle.lincheck.specs.Explained.{told_in}
 use Rattle.lincheck.proofs.ExplainedLemmas.{core_told, sums_told}
