@@ -1,9 +1,7 @@
 //! Replies of a counter's gets for which its adds leave no room: a reply that is less than the least sum that any order gives, or
 //! greater than the greatest.
 
-ghost use Rattle.std.specs.Prelude.{◌≡◌, ℕ, ◌+◌, ◌*◌, ◌<◌, ◌≤◌, ◌^◌, ℤ, Some, None, length, slice_get, IfSome, IsTrue, if◌then◌else◌};
-ghost use Rattle.lin_object.specs.declared.op.Op.TheVariants.{Get};
-ghost use Rattle.lin_object.specs.declared.reply.Reply.TheVariants.{Int};
+ghost use Rattle.std.specs.Prelude.{◌≡◌, ◌+◌, ◌*◌, ◌<◌, ◌≤◌, ◌^◌, Some, None, length, IfSome, IsTrue, if◌then◌else◌};
 ghost use Rattle.lin_object.specs.declared.state.ObjState.TheVariants.{Counter};
 ghost use Rattle.lin_history.specs.Problems.AnyProblem.{any_problem};
 ghost use Rattle.lin_ahead.specs.Sums.{share_in, share_of};

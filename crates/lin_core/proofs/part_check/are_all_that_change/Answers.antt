@@ -1,6 +1,5 @@
 use Rattle.std.proofs.Common.{inl, inr}
 use Rattle.lin_history.specs.Problems.AnyProblem.{any_problem}
-use Rattle.lin_core.specs.Cuts.{AreCut}
 use Rattle.lin_core.proofs.CoreLemmas.{all_as}
 use Rattle.lin_core.proofs.part_check.are_all_that_change.Goals as goal
 
