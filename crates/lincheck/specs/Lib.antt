@@ -3,6 +3,7 @@ pub mod Reading
 pub mod Report
 pub mod Verdict
 pub mod ObjectAnswer
+pub mod ObjectFaults
 pub mod Explained
 pub mod Stored
 pub mod Each
