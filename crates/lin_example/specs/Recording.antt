@@ -6,16 +6,18 @@ use Rattle.lin_example.specs.declared.semaphore.Semaphore.{Semaphore}
 use Rattle.lin_example.specs.declared.semaphore.SemaphoreOp.{SemaphoreOp}
 use Rattle.lin_example.specs.declared.semaphore.SemaphoreOp.TheVariants.{Acquire, TryAcquire, Release}
 use Rattle.lin_example.specs.declared.semaphore.SemaphoreReply.{SemaphoreReply}
-use Rattle.lin_example.specs.declared.semaphore.SemaphoreReply.TheVariants.{Done, Refused}
+use Rattle.lin_example.specs.declared.semaphore.SemaphoreReply.TheVariants as replies
 use Rattle.lin_example.specs.declared.recording.Event.{Event}
 use Rattle.lin_example.specs.declared.recording.Event.TheVariants.{Call, Return}
+use Rattle.lin_example.specs.declared.recording.EventFault.{EventFault}
+use Rattle.lin_example.specs.declared.recording.EventFault.TheVariants.{Busy, NoCall, Refused}
 
 -- The operations and the replies by their names.
 abbrev pub op_names : List (List ℕ × SemaphoreOp)
 op_names = (codes "acquire", Acquire) ∷ (codes "try_acquire", TryAcquire) ∷ (codes "release", Release) ∷ []
 
 abbrev pub reply_names : List (List ℕ × SemaphoreReply)
-reply_names = (codes "done", Done) ∷ (codes "refused", Refused) ∷ []
+reply_names = (codes "done", replies.Done) ∷ (codes "refused", replies.Refused) ∷ []
 
 -- The calls on a semaphore, and the semaphore.
 abbrev pub Calls : Type 0
@@ -35,6 +37,15 @@ pending_call process calls = position (is_pending_of process) calls
 abbrev pub MayComeNext : Calls → Event → Type 0
 MayComeNext calls (Call process op) = pending_call process calls ≡ None
 MayComeNext calls (Return process reply) = IsSome (pending_call process calls)
+
+-- Why an event is refused: the process is busy, or has no call; or the problem refuses an event that may come next.
+abbrev pub IsFaultOf : Calls → Event → EventFault → Type 0
+IsFaultOf calls (Call process op) Busy = IsSome (pending_call process calls)
+IsFaultOf calls (Call process op) NoCall = ⊥
+IsFaultOf calls (Call process op) Refused = MayComeNext calls (Call process op)
+IsFaultOf calls (Return process reply) Busy = ⊥
+IsFaultOf calls (Return process reply) NoCall = pending_call process calls ≡ None
+IsFaultOf calls (Return process reply) Refused = MayComeNext calls (Return process reply)
 
 -- With the return of this call.
 abbrev pub with_return : Recorded → Option ℕ → SemaphoreReply → ℕ → Recorded

@@ -1,10 +1,10 @@
 //! Recorded events on a semaphore, one a line: `call 1 acquire`, and later `return 1 done`.
-ghost use Rattle.std.specs.Prelude.{◌≡◌, OnOk, OnErr};
+ghost use Rattle.std.specs.Prelude.{◌≡◌, OnOk, OnErr, IfErr};
 ghost use Rattle.lin_object.specs.Names.{beside};
-ghost use Rattle.lin_example.specs.Recording.{op_names, reply_names, pending_call, MayComeNext, with_event};
+ghost use Rattle.lin_example.specs.Recording.{op_names, reply_names, pending_call, MayComeNext, IsFaultOf, with_event};
 
 use crate::semaphore::{Semaphore, SemaphoreOp, SemaphoreReply};
-use lin_history::{Problem, ProblemFault};
+use lin_history::Problem;
 
 /// What a process did.
 #[derive(Clone, Copy, PartialEq, Eq, Debug)]
@@ -24,12 +24,6 @@ pub enum EventFault {
     NoCall,
     /// The problem has no room for the call, or its number is too low.
     Refused,
-}
-
-impl From<ProblemFault> for EventFault {
-    fn from(_fault: ProblemFault) -> EventFault {
-        EventFault::Refused
-    }
 }
 
 // The operation of this name.
@@ -85,23 +79,27 @@ pub fn add_event(
     event: Event,
     number: u32,
 ) -> Result<(), EventFault>
-    ensures next { OnOk result (MayComeNext problem.old.calls event) }
     ensures ok { OnOk result (problem.new ≡ with_event problem.old event number) }
+    ensures next { OnOk result (MayComeNext problem.old.calls event) }
+    ensures err { IfErr result (IsFaultOf problem.old.calls event) }
     ensures kept { OnErr result (problem.new ≡ problem.old) }
 {
-    match event {
+    let added = match event {
         Event::Call(process, op) => {
             if pending_call(problem, process).is_some() {
                 return Err(EventFault::Busy);
             }
-            problem.add_call(process, op, number)?;
+            problem.add_call(process, op, number)
         }
         Event::Return(process, reply) => {
             let Some(call) = pending_call(problem, process) else {
                 return Err(EventFault::NoCall);
             };
-            problem.add_return(call, reply, number)?;
+            problem.add_return(call, reply, number)
         }
+    };
+    match added {
+        Ok(()) => Ok(()),
+        Err(_) => Err(EventFault::Refused),
     }
-    Ok(())
 }
