@@ -1,6 +1,6 @@
 -- Equal semaphores step alike: what is equal by the tests is the same.
 use Rattle.std.specs.Prelude.{◌≡◌, ℕ, ◌==◌, true, Option, Some, None, refl}
-use Rattle.std.proofs.Common.{ap, sym, eqb-true, eq-eqb, true≢false}
+use Rattle.std.proofs.Common.{sym, eqb-true, eq-eqb, true≢false}
 use Rattle.lin_object.specs.StepAnswers.{SameStep}
 use Rattle.lin_example.specs.declared.semaphore.Semaphore.{Semaphore}
 use Rattle.lin_example.specs.declared.semaphore.SemaphoreOp.{SemaphoreOp}
