@@ -17,11 +17,10 @@ use Rattle.lincheck.specs.declared.answer_form.AnswerForm.TheVariants.{Report, E
 use Rattle.lincheck.specs.declared.status.Status.{Status}
 use Rattle.lincheck.specs.declared.status.Status.TheVariants.{Yes, No, Undecided, Refused}
 use Rattle.lincheck.specs.declared.fault.RunFault.{RunFault}
-use Rattle.lincheck.specs.declared.fault.RunFault.TheVariants.{Read, Write, Memory}
-use Rattle.lincheck.specs.Report.{yes_report, stored_line}
-use Rattle.lincheck.specs.Each.{IsStatusOf, AreStatusesOf, is_no, is_undecided, status_of_all}
-use Rattle.lincheck.specs.Prints.{IsReport, WithStats, PrintsWith, PrintsEach, PrintsHistory, Prints}
-use Rattle.lincheck.specs.Ran.{Ran, RanFrom}
+use Rattle.lincheck.specs.Report.{stored_line}
+use Rattle.lincheck.specs.Each.{IsStatusOf, is_no, is_undecided}
+use Rattle.lincheck.specs.Prints.{WithStats, PrintsWith, PrintsEach, PrintsHistory, Prints}
+use Rattle.lincheck.specs.Ran.{RanFrom}
 use Rattle.lincheck.specs.Sound.{ReportsLinearization, HasEach, IsSoundYes, IsSound, IsSoundRun}
 
 abbrev HasNone : RecordedHistory → Type 0
