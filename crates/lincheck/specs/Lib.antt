@@ -9,6 +9,7 @@ pub mod Stored
 pub mod Each
 pub mod Prints
 pub mod Ran
+pub mod Sound
 pub mod Status
 pub mod Request
 pub mod CommandLine
