@@ -1,14 +1,17 @@
 #!/usr/bin/env python3
-"""Checks the cores that `core_of` finds, by the definitions alone.
+"""Checks the cores that `core_of` finds, and the gets of counters that `sum_fault_of` finds, by the definitions alone.
 
     bench/cores.py [--program PROGRAM] FILE..
-    bench/cores.py [--program PROGRAM] --random COUNT
+    bench/cores.py [--program PROGRAM] --random COUNT [--seed N] [--counters]
 
 Builds `bench/cores.program` by `bin/build_unproved.py` (two minutes), unless it is given, and runs it on each history. All orders of
 a core's calls are tried: there may be none. The calls left out may not be needed: each is none of the core's values, or changes
 nothing, or precedes the first, which begins anew. A core can't be smaller: cut at an earlier return, without one of its values or without one call that changes nothing, its
-calls have an order. Of small histories all orders of the whole are tried too: one with an order may have no core. Prints how
-many cores have how many calls, and each object without an order of which no core was found.
+calls have an order. Of small histories all orders of the whole are tried too: one with an order may have no core. The sums of a
+get for whose reply the adds leave no room are made anew; one has to be found exactly where some get has such a reply, counted from
+the start or from an earlier get. Prints how
+many cores have how many calls, and each object without an order of which no core was found. With --counters all random
+histories are of counters that add different numbers.
 """
 import argparse
 import collections
@@ -107,6 +110,11 @@ def may_go(kind, call, values, at):
     return is_idle(kind, call) or where not in ("any", None) and where not in values
 
 
+def is_refused_cas(call):
+    """Whether it is a `cas` that answered 'no': then a core has all calls that change anything."""
+    return call["op"] == "cas" and call["returned"] is not PENDING and call["returned"][1] is False
+
+
 def begins_anew(kind, start, calls, kept, values, before):
     """Whether the first call that is kept begins anew, behind these calls and before the other ones."""
     first = calls[kept[0]]
@@ -146,7 +154,8 @@ def check(kind, start, calls, core):
     if has_order(kind, start, part):
         return "its calls have an order"
     others = [c for k, c in enumerate(calls) if k not in kept and c["called"] <= event]
-    needed = [c for c in others if not may_go(kind, c, values, at)]
+    needs_all = kind == "register" and any(is_refused_cas(calls[k]) for k in kept)
+    needed = [c for c in others if not (is_idle(kind, c) if needs_all else may_go(kind, c, values, at))]
     if kind != "mutex" and needed and not begins_anew(kind, start, calls, kept, values, needed):
         return "a call that it needs is left out"
     for less, earlier in smaller(kind, calls, kept, event, values, at):
@@ -155,22 +164,55 @@ def check(kind, start, calls, core):
     return None
 
 
+def sums(start, calls, first, get):
+    """Of a get, counted from the start or from an earlier get: the value that is counted from, and what must and what may have been
+    added and taken off before it."""
+    base = start if first is None else first["returned"][1]
+    must, may = [0, 0], [0, 0]
+    for call in calls:
+        if call["op"] == "add":
+            size, down = abs(call["args"][0]), call["args"][0] < 0
+            must[down] += size if precedes(call, get) and (first is None or precedes(first, call)) else 0
+            may[down] += size if not precedes(get, call) and (first is None or not precedes(call, first)) else 0
+    return base, must, may
+
+
+def found(call):
+    return call["op"] == "get" and call["returned"] is not PENDING and type(call["returned"][1]) is int
+
+
+def sum_faults(kind, start, calls):
+    """All gets of a counter whose reply is too small or too great, with what they are counted from, and the bound."""
+    gets = [k for k, c in enumerate(calls) if kind == "counter" and found(c)]
+    for g in gets:
+        value = calls[g]["returned"][1]
+        for f in [None] + [f for f in gets if precedes(calls[f], calls[g])]:
+            base, must, may = sums(start, calls, None if f is None else calls[f], calls[g])
+            if value < base + must[0] - may[1]:
+                yield f, g, True, base, must[0], may[1], base + must[0] - may[1]
+            if value > base - must[1] + may[0]:
+                yield f, g, False, base, must[1], may[0], base - must[1] + may[0]
+
+
 def answers(program, files):
     """What the program says of each object of the files."""
     said = subprocess.run([program, *files], capture_output=True, text=True, check=True).stdout
-    found = []
+    told, fault = [], None
     for what, *words in (line.split() for line in said.splitlines()):
-        if what == "none":
-            found.append(None)
+        if what == "sums":
+            first, get, up, *numbers = words
+            fault = None if first == "-" else int(first), int(get), up == "true", *map(int, numbers)
+        elif what == "none":
+            told, fault = told + [(None, fault)], None
         elif what == "core":
-            found.append({"event": int(words[0]), "key": None, "calls": [], "values": []})
+            told, fault = told + [({"event": int(words[0]), "key": None, "calls": [], "values": []}, fault)], None
         elif what == "key":
-            found[-1]["key"] = int(words[0]), words[1] == "true"
+            told[-1][0]["key"] = int(words[0]), words[1] == "true"
         elif what == "call":
-            found[-1]["calls"].append((int(words[0]), words[1] == "true"))
+            told[-1][0]["calls"].append((int(words[0]), words[1] == "true"))
         elif what == "value":
-            found[-1]["values"].append(int(words[0]))
-    return found
+            told[-1][0]["values"].append(int(words[0]))
+    return told
 
 
 class Tally:
@@ -178,8 +220,24 @@ class Tally:
 
     def __init__(self):
         self.sizes, self.wrong, self.missed, self.orders = collections.Counter(), [], [], 0
+        self.sums, self.pairs, self.refuted_counters, self.not_by_sums = 0, 0, 0, 0
 
-    def add(self, name, kind, start, calls, core):
+    def add_sums(self, name, kind, start, calls, fault):
+        """Of a counter whether a get is found exactly where there is one, and whether its sums are right."""
+        faults = list(sum_faults(kind, start, calls))
+        if fault is None and faults or fault is not None and fault not in faults:
+            self.wrong.append(f"{name}: sums: {fault}: {faults[:5]}")
+        self.sums += fault is not None
+        self.pairs += fault is not None and fault[0] is not None
+        if kind == "counter" and len(calls) <= SMALL:
+            has_one = has_order(kind, start, calls)
+            self.refuted_counters += not has_one
+            self.not_by_sums += not has_one and fault is None
+            if has_one and fault is not None:
+                self.wrong.append(f"{name}: sums: the whole has an order: {fault}")
+
+    def add(self, name, kind, start, calls, core, fault):
+        self.add_sums(name, kind, start, calls, fault)
         small = len(calls) <= SMALL
         if core is None:
             if small and has_order(kind, start, calls):
@@ -198,6 +256,8 @@ class Tally:
         print("cores by their calls:", dict(sorted(self.sizes.items())))
         print("objects with an order, without a core:", self.orders)
         print("objects without an order, without a core:", len(self.missed), *self.missed[:20], sep="\n  ")
+        print("gets for whose reply the adds leave no room:", self.sums, "of which counted from an earlier get:", self.pairs)
+        print("small counters without an order:", self.refuted_counters, "of which without such a get:", self.not_by_sums)
         print("wrong:", len(self.wrong), *self.wrong[:20], sep="\n  ")
         return 1 if self.wrong else 0
 
@@ -222,6 +282,30 @@ def random_reply(chance, op, args):
     if op in ("cas", "remove", "contains", "delete", "try_lock", "add"):
         return chance.choice(["true", "false"])
     return chance.choice(["1", "2", "3", "null"] if op in ("deq", "pop") else ["0", "1", "2"])
+
+
+def random_counter(chance):
+    """The text of a history of a counter with a start, adds of both signs, calls that stay pending, and a few replies replaced."""
+    state = chance.choice([0, 0, 5, -3])
+    lines, open_calls = [f'{{"event":"object","object":"x","kind":"counter","start":{state}}}\n'], {}
+    numbers = chance.choice([[1], [1, 2, 4], [-1, 1, 3], [-2, -1, 5]])
+    processes, errs = chance.choice([3, 5]), chance.choice([0, 0.06, 0.2])
+    for _ in range(chance.randrange(10, chance.choice([2 * SMALL, 80]))):
+        process = chance.randrange(processes)
+        call = open_calls.get(process)
+        if call is None:
+            op, args = chance.choice([("add", [chance.choice(numbers)]), ("get", [])])
+            open_calls[process] = call = {"op": op, "args": args, "reply": None, "stays": chance.random() < 0.03}
+            shown = f',"args":{args}' if args else ""
+            lines.append(f'{{"event":"call","process":{process},"object":"x","op":"{op}"{shown}}}\n')
+        elif call["reply"] is None:
+            state, call["reply"] = step("counter", state, process, call["op"], call["args"])
+        elif not call["stays"]:
+            del open_calls[process]
+            reply = call["reply"]
+            reply = '"ok"' if reply == "ok" else reply + (chance.choice([-2, -1, 1, 2]) if chance.random() < errs else 0)
+            lines.append(f'{{"event":"return","process":{process},"object":"x","result":{reply}}}\n')
+    return "".join(lines)
 
 
 def random_history(chance, kind):
@@ -259,7 +343,7 @@ def histories(words, folder):
     kinds = ["register", "counter", "queue", "stack", "set", "mutex", "map"]
     for number in range(words.random):
         file = Path(folder) / f"{number}.jsonl"
-        file.write_text(random_history(chance, kinds[number % len(kinds)]))
+        file.write_text(random_counter(chance) if words.counters else random_history(chance, kinds[number % len(kinds)]))
         files.append(str(file))
     return files
 
@@ -269,6 +353,7 @@ def main():
     words.add_argument("--program")
     words.add_argument("--random", type=int)
     words.add_argument("--seed", type=int, default=1)
+    words.add_argument("--counters", action="store_true")
     words.add_argument("files", nargs="*")
     asked = words.parse_args()
     with tempfile.TemporaryDirectory() as folder:
@@ -281,8 +366,8 @@ def main():
         tally = Tally()
         for file in histories(asked, folder):
             objects = read(Path(file).read_text())
-            for (name, kind, start, calls), core in zip(objects, answers(program, [file])):
-                tally.add(f"{Path(file).name} {name}", kind, start, calls, core)
+            for (name, kind, start, calls), (core, fault) in zip(objects, answers(program, [file])):
+                tally.add(f"{Path(file).name} {name}", kind, start, calls, core, fault)
     return tally.print()
 
 

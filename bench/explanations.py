@@ -5,15 +5,17 @@ definitions alone.
     bench/explanations.py < HISTORY
     bench/explanations.py --compare PROGRAM FILE..
     bench/explanations.py --random COUNT PROGRAM
+    bench/explanations.py --random-counters COUNT PROGRAM
     bench/explanations.py --write FOLDER PROGRAM
 
 The runs of each object are all tried, so a history has few calls. The first object without a linearization is told with the
 last calls of the first of its longest runs, and then the state after the run, the calls that could come next with what each would
 answer there, and the calls that put or took the value that such a call asks for or should have found, each call with the lines on
 which its events stand. Which calls alone have no order is for the program to find: its answer may name some, and then all orders
-of these are tried, of which none may be one.
+of these are tried, of which none may be one. Or it may name a get of a counter for whose reply the adds leave no room: then the sums
+are made by the lines of the input, and have to leave none.
 With --compare the answers of a program are compared with these, with --random those on so many random histories, each also with
-what each of its objects is; with --write the cases below are written, for `crates/lin_tests/data`, with those calls of the
+what each of its objects is, with --random-counters those on so many of counters; with --write the cases below are written, for `crates/lin_tests/data`, with those calls of the
 program's that stood the trial.
 """
 import json
@@ -26,6 +28,7 @@ from pathlib import Path
 PENDING = None
 MOST_LISTED, MOST_ITEMS, MOST_TOUCHING = 16, 16, 8
 CORE_HEAD = re.compile(r"(?:this call|these (\d+) calls)(?: on key (-?\d+))? alone (has|have) no order:")
+SUMS_HEAD = re.compile(r"no order gives (this call|the second of these calls) so (small|great) a reply:")
 CORE_CALL = re.compile(r"  \d+ \S+ .* \((?:line|lines) (\d+)(?: and (\d+))?\)")
 START = {"register": 0, "counter": 0, "queue": (), "stack": (), "set": (), "mutex": None, "map": ()}
 
@@ -262,7 +265,7 @@ def has_order(kind, start, calls):
 
 
 def core_lines(answer):
-    """The lines of an answer that name calls that alone have no order."""
+    """The lines of an answer that name calls that alone have no order, or a get for whose reply the adds leave no room."""
     lines = answer.split("\n")
     end = next((place for place, line in enumerate(lines) if line.startswith("longest run: ")), 1)
     return lines[1:end]
@@ -315,16 +318,49 @@ def others(kind, core, calls, since, until):
     return "helps"
 
 
+def sums_lines(name, start, gets, calls):
+    """The lines that say how small or how great the reply of the last of these gets of a counter can be, counted from the start or from
+    the first of them; nothing where it can be what it is."""
+    *firsts, get = gets
+    after, since = (firsts[0]["lines"][1], firsts[0]["lines"][0]) if firsts else (0, 0)
+    called, returned = get["lines"]
+    is_right = all(x["op"] == "get" and x["returned"] is not PENDING and type(x["returned"][1]) is int for x in gets) and after < called
+    if not is_right:
+        return []
+    adds = [(x["args"][0], x["lines"][0], x["lines"][1] if x["returned"] is not PENDING else None) for x in calls if x["op"] == "add"]
+    must = [(n, back) for n, line, back in adds if back is not None and back < called and line > after]
+    may = [n for n, line, back in adds if line < returned and not (back is not None and back < since)]
+    value, base = get["returned"][1], firsts[0]["returned"][1] if firsts else start
+    must_when = f"were called after line {after} and returned before line {called}" if firsts else f"returned before line {called}"
+    may_when = f"were called before line {returned}" + (f" and did not return before line {since}" if firsts else "")
+    for size, sign, other, side, other_side, end in [("small", 1, "-", "above", "below", "at least"), ("great", -1, "+", "below", "above", "at most")]:
+        added, taken = sum(n * sign for n, _ in must if n * sign > 0), sum(-n * sign for n in may if n * sign < 0)
+        bound = base + sign * (added - taken)
+        if (bound - value) * sign > 0:
+            return [
+                f"no order gives {'the second of these calls' if firsts else 'this call'} so {size} a reply:",
+                *(f"  {x['process']} {name} {call_text(x)}{recorded(x)}" for x in gets),
+                f"  {base} {'by the first' if firsts else 'at the start'}",
+                f"  {'+' if sign > 0 else '-'} {added} by adds {side} 0 that {must_when}",
+                f"  {other} {taken} by adds {other_side} 0 that {may_when}",
+                f"  = {bound} {end}",
+            ]
+    return []
+
+
 def is_core(name, kind, start, calls, lines):
     """Whether the lines name calls of the object in the order of their call events, each as it stood after some event, which alone have
     no order; the key that they are on; and what no other call does."""
     if not lines:
         return True
+    by_line = {call["lines"][0]: call for call in calls}
+    if head := SUMS_HEAD.fullmatch(lines[0]):
+        gets = [CORE_CALL.fullmatch(line) for line in lines[1 : 2 if head[1] == "this call" else 3]]
+        return kind == "counter" and None not in gets and lines == sums_lines(name, start, [by_line[int(line[1])] for line in gets], calls)
     *lines, end = lines
     head, told = CORE_HEAD.fullmatch(lines[0]), [CORE_CALL.fullmatch(line) for line in lines[1:]]
     if head is None or None in told:
         return False
-    by_line = {call["lines"][0]: call for call in calls}
     core, until, after, text = [], 0, [], []
     for line in told:
         call = by_line[int(line[1])]
@@ -401,6 +437,15 @@ CASES = {
     "register_two_compare_and_sets_of_one_value": history(
         "register", ["1 cas 0 1", "2 cas 0 2", "1 = true", "2 = true", "3 read", "3 = 2"]),
     "counter_that_lost_an_addition": history("counter", ["1 add 2", "2 add 3", "1 = ok", "2 = ok", "3 get", "3 = 3"]),
+    "counter_get_that_goes_back": history(
+        "counter",
+        ["1 add 3", "1 = ok", "2 add 5", "2 = ok", "1 add 1", "2 add 2", "1 = ok", "2 = ok", "1 add 4", "1 = ok", "2 add -1", "2 = ok",
+         "3 add 6", "1 get", "1 = 20", "4 add -2", "2 get", "2 = 14", "3 = ok"]),
+    "counter_get_of_more_than_was_added": history(
+        "counter",
+        [e for n in range(1, 7) for e in (f"1 add {n}", "1 = ok")] + ["2 add 8", "2 info", "3 add -3", "4 get", "3 = ok", "4 = 35", "1 add 9"], 5, True),
+    "counter_get_of_less_than_was_added": history(
+        "counter", [e for n in range(1, 8) for e in (f"1 add {n}", "1 = ok")] + ["2 add -4", "3 get", "3 = 20", "", "2 = ok"], -3),
     "queue_item_out_of_turn": history(
         "queue", ["1 enq 3", "1 = ok", "1 enq 1", "1 = ok", "2 deq", "2 = 1", "3 deq", "3 = 3"]),
     "queue_item_taken_twice": history(
@@ -498,6 +543,31 @@ def compare(program, texts):
     return wrong
 
 
+def random_counter(seed):
+    """A history of a counter and nine to eleven calls, of which two overlap: mostly adds, of both signs, with a get or two that err."""
+    choose = random.Random(seed)
+    start = choose.choice([None, 4, -2])
+    events, state, open_calls, left = [], start or 0, {}, choose.randint(9, 11)
+    while left or open_calls:
+        process = choose.randint(1, 3)
+        if process not in open_calls and left and len(open_calls) < 2:
+            left -= 1
+            op = "get" if left < 3 else "add"
+            open_calls[process] = op, [choose.choice([-1, 1, 2, 3])] if op == "add" else []
+            events.append(" ".join([str(process), op, *map(str, open_calls[process][1])]))
+        elif process in open_calls:
+            op, args = open_calls.pop(process)
+            state, reply = step("counter", state, process, op, args)
+            if choose.random() < 0.05:
+                events.append(f"{process} info")
+                open_calls[process] = None
+                break
+            events.append(f"{process} = {reply if op == 'add' else reply + choose.choice([-3, -1, 0, 0, 0, 1, 3])}")
+        if choose.random() < 0.1:
+            events.append("")
+    return history("counter", events, start, True, choose.choice(["\n", "\r\n"]))
+
+
 OPERATIONS = {
     "register": [("write", 1), ("read", 0), ("cas", 2)], "counter": [("add", 1), ("get", 0)], "queue": [("enq", 1), ("deq", 0)],
     "stack": [("push", 1), ("pop", 0)], "set": [("add", 1), ("remove", 1), ("contains", 1)],
@@ -569,6 +639,8 @@ def main():
         sys.exit(1 if compare(sys.argv[2], texts) else 0)
     elif sys.argv[1:2] == ["--random"]:
         sys.exit(1 if compare(sys.argv[3], map(random_history, range(int(sys.argv[2])))) else 0)
+    elif sys.argv[1:2] == ["--random-counters"]:
+        sys.exit(1 if compare(sys.argv[3], map(random_counter, range(int(sys.argv[2])))) else 0)
     else:
         print(explained(sys.stdin.buffer.read().decode()), end="")
 

@@ -19,6 +19,7 @@ use Rattle.lin_object.specs.Kinds.{after}
 use Rattle.lin_object.specs.Kinds.Set.{SetLaw}
 use Rattle.lin_object.specs.Kinds.Map.{MapLaw, value_after_step}
 use Rattle.lin_object.specs.StepAnswers.{step_reply}
+use Rattle.lin_object.specs.StepLemmas.{state_same}
 use Rattle.lin_history.specs.declared.problems.problem.ProblemCall.{ProblemCall}
 use Rattle.lin_history.specs.Problems.Lists.{In}
 use Rattle.lin_history.specs.Problems.Problem.{Problem}
@@ -30,10 +31,10 @@ use Rattle.lin_history.specs.Problems.AnyProblem.{any_problem}
 use Rattle.lin_parts.specs.Parts.{name}
 use Rattle.lin_parts.specs.PartLemmas.{name_in, three}
 use Rattle.lin_core.specs.Cuts.{call_by}
-use Rattle.lin_core.specs.Laws.{IsLeft}
-use Rattle.lin_core.specs.OnValues.{IsOnValues, BeginsAnew, AreEnoughSince}
+use Rattle.lin_core.specs.Laws.{Any, IsIdle, IsLeft, IsOn, IsOff}
+use Rattle.lin_core.specs.OnValues.{IsOnValues, BeginsAnew, AreEnoughFrom, AreEnoughSince, LeavesOneState, AreAllThatChange}
 use Rattle.lin_core.proofs.CheckLemmas.{below}
-use Rattle.lin_core.proofs.CutLemmas.{Comes, left_by}
+use Rattle.lin_core.proofs.CutLemmas.{Comes, left, left_by}
 use Rattle.lin_core.proofs.OnValues.{fits_then, not_in, stay_of, clash}
 use Rattle.lin_core.proofs.SetLemmas.{set_stays, replying, valued}
 use Rattle.lin_core.proofs.LawLemmas.{any_stays, any_goes, fitting}
@@ -51,17 +52,22 @@ flag_of false e = absurd (cc)
 one_of : {A : Type 0} (x y : A) → Some x ≡ Some y → x ≡ y
 one_of x y e = cc
 
-module _ {Object : Type 0} (sets : SetLaw after state_eq.it) (maps : MapLaw after state_eq.it) (parts : ProblemParts Object ObjState Op Reply) where
+module _ {Object : Type 0} (parts : ProblemParts Object ObjState Op Reply) where
   abbrev A : Problem ObjState Op Reply
   A = any_problem parts
 
-  module _ (values : List ℤ) (event : ℕ) (kept : List ℕ) (calls : List (ProblemCall Op Reply)) (enough : AreEnoughSince A event kept calls values) where
+  -- a relation of the states of the whole and of the part, which calls keep that stay or go, and which holds after one that begins anew
+  module _ (On : ObjState → ObjState → Type 0) (may_stay may_go anew : ProblemCall Op Reply → Type 0)
+      (stays_on : (x : ProblemCall Op Reply) (s t u : ObjState) → may_stay x → On s u → after_call A s (Some x) ≡ Some t → ((v : ObjState) × (after_call A u (Some x) ≡ Some v) × On t v) ⊎ (On t u × (x.returned ≡ None)))
+      (goes_on : (x : ProblemCall Op Reply) (s t u : ObjState) → may_go x → On s u → after_call A s (Some x) ≡ Some t → On t u)
+      (begins_on : (x : ProblemCall Op Reply) (s t : ObjState) → anew x → after_call A s (Some x) ≡ Some t → (v : ObjState) × (after_call A A.start (Some x) ≡ Some v) × On t v)
+      (event : ℕ) (kept : List ℕ) (calls : List (ProblemCall Op Reply)) (enough : AreEnoughFrom A event kept calls may_stay may_go anew) where
     abbrev Closed : List ℕ → Type 0
     Closed past = (a b : ℕ) → In b past → Before A a b → In a past
 
     -- the first call has not come, and the part is as at its start; or it has
     abbrev R : List ℕ → ObjState → ObjState → Type 0
-    R past s u = Closed past × (((In (name kept 0) past → ⊥) × (u ≡ parts.start)) ⊎ (In (name kept 0) past × IsOnValues values s u))
+    R past s u = Closed past × (((In (name kept 0) past → ⊥) × (u ≡ parts.start)) ⊎ (In (name kept 0) past × On s u))
 
     abbrev CanCome : List ℕ → ℕ → Type 0
     CanCome past c = Comes A event kept calls enough.cut past c
@@ -79,8 +85,7 @@ module _ {Object : Type 0} (sets : SetLaw after state_eq.it) (maps : MapLaw afte
     begin past c x s t u is here comes r n = elim r.1 [
       | inl k ↦ (
           let same : enough.begins.0 ≡ call_by event x = one_of enough.begins.0 (call_by event x) (sym enough.begins.1 ∙ here) in
-          let anew : BeginsAnew A values (call_by event x) = subst (BeginsAnew A values) same enough.begins.2 in
-          let v = anew s t n in
+          let v = begins_on (call_by event x) s t (subst anew same enough.begins.2) n in
           inl (v.0, subst (λ (z : ObjState). after_call A z (Some (call_by event x)) ≡ Some v.0) (sym k.1) v.1, (closed_more past c comes r.0, inr (inl is, v.2)))
           )
       | inr k ↦ absurd (comes.0 (subst (λ (m : ℕ). In m past) is k.0))
@@ -89,7 +94,7 @@ module _ {Object : Type 0} (sets : SetLaw after state_eq.it) (maps : MapLaw afte
     go_on : (past : List ℕ) (c i : ℕ) (x : ProblemCall Op Reply) (s t u : ObjState) → Before A (name kept 0) c → slice_get calls i ≡ Some (call_by event x) → CanCome past c → R past s u → after_call A s (Some (call_by event x)) ≡ Some t → Stays past c x t u
     go_on past c i x s t u later here comes r n = elim r.1 [
       | inl k ↦ absurd (k.0 (comes.1 (name kept 0) later))
-      | inr k ↦ elim (any_stays sets maps values (call_by event x) s t u (enough.stay i (call_by event x) here) k.1 n) [
+      | inr k ↦ elim (stays_on (call_by event x) s t u (enough.stay i (call_by event x) here) k.1 n) [
         | inl a ↦ inl (a.0, a.1, (closed_more past c comes r.0, inr (inr k.0, a.2)))
         | inr a ↦ inr ((closed_more past c comes r.0, inr (inr k.0, a.0)), a.1)
       ]
@@ -118,17 +123,34 @@ module _ {Object : Type 0} (sets : SetLaw after state_eq.it) (maps : MapLaw afte
           | inr more ↦ fresh more
         ]
 
-        since : In (name kept 0) past → IsOnValues values s u → IsOnValues values t u
+        since : In (name kept 0) past → On s u → On t u
         since came on = elim (enough.go c x f up) [
           | inl h ↦ absurd (out h)
-          | inr (inl off) ↦ any_goes sets maps values x s t u off on n
+          | inr (inl off) ↦ goes_on x s t u off on n
           | inr (inr before) ↦ absurd (comes.0 (r.0 c (name kept 0) came before))
         ]
 
-    pub since_left : IsLeft A kept calls
-    since_left = left_by A event kept calls enough.cut R ((λ a b h before. h), inl ((λ h. h), refl))
+    left_from : IsLeft A kept calls
+    left_from = left_by A event kept calls enough.cut R ((λ a b h before. h), inl ((λ h. h), refl))
         (λ past c i x s t u f is up here there comes r n. stays past c i x s t u is here comes r n)
         goes
+
+  -- the calls on some values
+  pub since_left : SetLaw after state_eq.it → MapLaw after state_eq.it → (values : List ℤ) (event : ℕ) (kept : List ℕ) (calls : List (ProblemCall Op Reply)) → AreEnoughSince A event kept calls values → IsLeft A kept calls
+  since_left sets maps values event kept calls enough = left_from (IsOnValues values) (IsOn values) (IsOff values) (BeginsAnew A values) (any_stays sets maps values) (any_goes sets maps values) (λ x s t anew n. anew s t n) event kept calls enough
+
+  -- all that change anything
+  idle_goes : (x : ProblemCall Op Reply) (s t u : ObjState) → IsIdle A x → s ≡ u → after_call A s (Some x) ≡ Some t → t ≡ u
+  idle_goes x s t u idle e n =
+      let f = fitting reply_eq.it x.returned (after s x.process x.op) t n in
+      sym f.3 ∙ sym (state_same s f.0.0 (idle s x.process f.0 f.1 f.2)) ∙ e
+
+  one_stays : (x : ProblemCall Op Reply) (s t u : ObjState) → Any x → s ≡ u → after_call A s (Some x) ≡ Some t → ((v : ObjState) × (after_call A u (Some x) ≡ Some v) × (t ≡ v)) ⊎ ((t ≡ u) × (x.returned ≡ None))
+  one_stays x s t u any e n = inl (t, ap (λ (y : ObjState). after_call A y (Some x)) (sym e) ∙ n, refl)
+
+  pub all_left : (event : ℕ) (kept : List ℕ) (calls : List (ProblemCall Op Reply)) → AreAllThatChange A event kept calls → IsLeft A kept calls
+  all_left event kept calls (inl enough) = left A (λ s u. s ≡ u) Any (IsIdle A) refl one_stays idle_goes event kept calls enough
+  all_left event kept calls (inr enough) = left_from (λ s u. s ≡ u) Any (IsIdle A) (LeavesOneState A) one_stays idle_goes (λ x s t leaves n. (t, leaves s t n, refl)) event kept calls enough
 
 -- ---- calls that begin anew
 
@@ -261,3 +283,22 @@ module _ {Object : Type 0} (sets : SetLaw after state_eq.it) (maps : MapLaw afte
 
   pub insert_begins : (v : ℤ) (ys : List ℤ) (n : ℕ) → parts.start ≡ Set ys → x.op ≡ Insert v → x.returned ≡ Some (n, Flag true) → values ≡ v ∷ [] → is_in v ys ≡ false → Begins
   insert_begins v ys n is same answer only out = start_as (Set ys) (Insert v) is same (λ s t e. set_anew sets maps values x.process x.returned t v ys n (only_one v values only) (in_one v values only) out answer s e)
+
+-- a write leaves what it wrote, wherever it is done
+module _ {Object : Type 0} (parts : ProblemParts Object ObjState Op Reply) (x : ProblemCall Op Reply) (v z : ℤ) where
+  one_written : (s t : ObjState) → state_if_fits reply_eq.it x.returned (after s x.process (Write v)) ≡ Some t → state_if_fits reply_eq.it x.returned (after (Register z) x.process (Write v)) ≡ Some t
+  one_written (Register w) t e = e
+  one_written (Counter w) t e = none_some t e
+  one_written (Queue []) t e = none_some t e
+  one_written (Queue (w ∷ items)) t e = none_some t e
+  one_written (Stack []) t e = none_some t e
+  one_written (Stack (w ∷ items)) t e = none_some t e
+  one_written (Set items) t e = none_some t e
+  one_written (Mutex None) t e = none_some t e
+  one_written (Mutex (Some h)) t e = none_some t e
+  one_written (Map pairs) t e = none_some t e
+
+  pub write_leaves : parts.start ≡ Register z → x.op ≡ Write v → LeavesOneState (any_problem parts) x
+  write_leaves is same s t e =
+      let k = one_written s t (subst (λ (o : Op). state_if_fits reply_eq.it x.returned (after s x.process o) ≡ Some t) same e) in
+      subst (λ (u : ObjState). state_if_fits reply_eq.it x.returned (after u x.process x.op) ≡ Some t) (sym is) (subst (λ (o : Op). state_if_fits reply_eq.it x.returned (after (Register z) x.process o) ≡ Some t) (sym same) k)

@@ -11,8 +11,8 @@ use Rattle.lin_history.specs.Problems.Lists.{In}
 use Rattle.lin_history.specs.Problems.Problem.{Problem}
 use Rattle.lin_history.specs.Problems.LegalLists.{after_call}
 use Rattle.lin_history.specs.Problems.Precedence.{Before}
-use Rattle.lin_core.specs.Cuts.{AreCut}
-use Rattle.lin_core.specs.Laws.{IsOn, IsOff}
+use Rattle.lin_core.specs.Cuts.{AreCut, AreEnough}
+use Rattle.lin_core.specs.Laws.{Any, IsIdle, IsOn, IsOff}
 
 -- The items among the values.
 abbrev pub among : List ℤ → List ℤ → List ℤ
@@ -38,11 +38,24 @@ IsOnValues values s u = ⊥
 abbrev pub BeginsAnew : Problem ObjState Op Reply → List ℤ → ProblemCall Op Reply → Type 0
 BeginsAnew p values x = (s t : ObjState) → after_call p s (Some x) ≡ Some t → (v : ObjState) × (after_call p p.start (Some x) ≡ Some v) × IsOnValues values t v
 
--- Calls on the values, as they stood after the event, of which the first begins anew and precedes the others. Of those called by
--- then each one that is not kept changes nothing of what is known of the values, or precedes the first.
-pub record AreEnoughSince (p : Problem ObjState Op Reply) (event : ℕ) (kept : List ℕ) (calls : List (ProblemCall Op Reply)) (values : List ℤ) : Type 0 where
+-- Calls, as they stood after the event, each of which may stay, and of which the first is one that begins anew and precedes the
+-- others. Of those called by then each one that is not kept may go, or precedes the first.
+pub record AreEnoughFrom (p : Problem ObjState Op Reply) (event : ℕ) (kept : List ℕ) (calls : List (ProblemCall Op Reply)) (may_stay may_go anew : ProblemCall Op Reply → Type 0) : Type 0 where
   pub cut : AreCut p event kept calls
-  pub stay : (i : ℕ) (x : ProblemCall Op Reply) → slice_get calls i ≡ Some x → IsOn values x
-  pub begins : (x : ProblemCall Op Reply) × (slice_get calls 0 ≡ Some x) × BeginsAnew p values x
+  pub stay : (i : ℕ) (x : ProblemCall Op Reply) → slice_get calls i ≡ Some x → may_stay x
+  pub begins : (x : ProblemCall Op Reply) × (slice_get calls 0 ≡ Some x) × anew x
   pub later : (i : ℕ) → 0 < i → i < length kept → Before p (slice_index kept 0) (slice_index kept i)
-  pub go : (c : ℕ) (x : ProblemCall Op Reply) → slice_get p.calls c ≡ Some x → x.called ≤ event → In c kept ⊎ (IsOff values x ⊎ Before p c (slice_index kept 0))
+  pub go : (c : ℕ) (x : ProblemCall Op Reply) → slice_get p.calls c ≡ Some x → x.called ≤ event → In c kept ⊎ (may_go x ⊎ Before p c (slice_index kept 0))
+
+-- Such calls on the values. Each one that is not kept changes nothing of what is known of the values, or precedes the first.
+abbrev pub AreEnoughSince : Problem ObjState Op Reply → ℕ → List ℕ → List (ProblemCall Op Reply) → List ℤ → Type 0
+AreEnoughSince p event kept calls values = AreEnoughFrom p event kept calls (IsOn values) (IsOff values) (BeginsAnew p values)
+
+-- Wherever the call can be done, it can be done at the start, and leaves the same state.
+abbrev pub LeavesOneState : Problem ObjState Op Reply → ProblemCall Op Reply → Type 0
+LeavesOneState p x = (s t : ObjState) → after_call p s (Some x) ≡ Some t → after_call p p.start (Some x) ≡ Some t
+
+-- Calls, as they stood after the event, among which is each call that was called by then and changes anything; or each such one from a
+-- first call on that leaves one state, behind those that precede it, and precedes the others.
+abbrev pub AreAllThatChange : Problem ObjState Op Reply → ℕ → List ℕ → List (ProblemCall Op Reply) → Type 0
+AreAllThatChange p event kept calls = AreEnough p event kept calls Any (IsIdle p) ⊎ AreEnoughFrom p event kept calls Any (IsIdle p) (LeavesOneState p)

@@ -4,7 +4,7 @@ ghost use Rattle.std.specs.Prelude.{◌≡◌, ◌∷◌, ℕ, [], Some, true, f
 ghost use Rattle.lin_object.specs.declared.reply.Reply.TheVariants.{Flag};
 ghost use Rattle.lin_object.specs.Items.{is_in};
 ghost use Rattle.lin_history.specs.Problems.AnyProblem.{any_problem};
-ghost use Rattle.lin_core.specs.OnValues.{BeginsAnew};
+ghost use Rattle.lin_core.specs.OnValues.{BeginsAnew, LeavesOneState};
 
 use crate::value_tables::has;
 use lin_history::{Problem, ProblemCall};
@@ -54,6 +54,16 @@ pub(crate) fn begins_anew(
         (ObjState::Register(_), Op::Write(_)) => true,
         (ObjState::Map(_), Op::Put(key, _)) => is_only(values, *key),
         (ObjState::Set(items), Op::Insert(item)) => inserts_first(items, values, *item, call),
+        _ => false,
+    }
+}
+
+/// Whether the call leaves one state wherever it can be done, and can be done at the start: a write of a register.
+pub(crate) fn leaves_one_state(problem: &Problem<AnyObject>, call: &ProblemCall<Op, Reply>) -> bool
+    ensures { IsTrue result → LeavesOneState (any_problem problem.now) call.now }
+{
+    match (problem.start(), &call.op) {
+        (ObjState::Register(_), Op::Write(_)) => true,
         _ => false,
     }
 }

@@ -1,5 +1,11 @@
 //! On which values a call is, and which calls the finding of cores may leave out.
 
+ghost use Rattle.std.specs.Prelude.{IsTrue};
+ghost use Rattle.lin_object.specs.contracts.reply.ReplyPartialEq.TheImpl.{eq-value as reply_eq};
+ghost use Rattle.lin_object.specs.contracts.state.ObjStatePartialEq.TheImpl.{eq-value as state_eq};
+ghost use Rattle.lin_object.specs.Kinds.{after};
+ghost use Rattle.lin_object.specs.StepAnswers.{ChangesNothing};
+
 use crate::selection::MapKey;
 use lin_history::ProblemCall;
 use lin_object::{AnyObject, Op, Reply, SeqObject};
@@ -77,6 +83,9 @@ pub(crate) fn source_of(call: &ProblemCall<Op, Reply>) -> Option<i64> {
 }
 
 /// Whether the call changes nothing, so that it may be left out whatever the values are.
-pub(crate) fn is_idle(call: &ProblemCall<Op, Reply>) -> bool {
+pub(crate) fn is_idle(call: &ProblemCall<Op, Reply>) -> bool
+    ensures { IsTrue result → ChangesNothing state_eq.it reply_eq.it after call.now.op
+        call.now.returned }
+{
     AnyObject.changes_nothing(&call.op, &call.returned)
 }

@@ -12,7 +12,7 @@ use crate::key_faults::forgotten;
 use crate::lock_faults::{around_try, tries_in_vain, two_holders};
 use crate::refuted_part::{Core, core_of_calls};
 use crate::selection::{MapKey, Selection};
-use crate::smaller::{from_anew, make_smaller, rounds_but_for, without_rounds};
+use crate::smaller::{from_anew, make_smaller, needs_all, rounds_but_for, without_rounds};
 use crate::value_faults::value_faults;
 use lin_history::Problem;
 use lin_object::{AnyObject, ObjState};
@@ -256,6 +256,26 @@ impl<'a> Finder<'a> {
         self.first_refuted(alloc, lists.as_slice())
     }
 
+    // All calls, where a `cas` that answered 'no' is among them, if they are refuted: such a call may stay beside all that change
+    // anything.
+    fn refuted_with_cas(&mut self, alloc: Global) -> Result<Option<Selection>, AllocError> {
+        let calls = (0..self.problem.len()).collect(alloc)?;
+        let all = Selection::new(alloc, THE_END, None, Vec::new(alloc), calls);
+        if needs_all(self.problem, &all) && self.judge.refutes_selection(alloc, &all)? {
+            Ok(Some(all))
+        } else {
+            Ok(None)
+        }
+    }
+
+    // Calls on some values that are refuted, or else all.
+    fn refuted_values(&mut self, alloc: Global) -> Result<Option<Selection>, AllocError> {
+        match self.refuted_family(alloc)? {
+            Some(selection) => Ok(Some(selection)),
+            None => self.refuted_with_cas(alloc),
+        }
+    }
+
     // Some calls that are refuted, by whatever way finds them first.
     fn refuted(&mut self, alloc: Global) -> Result<Option<Selection>, AllocError> {
         match self.problem.start() {
@@ -263,7 +283,7 @@ impl<'a> Finder<'a> {
             ObjState::Counter(_) => self.refuted_on(alloc, &[]),
             _ => match self.refuted_by_fault(alloc)? {
                 Some(selection) => Ok(Some(selection)),
-                None => self.refuted_family(alloc),
+                None => self.refuted_values(alloc),
             },
         }
     }

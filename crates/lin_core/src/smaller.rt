@@ -356,10 +356,22 @@ fn size_of(selection: &Selection) -> (u32, usize, usize) {
     )
 }
 
-// Whether a `try_lock` that answered 'no' is among the calls: then each process is needed, and so is each round that may go on
-// meanwhile.
-fn has_refused_try(problem: &Problem<AnyObject>, selection: &Selection) -> bool {
-    selection.calls.iter().any(|index| problem.calls().get(*index).is_some_and(is_refused))
+// Whether the call is a `cas` that answered 'no'.
+fn is_refused_cas(call: &ProblemCall<Op, Reply>) -> bool {
+    matches!(
+        (&call.op, &call.returned),
+        (Op::Cas(..), Some((_, Reply::Flag(false))))
+    )
+}
+
+/// Whether a `try_lock` or a `cas` that answered 'no' is among the calls: then each process is needed, and so is each round that may go
+/// on meanwhile; or each value.
+pub(crate) fn needs_all(problem: &Problem<AnyObject>, selection: &Selection) -> bool {
+    let needs_all = |call: &ProblemCall<Op, Reply>| is_refused(call) || is_refused_cas(call);
+    selection
+        .calls
+        .iter()
+        .any(|index| problem.calls().get(*index).is_some_and(needs_all))
 }
 
 /// Makes a selection that has no linearization smaller, as long as there is work left.
@@ -372,7 +384,7 @@ pub(crate) fn make_smaller(
     for _ in 0..TURNS {
         let before = size_of(selection);
         cut_early(alloc, problem, judge, selection)?;
-        if !has_refused_try(problem, selection) {
+        if !needs_all(problem, selection) {
             leave_out(alloc, problem, judge, selection, Way::Values)?;
             leave_out(alloc, problem, judge, selection, Way::Rounds)?;
         }

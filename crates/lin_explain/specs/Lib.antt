@@ -7,3 +7,5 @@ pub mod TouchingText
 pub mod RunReplies
 pub mod RunExplained
 pub mod CoreText
+pub mod SumsText
+pub mod WitnessText

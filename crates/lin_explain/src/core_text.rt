@@ -129,7 +129,7 @@ fn write_call(
 }
 
 // Appends the line of this call, where it is a call.
-fn write_call_of(
+pub(crate) fn write_call_of(
     out: &mut String,
     name: &str,
     calls: &[ProblemCall<Op, Reply>],
@@ -163,7 +163,7 @@ fn write_calls(
 }
 
 // The last event of a call with what is shown of its return.
-fn event_of(called: u32, returned: &Option<(u32, Reply)>) -> u32
+pub(crate) fn event_of(called: u32, returned: &Option<(u32, Reply)>) -> u32
     ensures { result ≡ event_of called returned.now }
 {
     match returned {
@@ -369,7 +369,7 @@ fn write_others(
 /// Appends the lines of a core of these calls on the object of this name: how many calls it has, and of a map or a set which key they
 /// are on; below that each call, with the lines of the input on which its events are; and then between which lines no other call helps. `lines` has the line of each event of the
 /// input, that of the event of number n at n - 1. Appends nothing where the core has no calls. `AllocError` where memory was refused.
-pub fn write_core(
+pub(crate) fn write_core(
     out: &mut String,
     name: &str,
     calls: &[ProblemCall<Op, Reply>],

@@ -6,7 +6,8 @@
 //! - `state_text`, `touching_text`: how a state and such calls are shown.
 //! - `explanation_text`: how an explanation is shown.
 //! - `run_explained`: the same of the run of an object of a history.
-//! - `core_text`: how calls are shown that alone have no order.
+//! - `core_text`: how calls are shown that alone have no order; `sums_text`: how a get of a counter is shown for whose reply its
+//!   adds leave no room; `witness_text`: whichever of both is known.
 #![tactic(auto)]
 
 mod core_text;
@@ -15,12 +16,16 @@ mod explanation_text;
 mod next_calls;
 mod run_explained;
 mod state_text;
+mod sums_text;
 mod touching;
 mod touching_text;
+mod witness_text;
 
-pub use core_text::{CoreCall, write_core};
+pub use core_text::CoreCall;
 pub use explanation::{Explanation, NextCall, explain};
 pub use explanation_text::write_explanation;
 pub use run_explained::write_run_explained;
 pub use state_text::MAX_SHOWN;
+pub use sums_text::ShownSums;
 pub use touching_text::{MAX_TOUCHING, ShownRun};
+pub use witness_text::{Witness, write_witness};

@@ -5,7 +5,7 @@ use Rattle.lin_history.specs.Recorder.RecordedHistory.{RecordedHistory}
 use Rattle.lin_workers.specs.Bounds.{Bounds}
 use Rattle.lincheck.specs.declared.status.Status.{Status}
 use Rattle.lincheck.specs.Report.{name_of}
-use Rattle.lin_explain.specs.declared.core_text.CoreCall.{CoreCall}
+use Rattle.lin_explain.specs.declared.witness_text.Witness.{Witness}
 use Rattle.lincheck.specs.Each.{IsStatusOf, AreStatusesOf, IsToldBehind, AreToldFrom, told_text, status_text, status_lines}
 use Rattle.lincheck.proofs.ReportLemmas.{dropped_at, over}
 
@@ -57,7 +57,7 @@ pub record ToldWritten (h : RecordedHistory) (lines : List ℕ) (statuses : List
 pub told_none : (h : RecordedHistory) (lines : List ℕ) (statuses : List Status) (old : List ℕ) → ToldWritten h lines statuses old old 0
 told_none h lines statuses old = record { goes_on = λ rest told. (rest, told, refl) }
 
-pub told_more : (h : RecordedHistory) (lines : List ℕ) (statuses : List Status) (old out new : List ℕ) (i : ℕ) (s : Status) (behind : List CoreCall) → slice_get statuses i ≡ Some s → ToldWritten h lines statuses old out i
+pub told_more : (h : RecordedHistory) (lines : List ℕ) (statuses : List Status) (old out new : List ℕ) (i : ℕ) (s : Status) (behind : Witness) → slice_get statuses i ≡ Some s → ToldWritten h lines statuses old out i
     → IsToldBehind h i s behind → new ≡ out ++ told_text h lines i s behind → ToldWritten h lines statuses old new (i + 1)
 told_more h lines statuses old out new i s behind there w is e = record { goes_on = goes_on }
   where

@@ -9,3 +9,4 @@ pub mod CommandLineFacts
 pub mod RunsLemmas
 pub mod EachLemmas
 pub mod ExplainedLemmas
+pub mod SoundLemmas

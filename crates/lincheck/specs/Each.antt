@@ -4,12 +4,13 @@ use Rattle.std.specs.List.{list_any}
 use Rattle.lin_history.specs.Problems.Linearizations.{IsLinearization}
 use Rattle.lin_history.specs.Recorder.RecordedHistory.{RecordedHistory}
 use Rattle.lin_history.specs.Locality.RecordedWhole.{part_of}
-use Rattle.lin_explain.specs.declared.core_text.CoreCall.{CoreCall}
+use Rattle.lin_explain.specs.declared.witness_text.Witness.{Witness}
+use Rattle.lin_explain.specs.declared.witness_text.Witness.TheVariants.{Nothing}
 use Rattle.lin_workers.specs.Bounds.{Bounds}
 use Rattle.lin_workers.specs.Verdict.{MayBeUndecided}
 use Rattle.lincheck.specs.declared.status.Status.{Status}
 use Rattle.lincheck.specs.declared.status.Status.TheVariants.{Yes, No, Undecided, Refused}
-use Rattle.lincheck.specs.Explained.{TellsCore, core_text_of}
+use Rattle.lincheck.specs.Explained.{IsWitness, witness_text_of}
 use Rattle.lincheck.specs.Report.{name_of}
 
 -- The status of an object by itself: it has a linearization; it has none; or the bounds may have ended its search.
@@ -36,24 +37,25 @@ abbrev pub status_lines : RecordedHistory → ℕ → List Status → List ℕ
 status_lines h n [] = []
 status_lines h n (status ∷ statuses) = name_of h n ++ codes ": " ++ status_text status ++ codes "\n" ++ status_lines h (n + 1) statuses
 
--- Behind the line of an object with this status these calls are told: those of a core, or none, where it is not linearizable; else none.
-abbrev pub IsToldBehind : RecordedHistory → ℕ → Status → List CoreCall → Type 0
-IsToldBehind h object Yes told = told ≡ []
-IsToldBehind h object No told = TellsCore h object told
-IsToldBehind h object Undecided told = told ≡ []
-IsToldBehind h object Refused told = told ≡ []
+-- Behind the line of an object with this status this is told: where it is not linearizable what shows that, if that was found; else
+-- nothing.
+abbrev pub IsToldBehind : RecordedHistory → ℕ → Status → Witness → Type 0
+IsToldBehind h object Yes told = told ≡ Nothing
+IsToldBehind h object No told = IsWitness h object told
+IsToldBehind h object Undecided told = told ≡ Nothing
+IsToldBehind h object Refused told = told ≡ Nothing
 
--- The line of an object with this status, with these calls behind it.
-abbrev pub told_text : RecordedHistory → List ℕ → ℕ → Status → List CoreCall → List ℕ
-told_text h lines object status told = name_of h object ++ codes ": " ++ status_text status ++ codes "\n" ++ core_text_of h object lines told
+-- The line of an object with this status, with that behind it.
+abbrev pub told_text : RecordedHistory → List ℕ → ℕ → Status → Witness → List ℕ
+told_text h lines object status told = name_of h object ++ codes ": " ++ status_text status ++ codes "\n" ++ witness_text_of h object lines told
 
 -- The lines of objects with these statuses, of which the first has index n, each with what is told behind it.
 abbrev pub AreToldFrom : RecordedHistory → List ℕ → ℕ → List Status → List ℕ → Type 0
 AreToldFrom h lines n [] printed = printed ≡ []
 AreToldFrom h lines n (status ∷ statuses) printed =
-    (told : List CoreCall) × IsToldBehind h n status told × (rest : List ℕ) × AreToldFrom h lines (n + 1) statuses rest × (printed ≡ told_text h lines n status told ++ rest)
+    (told : Witness) × IsToldBehind h n status told × (rest : List ℕ) × AreToldFrom h lines (n + 1) statuses rest × (printed ≡ told_text h lines n status told ++ rest)
 
--- The lines of a history's objects; where the lines of the events are given, with the calls of cores.
+-- The lines of a history's objects; where the lines of the events are given, with what is told behind them.
 abbrev pub AreStatusLines : Option (List ℕ) → RecordedHistory → List Status → List ℕ → Type 0
 AreStatusLines None h statuses printed = printed ≡ status_lines h 0 statuses
 AreStatusLines (Some lines) h statuses printed = AreToldFrom h lines 0 statuses printed

@@ -3,11 +3,13 @@ pub mod Reading
 pub mod Report
 pub mod Verdict
 pub mod ObjectAnswer
+pub mod ObjectFaults
 pub mod Explained
 pub mod Stored
 pub mod Each
 pub mod Prints
 pub mod Ran
+pub mod Sound
 pub mod Status
 pub mod Request
 pub mod CommandLine

@@ -19,7 +19,7 @@ use Rattle.lincheck.specs.declared.status.Status.TheVariants.{Yes, No, Undecided
 use Rattle.lincheck.specs.declared.verdict.Verdict.{Verdict}
 use Rattle.lincheck.specs.declared.verdict.Verdict.TheVariants as verdicts
 use Rattle.lincheck.specs.Verdict.{AreLeast, IsFirstWithout, IsLongestRunOf, IsUndecidedAt}
-use Rattle.lincheck.specs.Explained.{WithExplanation, WithCore}
+use Rattle.lincheck.specs.Explained.{WithExplanation, WithoutRun}
 use Rattle.lincheck.specs.Stored.{IsStoredSum}
 use Rattle.lincheck.specs.Each.{AreStatusesOf, AreStatusLines, status_of_all}
 use Rattle.lincheck.specs.Report.{yes_report, undecided_report, stored_line}
@@ -40,7 +40,7 @@ PrintsNo lines h object printed = (run : List (Placed Reply)) × IsFirstWithout 
 
 -- Where the time is bounded it may print that object without the run.
 abbrev pub PrintsNoInTime : Option (List ℕ) → RecordedHistory → Bounds → ℕ → List ℕ → Type 0
-PrintsNoInTime lines h bounds object printed = IsFirstWithout h object × IsSome bounds.seconds × WithCore lines h object printed
+PrintsNoInTime lines h bounds object printed = IsFirstWithout h object × IsSome bounds.seconds × WithoutRun lines h object printed
 
 -- Within bounds it may print an object that is not decided.
 abbrev pub PrintsUndecided : RecordedHistory → Bounds → ℕ → List ℕ → Type 0

@@ -1,36 +1,36 @@
-//! A line for each object of a history, with the calls of a core behind that of one that is not linearizable.
+//! A line for each object of a history, behind that of one that is not linearizable with what lets a reader see that.
 
 ghost use Rattle.std.specs.Prelude.{◌≡◌, ◌++◌, ◌<◌, ℕ, List, Some, length, option_map, slice_get, string_bytes, IfOk, OnOk};
 ghost use Rattle.lin_history.specs.Recorder.Parts.{start_of, part_calls};
-ghost use Rattle.lin_explain.specs.declared.core_text.CoreCall.{CoreCall as Told};
+ghost use Rattle.lin_explain.specs.declared.witness_text.Witness.{Witness as Told};
 ghost use Rattle.lincheck.specs.Each.{told_text, AreStatusLines, AreToldFrom, IsToldBehind};
 
-use crate::core_lines::core_calls;
 use crate::each::{report_each, write_status};
 use crate::status::Status;
-use lin_explain::{CoreCall, write_core};
+use crate::witness::witness_of;
+use lin_explain::{Witness, write_witness};
 use lin_history::{History, Problem};
 use lin_object::AnyObject;
 use std::alloc::{AllocError, Global};
 
-// The calls that are told behind the line of the object of this index, of which the problem is the part of the history on it.
+// What is told behind the line of the object of this index, of which the problem is the part of the history on it.
 fn told_behind(
     alloc: Global,
     history: &History,
     object: usize,
     problem: &Problem<AnyObject>,
     status: Status,
-) -> Result<Vec<CoreCall>, AllocError>
+) -> Result<Witness, AllocError>
     requires start { option_map start_of (slice_get history.now.objects object)
         ≡ Some problem.now.start }
     requires calls { problem.now.calls ≡ part_calls history.now object }
-    ensures { IfOk result (λ told. IsToldBehind history.now object status told.items) }
+    ensures { IfOk result (λ told. IsToldBehind history.now object status told) }
 {
     match status {
-        Status::No => core_calls(alloc, history, object, problem),
-        Status::Yes => Ok(Vec::new(alloc)),
-        Status::Undecided => Ok(Vec::new(alloc)),
-        Status::Refused => Ok(Vec::new(alloc)),
+        Status::No => witness_of(alloc, history, object, problem),
+        Status::Yes => Ok(Witness::Nothing),
+        Status::Undecided => Ok(Witness::Nothing),
+        Status::Refused => Ok(Witness::Nothing),
     }
 }
 
@@ -47,14 +47,14 @@ fn told_of(
     requires start { option_map start_of (slice_get history.now.objects object)
         ≡ Some problem.now.start }
     requires calls { problem.now.calls ≡ part_calls history.now object }
-    ensures { IfOk result (λ text. (told : List Told) × IsToldBehind history.now object status told
+    ensures { IfOk result (λ text. (told : Told) × IsToldBehind history.now object status told
         × (string_bytes text ≡ told_text history.now lines.now object status told)) }
 {
     let told = told_behind(alloc, history, object, problem, status)?;
     let mut out = String::new(alloc);
     write_status(&mut out, history, object, status)?;
     let name = history.object(object).name;
-    write_core(&mut out, name, problem.calls(), lines, told.as_slice())?;
+    write_witness(&mut out, name, problem.calls(), lines, &told)?;
     Ok(out)
 }
 
@@ -107,7 +107,7 @@ fn report_told(
 }
 
 /// The lines of the objects of a history with these statuses, as `report_each` gives them; where the lines of the events are given,
-/// with the calls of a core behind that of each object that is not linearizable, where one is found. `AllocError` where memory was
+/// behind that of each object that is not linearizable with what lets a reader see that, where it is found. `AllocError` where memory was
 /// refused.
 ///
 /// Condition: there is a status for each object.

@@ -8,34 +8,34 @@ ghost use Rattle.lin_history.specs.Locality.RecordedWhole.{whole_of, start_at, p
 ghost use Rattle.lin_history.specs.Verifier.Flags.{AreKnown};
 ghost use Rattle.lin_explain.specs.RunExplained.{IsExplainedBy};
 ghost use Rattle.lin_workers.specs.Bounds.{Bounds};
-ghost use Rattle.lincheck.specs.Explained.{head_text, end_text, IsExplained, WithCore, WithExplanation};
+ghost use Rattle.lincheck.specs.Explained.{head_text, end_text, IsExplained, WithExplanation, WithoutRun};
 ghost use Rattle.lincheck.specs.Verdict.{IsVerdict};
 
-use crate::core_lines::core_calls;
 use crate::lines::{report, write_last_calls, write_length, write_name, write_not_found};
 use crate::verdict::Verdict;
-use lin_explain::{CoreCall, write_core, write_run_explained};
+use crate::witness::witness_of;
+use lin_explain::{Witness, write_run_explained, write_witness};
 use lin_history::{History, Placed, ProblemCall};
 use lin_object::{Op, Reply};
 use std::alloc::{AllocError, Global};
 
-// Appends the line that names an object without a linearization, and below it the calls of a core of the calls on it.
+// Appends the line that names an object without a linearization, and below it what lets a reader see that.
 fn write_head(
     out: &mut String,
     history: &History,
     object: usize,
     calls: &[ProblemCall<Op, Reply>],
     lines: &[u64],
-    core: &[CoreCall],
+    witness: &Witness,
 ) -> Result<(), AllocError>
     requires declared { object < length history.now.objects }
     requires calls { calls.now ≡ part_calls history.now object }
     ensures { OnOk result (string_bytes out.new
-        ≡ string_bytes out.old ++ head_text history.now object lines.now core.now) }
+        ≡ string_bytes out.old ++ head_text history.now object lines.now witness.now) }
 {
     write_name(out, history, object)?;
     let name = history.object(object).name;
-    write_core(out, name, calls, lines, core)
+    write_witness(out, name, calls, lines, witness)
 }
 
 // Appends the length of this run of the object, its last calls, and why it ends.
@@ -78,16 +78,9 @@ fn no_explained(
         printed.items) }
 {
     let problem = history.problem(alloc, object)?;
-    let core = core_calls(alloc, history, object, &problem)?;
+    let witness = witness_of(alloc, history, object, &problem)?;
     let mut out = String::new(alloc);
-    write_head(
-        &mut out,
-        history,
-        object,
-        problem.calls(),
-        lines,
-        core.as_slice(),
-    )?;
+    write_head(&mut out, history, object, problem.calls(), lines, &witness)?;
     write_end(alloc, &mut out, history, object, run, lines)?;
     Ok(out.into_bytes())
 }
@@ -100,19 +93,12 @@ fn no_in_time_explained(
     lines: &[u64],
 ) -> Result<Vec<u8>, AllocError>
     requires { object < length history.now.objects }
-    ensures { IfOk result (λ printed. WithCore (Some lines.now) history.now object printed.items) }
+    ensures { IfOk result (λ printed. WithoutRun (Some lines.now) history.now object printed.items) }
 {
     let problem = history.problem(alloc, object)?;
-    let core = core_calls(alloc, history, object, &problem)?;
+    let witness = witness_of(alloc, history, object, &problem)?;
     let mut out = String::new(alloc);
-    write_head(
-        &mut out,
-        history,
-        object,
-        problem.calls(),
-        lines,
-        core.as_slice(),
-    )?;
+    write_head(&mut out, history, object, problem.calls(), lines, &witness)?;
     write_not_found(&mut out)?;
     Ok(out.into_bytes())
 }
@@ -136,8 +122,8 @@ fn report_with_lines(
     }
 }
 
-/// What is printed of the verdict: its report; where the lines of the events are given, of a verdict that is no with the calls of a
-/// core, where one is found, the last calls of the longest run, and why it ends. `AllocError` where memory was refused.
+/// What is printed of the verdict: its report; where the lines of the events are given, of a verdict that is no with what lets a
+/// reader see that, where it is found, the last calls of the longest run, and why it ends. `AllocError` where memory was refused.
 ///
 /// Condition: the verdict is right.
 pub(crate) fn report_explained(

@@ -3,7 +3,6 @@
 
 mod answer_form;
 mod check_watcher;
-mod core_lines;
 mod device;
 mod each;
 mod each_explained;
@@ -15,13 +14,14 @@ mod lines;
 mod listener;
 mod object_answer;
 mod object_check;
-mod object_core;
+mod object_fault;
 mod pipeline;
 mod request;
 mod setting;
 mod status;
 mod verdict;
 mod way_times;
+mod witness;
 
 pub use answer_form::AnswerForm;
 pub use device::{DeviceFault, Sink, Source, StdSink, StdSource};

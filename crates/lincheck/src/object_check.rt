@@ -6,9 +6,9 @@
 //! 2. *Turns* (`by_turns`): the full search of the calling thread goes on until it makes no progress for long, and then searches of
 //!    prefixes are made. Each turn goes about twice as far as the one before. So neither way waits long for the other, whichever of
 //!    them is soon done. The full search keeps what it refuted, and goes on from there in its next turn. Where the first turn's search
-//!    stalls, a core is looked for: a few calls that alone have no order show that there is none. Where many calls are pending, the
-//!    searches of prefixes, the first of which is one of the whole, also try pending calls only between completed ones
-//!    (`lin_fewer`): of two configurations that differ in pending calls alone the one that used fewer is never worse.
+//!    stalls, a core is looked for, or a get of a counter for whose reply the adds leave no room: either shows that there is none. Where
+//!    many calls are pending, the searches of prefixes, the first of which is one of the whole, also try pending calls only between
+//!    completed ones (`lin_fewer`): of two configurations that differ in pending calls alone the one that used fewer is never worse.
 //! 3. *To the end* (`to_the_end`): the calling thread goes on by itself where there is to be one worker. Else workers share the search.
 //!
 //! A search that met the limit is not begun again: what follows are the tasks of workers, each with a limit of its own. What the
@@ -25,7 +25,7 @@ ghost use Rattle.lin_workers.specs.Verdict.{IsNumberStored, IsObjectVerdict, IsT
 ghost use Rattle.lincheck.specs.ObjectAnswer.{HasNoOrder, IsAnswered, IsObjectAnswer};
 
 use crate::object_answer::{ObjectAnswer, Question};
-use crate::object_core::core_of_object;
+use crate::object_fault::fault_of_object;
 use crate::setting::Setting;
 use lin_ahead::{known_ahead, search_first};
 use lin_history::Problem;
@@ -336,14 +336,14 @@ fn answer_alone(alone: Alone, is_refuted: bool) -> ControlFlow<(ObjectAnswer, u6
     }
 }
 
-// ---- cores
+// ---- faults that a reader can see
 
-// Whether the object has a core, as far as one is found.
-fn has_core(alloc: Global, problem: &Problem<AnyObject>) -> Result<bool, AllocError>
+// Whether the object has a core, or a get for whose reply the adds leave no room, as far as one is found.
+fn has_fault(alloc: Global, problem: &Problem<AnyObject>) -> Result<bool, AllocError>
     ensures { IfOk result (λ has. IsTrue has → HasNoOrder (any_problem problem.now)) }
 {
-    match core_of_object(alloc, problem)? {
-        Some(_core) => Ok(true),
+    match fault_of_object(alloc, problem)? {
+        Some(_fault) => Ok(true),
         None => Ok(false),
     }
 }
@@ -361,7 +361,7 @@ fn is_refuted_by_core(
     if is_refuted || !turn.looks_for_core {
         return Ok(is_refuted);
     }
-    has_core(alloc, problem)
+    has_fault(alloc, problem)
 }
 
 // ---- searches of prefixes

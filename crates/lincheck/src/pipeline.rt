@@ -8,6 +8,7 @@ ghost use Rattle.lin_text.specs.Words.{fault_line};
 ghost use Rattle.lincheck.specs.Prints.{Prints, PrintsEach, PrintsWith, status_of};
 ghost use Rattle.lincheck.specs.Ran.{is_read, is_write, is_fault, RanFrom};
 ghost use Rattle.lincheck.specs.Reading.{IsReadOf, TakesAtMost};
+ghost use Rattle.lincheck.specs.Sound.{IsSoundRun};
 
 use crate::answer_form::AnswerForm;
 use crate::device::{DeviceFault, Sink, Source};
@@ -270,6 +271,8 @@ pub fn run_with<R: AllocGlobal + Threads + Clock + Sync, S: Source, W: Sink, L: 
     requires sink { W.failed sink.old ≡ false }
     ensures ran { RanFrom options.now form (S.remaining source.old) (W.contents sink.old)
         (W.contents sink.new) result }
+    ensures sound { IsSoundRun form options.now.stats (S.remaining source.old)
+        (W.contents sink.old) (W.contents sink.new) result }
     ensures taken { TakesAtMost ENOUGH (S.remaining source.old) (S.remaining source.new) }
     ensures source { S.failed source.new ≡ is_fault is_read result }
     ensures sink { W.failed sink.new ≡ is_fault is_write result }
@@ -291,7 +294,8 @@ pub fn run_with<R: AllocGlobal + Threads + Clock + Sync, S: Source, W: Sink, L: 
 /// once. Faults: `Read` where the source failed, `Memory` where memory was refused; nothing was written then. `Write`
 /// where the sink failed; a prefix of the answer was written.
 ///
-/// Within a limit or a time the answer may be `Undecided`. It may wait, for its workers.
+/// In short (`sound`): at `Yes` the text means a history and what is written is the report of a linearization of it; at `No` it
+/// means one that has none. Within a limit or a time the answer may be `Undecided`. It may wait, for its workers.
 ///
 /// Condition: neither device has failed. Afterwards the source has failed exactly at `Read`, and the sink exactly at
 /// `Write`.
@@ -304,6 +308,8 @@ pub fn run<R: AllocGlobal + Threads + Clock + Sync, S: Source, W: Sink>(
     requires source { S.failed source.old ≡ false }
     requires sink { W.failed sink.old ≡ false }
     ensures ran { RanFrom options.now AnswerForm.Report (S.remaining source.old)
+        (W.contents sink.old) (W.contents sink.new) result }
+    ensures sound { IsSoundRun AnswerForm.Report options.now.stats (S.remaining source.old)
         (W.contents sink.old) (W.contents sink.new) result }
     ensures taken { TakesAtMost ENOUGH (S.remaining source.old) (S.remaining source.new) }
     ensures source { S.failed source.new ≡ is_fault is_read result }

@@ -3,8 +3,8 @@ use Rattle.lincheck.proofs.each_explained.told_of.Goals as goal
 
 pub returns : goal.returns
 returns c = (
-  c.in_ok-told.told.items,
+  c.in_ok-told.told,
   c.in_ok-told.ensures,
-  told_behind c.args.history.now c.args.object c.args.lines.now c.object.result.name.now c.calls.result.now c.args.status c.as_slice.result.now c.in_ok-told.told.items _ _ _ (name_is c.args.history.now c.args.object _ c.object.ensures) (rw c.calls.ensures.calls c.requires.calls)
-      c.as_slice.ensures.value c.new-out.ensures.bytes c.in_ok-write_status.ensures c.in_ok-write_core.ensures,
+  told_behind c.args.history.now c.args.object c.args.lines.now c.object.result.name.now c.calls.result.now c.args.status c.in_ok-told.told _ _ _ (name_is c.args.history.now c.args.object _ c.object.ensures) (rw c.calls.ensures.calls c.requires.calls)
+      c.new-out.ensures.bytes c.in_ok-write_status.ensures c.in_ok-write_witness.ensures,
 )

@@ -4,7 +4,7 @@ use Rattle.lincheck.proofs.explanation_lines.no_in_time_explained.Goals as goal
 
 pub returns : goal.returns
 returns c = (
-  c.in_ok-core.core.items,
-  c.in_ok-core.ensures,
-  rw c.into_bytes.ensures.value (head_first c.args.history.now c.args.object c.args.lines.now c.as_slice.result.now c.in_ok-core.core.items not_found_line _ _ _ c.as_slice.ensures.value c.new-out.ensures.bytes c.in_ok-write_head.ensures c.in_ok-write_not_found.ensures),
+  c.in_ok-witness.witness,
+  c.in_ok-witness.ensures,
+  rw c.into_bytes.ensures.value (head_first c.args.history.now c.args.object c.args.lines.now c.in_ok-witness.witness not_found_line _ _ _ c.new-out.ensures.bytes c.in_ok-write_head.ensures c.in_ok-write_not_found.ensures),
 )

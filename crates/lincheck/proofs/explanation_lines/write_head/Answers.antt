@@ -4,5 +4,5 @@ use Rattle.lincheck.proofs.explanation_lines.write_head.Goals as goal
 
 pub returns : goal.returns
 returns c =
-    on_ok_weaker c.write_core.result (λ written. head_behind c.args.history.now c.args.object c.args.lines.now c.object.result.name.now c.args.calls.now c.args.core.now _ _ _ (name_is c.args.history.now c.args.object _ c.object.ensures) c.requires.calls c.in_ok-write_name.ensures written)
-    c.write_core.ensures
+    on_ok_weaker c.write_witness.result (λ written. head_behind c.args.history.now c.args.object c.args.lines.now c.object.result.name.now c.args.calls.now c.args.witness.now _ _ _ (name_is c.args.history.now c.args.object _ c.object.ensures) c.requires.calls c.in_ok-write_name.ensures written)
+    c.write_witness.ensures

@@ -1,6 +1,7 @@
 use Rattle.std.proofs.Common.{◌∙◌, sym}
 use Rattle.lincheck.specs.declared.fault.RunFault.TheVariants.{Memory}
 use Rattle.lincheck.proofs.PrintLemmas.{ran_ended, ran_nothing, no_read, is_written}
+use Rattle.lincheck.proofs.SoundLemmas.{sound_run}
 use Rattle.lincheck.proofs.pipeline.run_with.Goals as goal
 
 pub returns-in-Err-clause-ran : goal.returns-in-Err-clause-ran
@@ -21,3 +22,6 @@ returns-clause-source g c = rw c.ended.ensures (c.in-Ok.ensures.failed ∙ sym (
 
 pub returns-clause-sink : goal.returns-clause-sink
 returns-clause-sink g c = rw c.ended.ensures (rw c.requires.sink at c.write_answer-written.ensures.failed ∙ sym (is_written c.in-Ok-answer.status c.write_answer-written.result))
+
+pub returns-clause-sound : goal.returns-clause-sound
+returns-clause-sound g c = sound_run c.args.options.now c.args.form _ _ _ _ (returns-clause-ran g c)

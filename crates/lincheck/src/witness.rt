@@ -1,13 +1,13 @@
-//! The calls of a core of an object, as they are shown.
+//! What lets a reader see that an object has no order, as it is shown.
 
 ghost use Rattle.std.specs.Prelude.{◌≡◌, Some, map, option_map, slice_get, IfOk};
 ghost use Rattle.lin_history.specs.Recorder.Parts.{start_of, part_calls};
 ghost use Rattle.lin_history.specs.Problems.AnyProblem.{any_problem};
-ghost use Rattle.lincheck.specs.Explained.{told_in, TellsCore};
+ghost use Rattle.lincheck.specs.Explained.{told_in, shown_of, IsWitness};
 
-use crate::object_core::core_of_object;
-use lin_core::Core;
-use lin_explain::CoreCall;
+use crate::object_fault::{ObjectFault, fault_of_object};
+use lin_core::{Core, SumFault};
+use lin_explain::{CoreCall, ShownSums, Witness};
 use lin_history::{History, Problem};
 use lin_object::AnyObject;
 use std::alloc::{AllocError, Global};
@@ -43,21 +43,41 @@ fn told_of(
     Ok(calls)
 }
 
-/// The calls of a core of the object of this index, of which the problem is the part of the history on it, where one is found; none
-/// where none is. `AllocError` where memory was refused.
-pub(crate) fn core_calls(
+// The get that this is about, as it is shown.
+fn shown(fault: &SumFault) -> ShownSums
+    ensures { result ≡ shown_of fault.now }
+{
+    ShownSums {
+        from: fault.from,
+        get: fault.get,
+        up: fault.up,
+        base: fault.base,
+        must: fault.must,
+        may: fault.may,
+        bound: fault.bound,
+    }
+}
+
+/// What lets a reader see that the object of this index has no order, of which the problem is the part of the history on it: the
+/// calls of a core, or a get for whose reply the adds leave no room; nothing where neither is found. `AllocError` where memory was
+/// refused.
+pub(crate) fn witness_of(
     alloc: Global,
     history: &History,
     object: usize,
     problem: &Problem<AnyObject>,
-) -> Result<Vec<CoreCall>, AllocError>
+) -> Result<Witness, AllocError>
     requires start { option_map start_of (slice_get history.now.objects object)
         ≡ Some problem.now.start }
     requires calls { problem.now.calls ≡ part_calls history.now object }
-    ensures { IfOk result (λ calls. TellsCore history.now object calls.items) }
+    ensures { IfOk result (λ witness. IsWitness history.now object witness) }
 {
-    match core_of_object(alloc, problem)? {
-        Some(core) => told_of(alloc, problem, &core, core.calls.as_slice()),
-        None => Ok(Vec::new(alloc)),
+    match fault_of_object(alloc, problem)? {
+        Some(ObjectFault::Core(core)) => {
+            let calls = told_of(alloc, problem, &core, core.calls.as_slice())?;
+            Ok(Witness::Core(calls))
+        }
+        Some(ObjectFault::Sums(fault)) => Ok(Witness::Sums(shown(&fault))),
+        None => Ok(Witness::Nothing),
     }
 }

@@ -1,0 +1,13 @@
+use Rattle.std.proofs.Common.{◌≡◌, ℕ, ◌<◌, ◌≤◌, Some, ◌⊎◌}
+use Rattle.std.specs.Prelude.{slice_get, slice_index}
+use Rattle.lin_object.specs.declared.op.Op.{Op}
+use Rattle.lin_object.specs.declared.reply.Reply.{Reply}
+use Rattle.lin_history.specs.declared.problems.problem.ProblemCall.{ProblemCall}
+use Rattle.lin_history.specs.Problems.Lists.{In}
+use Rattle.lin_history.specs.Problems.Precedence.{Before}
+use Rattle.lin_history.specs.Problems.AnyProblem.{any_problem}
+use Rattle.lin_core.specs.Laws.{IsIdle}
+use Rattle.lin_core.proofs.part_check.others_are_idle_since.Given as goal
+
+abbrev pub invariant-loop-c : goal.invariant-loop-c
+invariant-loop-c l = (k : ℕ) (x : ProblemCall Op Reply) → k < l.c → slice_get l.problem.calls k ≡ Some x → x.called ≤ l.event → In k l.kept ⊎ (IsIdle (any_problem l.problem) x ⊎ Before (any_problem l.problem) k (slice_index l.kept 0))

@@ -1,0 +1,9 @@
+use Rattle.std.proofs.Common.{◌≡◌, ◌+◌, ◌*◌, ◌^◌, ◌≤◌, drop}
+use Rattle.lin_core.specs.Sums.{must_come, sum_of}
+use Rattle.lin_core.proofs.sum_faults.Between.sum_that_must.Given as goal
+
+abbrev pub invariant-loop-call : goal.invariant-loop-call
+invariant-loop-call l = record {
+  rest : l.sum + sum_of (must_come l.self) l.up (drop l.call-index l.calls) ≡ sum_of (must_come l.self) l.up l.calls;
+  few : l.sum ≤ 2 ^ 63 * l.call-index;
+}

@@ -1,0 +1,3 @@
+pub mod Recording
+pub mod Semaphore
+pub mod SemaphoreLemmas
