@@ -1,4 +1,4 @@
--- The events of a problem with their numbers, call by call.
+-- The events of a problem with their numbers: the calls, and the returns.
 use Rattle.std.specs.Prelude.{ℕ, ◌+◌, Option, Some, None, List, [], ◌∷◌, ◌++◌}
 use Rattle.lin_history.specs.declared.problems.problem.ProblemCall.{ProblemCall}
 use Rattle.lin_history.specs.declared.problems.timeline.Timed.{Timed}
@@ -18,11 +18,12 @@ abbrev pub return_of : {Reply : Type 0} → ℕ → Option (ℕ × Reply) → Li
 return_of call None = []
 return_of call (Some r) = (record { number = r.0; event = Return call }) ∷ []
 
--- The events of this call.
-abbrev pub events_of_call : {Op Reply : Type 0} → ℕ → ProblemCall Op Reply → List Timed
-events_of_call call x = (record { number = x.called; event = Call call }) ∷ return_of call x.returned
+-- The call events of the calls, of which the first has this number.
+abbrev pub calls_from : {Op Reply : Type 0} → ℕ → List (ProblemCall Op Reply) → List Timed
+calls_from call [] = []
+calls_from call (x ∷ xs) = (record { number = x.called; event = Call call }) ∷ calls_from (call + 1) xs
 
--- The events of the calls, of which the first has this number.
-abbrev pub events_from : {Op Reply : Type 0} → ℕ → List (ProblemCall Op Reply) → List Timed
-events_from call [] = []
-events_from call (x ∷ xs) = events_of_call call x ++ events_from (call + 1) xs
+-- The return events of the calls, of which the first has this number.
+abbrev pub returns_from : {Op Reply : Type 0} → ℕ → List (ProblemCall Op Reply) → List Timed
+returns_from call [] = []
+returns_from call (x ∷ xs) = return_of call x.returned ++ returns_from (call + 1) xs

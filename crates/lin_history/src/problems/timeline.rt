@@ -4,7 +4,7 @@ ghost use Rattle.std.specs.Prelude.{◌≡◌, ◌++◌, map, IfOk, OnOk};
 ghost use Rattle.std.specs.List.Sorted.{IsPermutation, IsNonDecreasingBy};
 ghost use Rattle.lin_history.specs.Problems.Problem.{problem_of};
 ghost use Rattle.lin_history.specs.Problems.Timeline.{IsTimeline};
-ghost use Rattle.lin_history.specs.Problems.NumberedEvents.{number_at, event_at, events_of_call, events_from};
+ghost use Rattle.lin_history.specs.Problems.NumberedEvents.{number_at, event_at, return_of, calls_from, returns_from};
 
 use crate::problems::problem::{Problem, ProblemCall};
 use lin_object::SeqObject;
@@ -26,18 +26,29 @@ struct Timed {
     event: ProblemEvent,
 }
 
-// Appends the events of the call.
-fn add_events<P, R>(
+// The call events of the calls, which are in order already.
+fn call_events<P, R>(alloc: Global, calls: &[ProblemCall<P, R>]) -> Result<Vec<Timed>, AllocError>
+    ensures { IfOk result (λ timed. timed.items ≡ calls_from 0 calls.now) }
+{
+    let mut timed = Vec::with_capacity(alloc, calls.len())?;
+    for call in 0..calls.len() {
+        timed.push(Timed {
+            number: calls[call].called,
+            event: ProblemEvent::Call(call),
+        })?;
+    }
+    Ok(timed)
+}
+
+// Appends the return event of the call, if it has one.
+fn add_return<P, R>(
     timed: &mut Vec<Timed>,
     call: usize,
     made: &ProblemCall<P, R>,
 ) -> Result<(), AllocError>
-    ensures { OnOk result (timed.new.items ≡ timed.old.items ++ events_of_call call made.now) }
+    ensures { OnOk result (timed.new.items
+        ≡ timed.old.items ++ return_of call made.now.returned) }
 {
-    timed.push(Timed {
-        number: made.called,
-        event: ProblemEvent::Call(call),
-    })?;
     if let Some((number, _)) = &made.returned {
         timed.push(Timed {
             number: *number,
@@ -47,21 +58,17 @@ fn add_events<P, R>(
     Ok(())
 }
 
-// The events of the calls, call by call.
-fn events_by_call<P, R>(
-    alloc: Global,
-    calls: &[ProblemCall<P, R>],
-) -> Result<Vec<Timed>, AllocError>
-    ensures { IfOk result (λ timed. timed.items ≡ events_from 0 calls.now) }
+// Appends the return events of the calls, call by call.
+fn add_returns<P, R>(timed: &mut Vec<Timed>, calls: &[ProblemCall<P, R>]) -> Result<(), AllocError>
+    ensures { OnOk result (timed.new.items ≡ timed.old.items ++ returns_from 0 calls.now) }
 {
-    let mut timed = Vec::with_capacity(alloc, calls.len())?;
     for call in 0..calls.len() {
-        add_events(&mut timed, call, &calls[call])?;
+        add_return(timed, call, &calls[call])?;
     }
-    Ok(timed)
+    Ok(())
 }
 
-// Orders the events by their numbers.
+// Orders the events by their numbers. The sort takes the calls, which come first and are in order, as one run.
 fn sort_by_number(timed: &mut Vec<Timed>) -> Result<(), AllocError>
     ensures sorted { OnOk result (IsNonDecreasingBy number_at timed.new.items) }
     ensures permutation { IsPermutation timed.old.items timed.new.items }
@@ -78,13 +85,15 @@ fn without_numbers(alloc: Global, timed: &[Timed]) -> Result<Vec<ProblemEvent>, 
 }
 
 impl<O: SeqObject> Problem<O> {
-    /// The call and return events in the order of their numbers. It sorts them: for n events it takes
-    /// O(n log n). `AllocError` where memory was refused.
+    /// The call and return events in the order of their numbers. It sorts the returns and merges them with the calls, which are in
+    /// order: for n events it takes O(n log n). `AllocError` where memory was refused.
     pub fn timeline(&self, alloc: Global) -> Result<Vec<ProblemEvent>, AllocError>
         ensures { IfOk result (λ events. IsTimeline
             (problem_of O.after O.State.eq O.Reply.eq self.now) events.items) }
     {
-        let mut timed = events_by_call(alloc, self.calls())?;
+        let calls = self.calls();
+        let mut timed = call_events(alloc, calls)?;
+        add_returns(&mut timed, calls)?;
         sort_by_number(&mut timed)?;
         without_numbers(alloc, timed.as_slice())
     }
