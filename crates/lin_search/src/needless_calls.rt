@@ -110,8 +110,8 @@ pub fn ends_the_list<O: SeqObject>(problem: &Problem<O>, call: usize) -> bool
     problem.object().changes_nothing(&taken.op, &taken.returned)
 }
 
-// So many calls are looked at for one that is identical to a call.
-const WINDOW: usize = 32;
+// So many calls at most are kept in sight, to find one that is identical to a call: most are called by then.
+const IN_SIGHT: usize = 32;
 
 // Whether the call had not returned yet when this event came.
 fn is_open_at<P, R>(call: &ProblemCall<P, R>, event: u32) -> bool {
@@ -121,37 +121,46 @@ fn is_open_at<P, R>(call: &ProblemCall<P, R>, event: u32) -> bool {
     }
 }
 
-// The latest of the last 32 of these calls that overlaps the call and that the call repeats, or else the call itself.
-fn latest_repeated<O: SeqObject>(problem: &Problem<O>, calls: &[usize], call: usize) -> usize
+// Leaves those calls in sight that had not returned yet when this event came.
+fn keep_open<O: SeqObject>(problem: &Problem<O>, in_sight: &mut Vec<usize>, event: u32) {
+    let calls = problem.calls();
+    in_sight.retain(|call| match calls.get(*call) {
+        Some(made) => is_open_at(made, event),
+        None => false,
+    });
+}
+
+// Puts the call behind those in sight. Where they are as many as may be, the first of them goes.
+fn bring_in_sight(in_sight: &mut Vec<usize>, call: usize) -> Result<(), AllocError> {
+    if in_sight.len() >= IN_SIGHT {
+        in_sight.remove(0);
+    }
+    in_sight.push(call)?;
+    Ok(())
+}
+
+// The latest of the calls in sight that the call repeats, or else the call itself.
+fn latest_repeated<O: SeqObject>(problem: &Problem<O>, in_sight: &[usize], call: usize) -> usize
     requires { call < length problem.now.calls }
 {
-    let called = problem.call(call).called;
-    for earlier in calls.iter().rev().take(WINDOW) {
-        if *earlier < call
-            && is_open_at(problem.call(*earlier), called)
-            && repeats(problem, *earlier, call)
-        {
+    for earlier in in_sight.iter().rev() {
+        if *earlier < call && repeats(problem, *earlier, call) {
             return *earlier;
         }
     }
     call
 }
 
-// The latest of the last 32 of these calls that overlaps the call and may stand for it where it can follow, or else the call
-// itself.
+// The latest of the calls in sight that may stand for the call where it can follow, or else the call itself.
 fn latest_of_one_operation<O: SeqObject>(
     problem: &Problem<O>,
-    calls: &[usize],
+    in_sight: &[usize],
     call: usize,
 ) -> usize
     requires { call < length problem.now.calls }
 {
-    let called = problem.call(call).called;
-    for earlier in calls.iter().rev().take(WINDOW) {
-        if *earlier < call
-            && is_open_at(problem.call(*earlier), called)
-            && adds_nothing(problem, *earlier, call)
-        {
+    for earlier in in_sight.iter().rev() {
+        if *earlier < call && adds_nothing(problem, *earlier, call) {
             return *earlier;
         }
     }
@@ -176,8 +185,9 @@ impl IdenticalCalls {
         }
     }
 
-    /// For each call of the problem one that it repeats, of the 32 before it that are completed or pending as it is; and for
-    /// each pending call a completed one of its operation, of the 32 before it. `AllocError` where memory was refused.
+    /// For each call of the problem the latest one that it repeats, of those open when it was called that are completed or pending as
+    /// it is; and for each pending call the latest completed one of its operation. Of more than 32 open at once the last 32 are
+    /// looked at. `AllocError` where memory was refused.
     pub fn of<O: SeqObject>(
         alloc: Global,
         problem: &Problem<O>,
@@ -186,19 +196,19 @@ impl IdenticalCalls {
         let mut completed = Vec::new(alloc);
         let mut pending = Vec::new(alloc);
         for call in 0..problem.len() {
-            if problem.call(call).returned.is_some() {
-                completed.push(call)?;
-                identical
-                    .repeated
-                    .push(latest_repeated(problem, completed.as_slice(), call))?;
+            let made = problem.call(call);
+            keep_open(problem, &mut completed, made.called);
+            if made.returned.is_some() {
+                let earlier = latest_repeated(problem, completed.as_slice(), call);
+                identical.repeated.push(earlier)?;
                 identical.completed.push(call)?;
+                bring_in_sight(&mut completed, call)?;
             } else {
-                pending.push(call)?;
-                identical
-                    .repeated
-                    .push(latest_repeated(problem, pending.as_slice(), call))?;
+                let earlier = latest_repeated(problem, pending.as_slice(), call);
+                identical.repeated.push(earlier)?;
                 let earlier = latest_of_one_operation(problem, completed.as_slice(), call);
                 identical.completed.push(earlier)?;
+                bring_in_sight(&mut pending, call)?;
             }
         }
         Ok(identical)
