@@ -18,7 +18,7 @@ struct Row {
 }
 
 /// The calls on one value.
-#[derive(Debug, Drop)]
+#[derive(Drop)]
 pub(crate) struct ValueCalls {
     /// The value.
     pub(crate) value: i64,
@@ -50,7 +50,7 @@ impl ValueCalls {
 }
 
 /// The calls of a problem by the values that they are on.
-#[derive(Debug, Drop)]
+#[derive(Drop)]
 pub(crate) struct CallIndex {
     /// The key whose values these are, where those of one key are looked at.
     pub(crate) key: Option<MapKey>,

@@ -11,7 +11,7 @@ use lin_history::ProblemCall;
 use lin_object::{AnyObject, Op, Reply, SeqObject};
 
 /// On which values a call is.
-#[derive(Clone, Copy, PartialEq, Eq, Debug)]
+#[derive(Clone, Copy)]
 pub(crate) enum Place {
     /// On this one.
     At(i64),

@@ -10,7 +10,7 @@ use std::alloc::{AllocError, Global};
 pub(crate) const NEVER: u32 = u32::MAX;
 
 /// When an item was put and taken.
-#[derive(Clone, Copy, PartialEq, Eq, Debug)]
+#[derive(Clone, Copy)]
 pub(crate) struct ItemTimes {
     pub(crate) item: i64,
     /// How many calls put it.

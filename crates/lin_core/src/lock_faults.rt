@@ -13,7 +13,7 @@ use lin_object::{AnyObject, Op};
 use std::alloc::{AllocError, Global};
 
 /// Two calls that took the mutex, each by its number.
-#[derive(Clone, Copy, PartialEq, Eq, Debug)]
+#[derive(Clone, Copy)]
 pub(crate) struct TwoHolders {
     pub(crate) first: usize,
     pub(crate) second: usize,

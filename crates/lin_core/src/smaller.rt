@@ -22,7 +22,7 @@ const HALVINGS: usize = 32;
 const MOST_FRONTS: usize = 256;
 
 // What is left out of a selection.
-#[derive(Clone, Copy, PartialEq, Eq, Debug)]
+#[derive(Clone, Copy)]
 enum Way {
     // Values, with the calls on them.
     Values,
@@ -33,7 +33,7 @@ enum Way {
 }
 
 // What becomes of a call of a selection whose values become fewer.
-#[derive(Clone, Copy, PartialEq, Eq, Debug)]
+#[derive(Clone, Copy)]
 enum Fate {
     Stays,
     Goes,

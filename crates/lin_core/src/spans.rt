@@ -3,7 +3,7 @@
 use std::alloc::{AllocError, Global};
 
 /// A span from one event to another, in which this was there.
-#[derive(Clone, Copy, PartialEq, Eq, Debug)]
+#[derive(Clone, Copy)]
 pub(crate) struct Span {
     pub(crate) from: u32,
     pub(crate) until: u32,

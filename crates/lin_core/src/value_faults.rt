@@ -10,7 +10,7 @@ use lin_object::{AnyObject, Op, Reply};
 use std::alloc::{AllocError, Global};
 
 // When a value was written and found.
-#[derive(Clone, Copy, PartialEq, Eq, Debug)]
+#[derive(Clone, Copy)]
 struct ValueTimes {
     value: i64,
     // How many calls wrote it; that it is there at the start counts as one.

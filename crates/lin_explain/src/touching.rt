@@ -9,7 +9,7 @@ use lin_object::{Items, ObjState, Op, Pairs, Reply};
 use std::alloc::{AllocError, Global};
 
 /// What a call asks for, by its operation and its recorded reply.
-#[derive(Clone, Copy, PartialEq, Eq, Debug)]
+#[derive(Clone, Copy)]
 pub(crate) enum Asked {
     /// An item of a queue or a stack.
     Item(i64),
@@ -22,7 +22,7 @@ pub(crate) enum Asked {
 }
 
 /// What a call did with what another one asks for.
-#[derive(Clone, Copy, PartialEq, Eq, Debug)]
+#[derive(Clone, Copy)]
 pub(crate) enum Touch {
     /// It put it there.
     Put,
@@ -31,7 +31,7 @@ pub(crate) enum Touch {
 }
 
 /// A call that put or took what another one asks for.
-#[derive(Clone, Copy, PartialEq, Eq, Debug)]
+#[derive(Clone, Copy)]
 pub(crate) struct Touching {
     /// Its number.
     pub call: usize,

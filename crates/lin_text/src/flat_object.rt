@@ -5,6 +5,7 @@ ghost use Rattle.json.specs.Json.{value, items, members};
 ghost use Rattle.serde_json.specs.Data.{no_members, float};
 ghost use Rattle.serde_json.specs.Find.{of_integer, as_str, get_member};
 ghost use Rattle.serde_json.specs.Read.{read, number_of, number_from, of_json, of_items, of_members, converted};
+ghost use Rattle.std.specs.Str.{bytes_eq};
 ghost use Rattle.lin_text.specs.Fields.{whole, reply_of, arguments_of};
 ghost use Rattle.lin_text.specs.WholeNumbers.{items_of};
 ghost use Rattle.lin_text.specs.FlatObject.{value_of, members_with, object_of};
@@ -18,7 +19,7 @@ use std::alloc::{AllocError, Global};
 
 /// The value of a member that is flat: no object, no array but one of whole numbers of 64 bits, and no
 /// whole number beyond them.
-#[derive(Debug, Drop)]
+#[derive(Drop)]
 pub(crate) enum Field<'l> {
     /// `null`.
     Null,
@@ -35,14 +36,14 @@ pub(crate) enum Field<'l> {
 }
 
 /// A member of an object: its key, and its value.
-#[derive(Debug, Drop)]
+#[derive(Drop)]
 pub(crate) struct Member<'l> {
     pub(crate) key: &'l str,
     pub(crate) field: Field<'l>,
 }
 
 /// A JSON object whose members are flat, in the order in which they stand in its line.
-#[derive(Debug, Drop)]
+#[derive(Drop)]
 pub(crate) struct FlatObject<'l> {
     pub(crate) members: Vec<Member<'l>>,
 }
@@ -251,6 +252,13 @@ fn members_of<'l>(
     }
 }
 
+// Whether the member has this key. Most keys differ in their lengths, which take one comparison.
+fn has_key(member: &Member<'_>, key: &str) -> bool
+    ensures { result ≡ bytes_eq member.now.key.now key.now }
+{
+    member.key.len() == key.len() && member.key == key
+}
+
 impl<'l> FlatObject<'l> {
     /// The object that a text is, as the JSON reader of values reads it, where it is one and its
     /// members are flat. Where it is not, or is no JSON, `None`, and nothing is said of the text.
@@ -286,7 +294,7 @@ impl<'l> FlatObject<'l> {
         while left > 0 {
             left -= 1;
             let member = &members[left];
-            if member.key == key {
+            if has_key(member, key) {
                 return Some(&member.field);
             }
         }

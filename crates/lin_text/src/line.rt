@@ -3,7 +3,7 @@
 use lin_object::{Kind, Op, Reply};
 
 /// Which format a text has. Its first line that is not skipped shows.
-#[derive(Clone, Copy, PartialEq, Eq, Debug)]
+#[derive(Clone, Copy)]
 pub(crate) enum Format {
     /// No line has told yet.
     Unstated,
@@ -14,7 +14,7 @@ pub(crate) enum Format {
 }
 
 /// Which kind of event a line is, or that it is the header.
-#[derive(Clone, Copy, PartialEq, Eq, Debug)]
+#[derive(Clone, Copy)]
 pub(crate) enum EventKind {
     Header,
     Declaration,
@@ -25,7 +25,7 @@ pub(crate) enum EventKind {
 }
 
 /// An event as it is in a line, or the header.
-#[derive(Clone, Copy, Debug)]
+#[derive(Clone, Copy)]
 pub(crate) enum Line<'v> {
     Header,
     Declare(&'v str, Kind, i64),

@@ -118,7 +118,7 @@ impl<'a, W: Watcher> Bounds<'a, W> {
 }
 
 /// Why a search ended without an answer.
-#[derive(Clone, Copy, PartialEq, Eq, Debug)]
+#[derive(Clone, Copy)]
 pub(crate) enum Unfinished {
     /// Memory was refused.
     Memory,

@@ -11,6 +11,7 @@ ghost use Rattle.lin_history.specs.Verifier.Flags.{AreKnown};
 ghost use Rattle.lincheck.specs.Verdict.{IsOf, report_of};
 
 use crate::verdict::Verdict;
+use itoa::Buffer;
 use lin_history::{History, Placed};
 use lin_object::Reply;
 use std::alloc::{AllocError, Global};
@@ -24,6 +25,14 @@ fn mark_of(returned: &Option<(u32, Reply)>) -> &'static str
     ensures { result.now ≡ mark_of returned.now }
 {
     if returned.is_some() { "" } else { " completed" }
+}
+
+// Appends a whole number.
+fn write_number(out: &mut String, number: usize) -> Result<(), AllocError>
+    ensures { OnOk result (string_bytes out.new ≡ string_bytes out.old ++ decimal number) }
+{
+    let mut buffer = Buffer::new();
+    out.push_str(buffer.format(number))
 }
 
 // Appends the line of a call that is in an order at this place.
@@ -40,12 +49,16 @@ fn write_call(
 {
     let call = history.call(placed.call);
     let object = history.object(call.object);
-    let mark = mark_of(&call.returned);
-    let process = call.process;
-    let name = object.name;
     let op = call.op;
     let reply = placed.reply;
-    write!(out, "{place} {process} {name} {op} = {reply}{mark}\n")
+    write_number(out, place)?;
+    out.push_str(" ")?;
+    write_number(out, call.process as usize)?;
+    out.push_str(" ")?;
+    out.push_str(object.name)?;
+    write!(out, " {op} = {reply}")?;
+    out.push_str(mark_of(&call.returned))?;
+    out.push_str("\n")
 }
 
 // Appends the line of a call that is not in the order.

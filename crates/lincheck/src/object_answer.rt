@@ -3,7 +3,7 @@
 use lin_history::Order;
 
 /// What is asked of an object.
-#[derive(Clone, Copy, PartialEq, Eq, Debug)]
+#[derive(Clone, Copy)]
 pub(crate) enum Question {
     /// Whether it has a linearization.
     Verdict,

@@ -11,7 +11,7 @@ use lin_object::{AnyObject, Op};
 use std::alloc::{AllocError, Global};
 
 /// What lets a reader see that an object has no order.
-#[derive(Debug, Drop)]
+#[derive(Drop)]
 pub(crate) enum ObjectFault {
     /// Some of its calls that alone have no order.
     Core(Core),
