@@ -25,7 +25,7 @@ pub record IsImage {State Op Reply : Type 0} (p q : Problem State Op Reply) (ima
   pub itself : (s : State) → p.same_state s s ≡ true
   pub alike : (s t : State) → p.same_state s t ≡ true → image s ≡ image t
 
-mapped : {A B : Type 0} (f : A → B) (o : Option A) (b : B) → option_map f o ≡ Some b → (a : A) × (o ≡ Some a) × (f a ≡ b)
+pub mapped : {A B : Type 0} (f : A → B) (o : Option A) (b : B) → option_map f o ≡ Some b → (a : A) × (o ≡ Some a) × (f a ≡ b)
 mapped f None b e = absurd (cc)
 mapped {B = B} f (Some a) b e = (a, refl, (let g : ◌≡◌ {A = Option B} (Some (f a)) (Some b) = e in cc))
 

@@ -178,13 +178,15 @@ keeps_seen parts one unseen = record {
   unseen = λ v h. ap (is_seen parts) (ap (λ (b : Bool). if b then v else one) h) ∙ unseen;
 }
 
+-- the problem with this start and these calls
+pub renamed_parts : {Object : Type 0} (f : ℤ → ℤ) (parts : ProblemParts Object ObjState Op Reply) (start : ObjState) (calls : List (ProblemCall Op Reply)) → start ≡ parts.start → calls ≡ map (renamed_call f) parts.calls
+    → ◌≡◌ {A = ProblemParts Object ObjState Op Reply} (record { object = parts.object; start = start; calls = calls }) (renamed f parts)
+renamed_parts f parts start calls starts all i = record { object = parts.object; start = starts i; calls = all i }
+
 module _ {Object : Type 0} (parts other : ProblemParts Object ObjState Op Reply) (has : ℤ → Bool) (one : ℤ) (exact : (v : ℤ) → has v ≡ is_seen parts v) (unseen : is_seen parts one ≡ false) where
-  -- what was made anew, by the values that are known to be seen
-  pub is_made_one : other.object ≡ parts.object → other.start ≡ parts.start → other.calls ≡ map (renamed_call (name_of has one)) parts.calls → IsMadeOne parts other
-  is_made_one object start calls = (one, unseen, λ i. record { object = object i; start = start i; calls = all i })
-    where
-      all : other.calls ≡ map (renamed_call (name_of (is_seen parts) one)) parts.calls
-      all = calls ∙ (λ i. map (renamed_call (λ v. if exact v i then v else one)) parts.calls)
+  -- the problem under the names that go by what is known to be seen
+  pub is_made_one : other ≡ renamed (name_of has one) parts → IsMadeOne parts other
+  is_made_one is = (one, unseen, is ∙ (λ i. renamed (λ v. if exact v i then v else one) parts))
 
 -- a problem with one value for all that nobody saw has the same runs
 pub made_one_runs : {Object : Type 0} (parts other : ProblemParts Object ObjState Op Reply) → IsMadeOne parts other → HasRunsOf (any_problem parts) (any_problem other)

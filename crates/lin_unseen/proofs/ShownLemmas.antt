@@ -23,16 +23,6 @@ pub shown_all : (b : Bool) (xs : List (ProblemCall Op Reply)) (v : ℤ) → show
 shown_all b [] v = refl
 shown_all b (x ∷ xs) v = shown_all (shows x v || b) xs v ∙ turned (list_any (λ (y : ProblemCall Op Reply). shows y v) xs) (shows x v) b
 
--- lists of calls that agree at each index are the same
-pub mapped_by_index : {A B : Type 0} (f : A → B) (xs : List A) (ys : List B) → length ys ≡ length xs → ((k : ℕ) → k < length xs → slice_get ys k ≡ option_map f (slice_get xs k)) → ys ≡ map f xs
-mapped_by_index f [] [] e h = refl
-mapped_by_index {B = B} f (x ∷ xs) (y ∷ ys) e h =
-    let first : y ≡ f x = (let g : ◌≡◌ {A = Option B} (Some y) (Some (f x)) = h zero (omega arith) in cc) in
-    let rest : ys ≡ map f xs = mapped_by_index f xs ys (omega (arith, e)) (λ k less. h (suc k) (omega (arith, less))) in
-    cc
-mapped_by_index f [] (y ∷ ys) e h = absurd (omega (arith, e))
-mapped_by_index f (x ∷ xs) [] e h = absurd (omega (arith, e))
-
 drop_none : (xs : List (ProblemCall Op Reply)) (i : ℕ) → length xs ≤ i → drop i xs ≡ []
 drop_none [] zero h = refl
 drop_none [] (suc i) h = refl

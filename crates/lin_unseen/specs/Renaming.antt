@@ -1,5 +1,5 @@
 -- Values of a problem under other names (this project's own).
-use Rattle.std.specs.Prelude.{◌≡◌, ℕ, ℤ, Bool, true, false, ◌||◌, Option, Some, None, map}
+use Rattle.std.specs.Prelude.{◌≡◌, ◌≢◌, ℕ, ℤ, Bool, true, false, ◌||◌, Option, Some, None, List, [], map}
 use Rattle.std.specs.List.{list_any}
 use Rattle.std.specs.Ordering.{int_eq}
 use Rattle.lin_object.specs.Items.{is_in}
@@ -69,6 +69,35 @@ shows x v = returned_with x.returned v || compares_with x.op v
 -- The value is seen: the object starts with it, a call returned with it, or a cas compares with it.
 abbrev pub is_seen : {Object : Type 0} → ProblemParts Object ObjState Op Reply → ℤ → Bool
 is_seen p v = starts_with p.start v || list_any (λ (x : ProblemCall Op Reply). shows x v) p.calls
+
+-- The operation writes the value, or puts it in.
+abbrev pub writes : Op → ℤ → Bool
+writes (Write w) v = int_eq w v
+writes (Cas a w) v = int_eq w v
+writes (Enqueue w) v = int_eq w v
+writes (Push w) v = int_eq w v
+writes (Put k w) v = int_eq w v
+writes op v = false
+
+-- A call writes the value, or puts it in.
+abbrev pub is_written : List (ProblemCall Op Reply) → ℤ → Bool
+is_written calls v = list_any (λ (x : ProblemCall Op Reply). writes x.op v) calls
+
+-- A call writes the value, and nobody sees it.
+abbrev pub IsUnseen : {Object : Type 0} → ProblemParts Object ObjState Op Reply → ℤ → Type 0
+IsUnseen p v = (is_written p.calls v ≡ true) × (is_seen p v ≡ false)
+
+-- The object writes values, and starts with no items and no pairs: a register, an empty queue, an empty stack or an empty map.
+abbrev pub StartsPlain : ObjState → Type 0
+StartsPlain (Register v) = Unit {0}
+StartsPlain (Queue items) = items ≡ []
+StartsPlain (Stack items) = items ≡ []
+StartsPlain (Map pairs) = pairs ≡ []
+StartsPlain s = ⊥
+
+-- Two different values are written that nobody sees.
+abbrev pub HasTwoUnseen : {Object : Type 0} → ProblemParts Object ObjState Op Reply → Type 0
+HasTwoUnseen p = (v : ℤ) × (w : ℤ) × (v ≢ w) × IsUnseen p v × IsUnseen p w
 
 -- The renaming keeps each value that is seen, and gives every other one a name that is not seen.
 pub record KeepsSeen {Object : Type 0} (f : ℤ → ℤ) (p : ProblemParts Object ObjState Op Reply) : Type 0 where

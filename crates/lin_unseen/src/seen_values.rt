@@ -1,11 +1,11 @@
 //! Which values a problem shows, by one pass over its calls.
 
-ghost use Rattle.std.specs.Prelude.{◌≡◌, ◌||◌, ℤ, false, pos, IfOk, IfSome, IsTrue, OnOk};
+ghost use Rattle.std.specs.Prelude.{◌≡◌, ◌||◌, ◌↔◌, ℤ, pos, IfOk, IfSome, IsSome, IsTrue, OnOk};
 ghost use Rattle.std.specs.List.{list_any};
 ghost use Rattle.std.specs.Ordering.{int_eq};
 ghost use Rattle.indexmap.specs.IndexSet.{contains};
 ghost use Rattle.lin_object.specs.Kinds.{state_at_start};
-ghost use Rattle.lin_unseen.specs.Renaming.{starts_with, returned_with, compares_with, shows, is_seen};
+ghost use Rattle.lin_unseen.specs.Renaming.{starts_with, returned_with, compares_with, shows, is_seen, StartsPlain};
 ghost use Rattle.lin_unseen.specs.Values.{is_value};
 
 use indexmap::IndexSet;
@@ -66,30 +66,33 @@ fn add_calls(seen: &mut IndexSet<i64>, calls: &[ProblemCall<Op, Reply>]) -> Resu
 
 // Whether the state is the one in which an object of the kind starts.
 fn starts_as(alloc: Global, state: &ObjState, kind: Kind) -> bool
-    ensures { IsTrue result → state.now ≡ state_at_start kind (pos 0) }
+    ensures { IsTrue result ↔ state.now ≡ state_at_start kind (pos 0) }
 {
     *state == start_state(alloc, kind, 0)
 }
 
-// Whether the state is an empty queue, an empty stack or an empty map.
-fn is_empty(alloc: Global, state: &ObjState) -> bool
-    ensures { IsTrue result → (v : ℤ) → starts_with state.now v ≡ false }
+// Whether the object writes values, and starts with no items and no pairs.
+fn starts_plain(alloc: Global, state: &ObjState) -> bool
+    ensures { IsTrue result ↔ StartsPlain state.now }
 {
-    starts_as(alloc, state, Kind::Queue)
-        || starts_as(alloc, state, Kind::Stack)
-        || starts_as(alloc, state, Kind::Map)
+    match state {
+        ObjState::Register(_) => true,
+        ObjState::Queue(_) => starts_as(alloc, state, Kind::Queue),
+        ObjState::Stack(_) => starts_as(alloc, state, Kind::Stack),
+        ObjState::Map(_) => starts_as(alloc, state, Kind::Map),
+        ObjState::Counter(_) | ObjState::Set(_) | ObjState::Mutex(_) => false,
+    }
 }
 
-// Adds the values that the object starts with. `false` where these are items or pairs, and where its kind writes no values.
-fn add_start(alloc: Global, seen: &mut IndexSet<i64>, start: &ObjState) -> Result<bool, AllocError>
-    ensures { IfOk result (λ known. IsTrue known → (v : ℤ) → contains int_eq seen.new v
+// Adds the value that the object starts with, where it is a register.
+fn add_start(seen: &mut IndexSet<i64>, start: &ObjState) -> Result<(), AllocError>
+    ensures { OnOk result (StartsPlain start.now → (v : ℤ) → contains int_eq seen.new v
         ≡ starts_with start.now v || contains int_eq seen.old v) }
 {
     if let ObjState::Register(value) = start {
         seen.insert(*value)?;
-        return Ok(true);
     }
-    Ok(is_empty(alloc, start))
+    Ok(())
 }
 
 /// The values that the problem shows. `None` where it starts with items or pairs, and where its kind writes no values.
@@ -98,13 +101,15 @@ pub(crate) fn seen_values(
     alloc: Global,
     problem: &Problem<AnyObject>,
 ) -> Result<Option<IndexSet<i64>>, AllocError>
-    ensures { IfOk result (λ told. IfSome told (λ seen. (v : ℤ) → contains int_eq seen v
+    ensures when { IfOk result (λ told. IsSome told ↔ StartsPlain problem.now.start) }
+    ensures seen { IfOk result (λ told. IfSome told (λ seen. (v : ℤ) → contains int_eq seen v
         ≡ is_seen problem.now v)) }
 {
-    let mut seen = IndexSet::new(alloc);
-    if !add_start(alloc, &mut seen, problem.start())? {
+    if !starts_plain(alloc, problem.start()) {
         return Ok(None);
     }
+    let mut seen = IndexSet::new(alloc);
+    add_start(&mut seen, problem.start())?;
     add_calls(&mut seen, problem.calls())?;
     Ok(Some(seen))
 }

@@ -152,8 +152,9 @@ impl<O: SeqObject> Problem<O> {
     ghost use Rattle.lin_history.specs.Problems.ProblemParts.{ProblemParts, AreTimed, new_call_refusals, new_return_refusals, with_new_call, with_new_return};
 
     /// The problem of these calls. Condition: they are in the order of their call events, return after they
-    /// were called, no return event has the number of a call event, and there are no more than 16,384.
-    pub(crate) fn with_calls(
+    /// were called, no return event has the number of a call event, and there are no more than 16,384. So it
+    /// is with the calls of a problem (`calls`), with some of them, and with other operations in their places.
+    pub fn with_calls(
         object: O,
         start: O::State,
         calls: Vec<ProblemCall<O::Op, O::Reply>>,
