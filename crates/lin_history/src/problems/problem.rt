@@ -154,11 +154,7 @@ impl<O: SeqObject> Problem<O> {
     /// The problem of these calls. Condition: they are in the order of their call events, return after they
     /// were called, no return event has the number of a call event, and there are no more than 16,384. So it
     /// is with the calls of a problem (`calls`), with some of them, and with other operations in their places.
-    pub fn with_calls(
-        object: O,
-        start: O::State,
-        calls: Vec<ProblemCall<O::Op, O::Reply>>,
-    ) -> Self
+    pub fn with_calls(object: O, start: O::State, calls: Vec<ProblemCall<O::Op, O::Reply>>) -> Self
         requires timed { AreTimed calls.items }
         requires few { length calls.items ≤ MAX_CALLS_ON_OBJECT }
         ensures { result ≡ record { object = object; start = start; calls = calls.items } }
