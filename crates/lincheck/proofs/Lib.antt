@@ -4,6 +4,7 @@ pub mod JudgeLemmas
 pub mod StoredLemmas
 pub mod LimitLemmas
 pub mod PrintLemmas
+pub mod LineLemmas
 pub mod CommandLineLemmas
 pub mod CommandLineFacts
 pub mod RunsLemmas

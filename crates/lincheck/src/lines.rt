@@ -1,11 +1,11 @@
 //! The lines of an answer.
 
-ghost use Rattle.std.specs.Prelude.{◌≡◌, ℕ, ◌+◌, ◌<◌, ◌++◌, drop, length, slice_get, slice_index_or, vec_len, string_bytes, false, IfOk, OnOk, Some};
+ghost use Rattle.std.specs.Prelude.{◌≡◌, ℕ, ◌+◌, ◌<◌, ◌++◌, decimal, drop, length, slice_get, slice_index_or, vec_len, string_bytes, false, IfOk, OnOk, Some};
 ghost use Rattle.lin_object.specs.declared.op.Op.{Op};
 ghost use Rattle.lin_object.specs.declared.reply.Reply.{Reply};
 ghost use Rattle.lin_history.specs.Recorder.Events.{Call};
 ghost use Rattle.lin_history.specs.Recorder.RecordedHistory.{calls_on};
-ghost use Rattle.lincheck.specs.Report.{mark_of, call_line, call_lines, call_word, before_line, last_lines, dropped_line, dropped_lines, is_placed, name_line, length_line, yes_report, not_found_line, no_report, no_report_in_time, undecided_report, stored_line, with_stats};
+ghost use Rattle.lincheck.specs.Report.{answer_text, mark_of, call_line, call_lines, call_word, before_line, last_lines, dropped_line, dropped_lines, is_placed, name_line, length_line, yes_report, not_found_line, no_report, no_report_in_time, undecided_report, stored_line, with_stats};
 ghost use Rattle.lin_history.specs.Locality.RecordedWhole.{whole_of};
 ghost use Rattle.lin_history.specs.Verifier.Flags.{AreKnown};
 ghost use Rattle.lincheck.specs.Verdict.{IsOf, report_of};
@@ -13,7 +13,7 @@ ghost use Rattle.lincheck.specs.Verdict.{IsOf, report_of};
 use crate::verdict::Verdict;
 use itoa::Buffer;
 use lin_history::{History, Placed};
-use lin_object::Reply;
+use lin_object::{Op, Reply};
 use std::alloc::{AllocError, Global};
 
 /// The most calls of a longest run that are listed where it is told why it ends: that is in its last calls, and an answer should fit
@@ -27,12 +27,27 @@ fn mark_of(returned: &Option<(u32, Reply)>) -> &'static str
     if returned.is_some() { "" } else { " completed" }
 }
 
+// Appends a text.
+fn write_text(out: &mut String, text: &str) -> Result<(), AllocError>
+    ensures { OnOk result (string_bytes out.new ≡ string_bytes out.old ++ text.now) }
+{
+    out.push_str(text)
+}
+
 // Appends a whole number.
 fn write_number(out: &mut String, number: usize) -> Result<(), AllocError>
     ensures { OnOk result (string_bytes out.new ≡ string_bytes out.old ++ decimal number) }
 {
     let mut buffer = Buffer::new();
-    out.push_str(buffer.format(number))
+    write_text(out, buffer.format(number))
+}
+
+// Appends an operation and its reply.
+fn write_answer(out: &mut String, op: &Op, reply: &Reply) -> Result<(), AllocError>
+    ensures { OnOk result (string_bytes out.new
+        ≡ string_bytes out.old ++ answer_text op.now reply.now) }
+{
+    write!(out, " {op} = {reply}")
 }
 
 // Appends the line of a call that is in an order at this place.
@@ -49,16 +64,14 @@ fn write_call(
 {
     let call = history.call(placed.call);
     let object = history.object(call.object);
-    let op = call.op;
-    let reply = placed.reply;
     write_number(out, place)?;
-    out.push_str(" ")?;
+    write_text(out, " ")?;
     write_number(out, call.process as usize)?;
-    out.push_str(" ")?;
-    out.push_str(object.name)?;
-    write!(out, " {op} = {reply}")?;
-    out.push_str(mark_of(&call.returned))?;
-    out.push_str("\n")
+    write_text(out, " ")?;
+    write_text(out, object.name)?;
+    write_answer(out, &call.op, &placed.reply)?;
+    write_text(out, mark_of(&call.returned))?;
+    write_text(out, "\n")
 }
 
 // Appends the line of a call that is not in the order.
