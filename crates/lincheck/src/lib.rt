@@ -15,6 +15,7 @@ mod listener;
 mod object_answer;
 mod object_check;
 mod object_fault;
+mod option_rows;
 mod pipeline;
 mod request;
 mod setting;

@@ -1,14 +1,16 @@
 //! What the words after the program's name ask for.
-ghost use Rattle.std.specs.Prelude.{◌≡◌, ◌≤◌, IfOk, codes, map, string_bytes};
+ghost use Rattle.std.specs.Prelude.{◌≡◌, ◌≤◌, ℕ, IfOk, IsTrue, codes, map, string_bytes};
+ghost use Rattle.std.specs.List.{list_all};
 ghost use Rattle.clap.specs.Words.{found_of, kind_of, rows_of};
-ghost use Rattle.lincheck.specs.CommandLine.{AreAsked, AreInRange, IsBareLine, IsCommandLine, IsFlagAsked, IsFlagOption, IsNumberOption};
+ghost use Rattle.lincheck.specs.CommandLine.{AreAsked, AreInRange, GivesUpTo, HasOptions, IsArgOf, IsBareLine, IsCommandLine, IsFlagAsked, IsNumberAsked, flag, is_small, numbered, option_of};
 ghost use Rattle.lincheck.specs.Request.{AnswersKind, IsAnswerTo, IsRequestOf};
 
 use crate::help;
+use crate::option_rows::{OPTION_ROWS, OptionRow};
 use clap::builder::ValueParser;
 use clap::error::ErrorKind;
 use clap::{Arg, ArgAction, ArgMatches, Command, Error, value_parser};
-use lin_workers::{MAX_LIMIT, MAX_SECONDS, MAX_SHARDS, MAX_WORKERS, Options};
+use lin_workers::{MAX_LIMIT, Options};
 use std::alloc::{AllocError, Global};
 
 /// How many workers search where no number is asked for.
@@ -47,7 +49,7 @@ fn from_one<'a>(greatest: u64) -> ValueParser<'a>
 // The option of this name, which takes a number from 1 to the greatest, which is at most `MAX_LIMIT`.
 fn number_option<'a>(alloc: Global, name: &'a str, greatest: u64, help: &'a str) -> Arg<'a>
     requires { greatest ≤ MAX_LIMIT }
-    ensures { IsNumberOption name.entry.now greatest result }
+    ensures { IsArgOf (numbered name.entry.now greatest) result }
 {
     Arg::new(alloc, name)
         .long(name)
@@ -58,7 +60,7 @@ fn number_option<'a>(alloc: Global, name: &'a str, greatest: u64, help: &'a str)
 
 // The option of this name, which is given or not.
 fn flag_option<'a>(alloc: Global, name: &'a str, help: &'a str) -> Arg<'a>
-    ensures { IsFlagOption name.entry.now result }
+    ensures { IsArgOf (flag name.entry.now) result }
 {
     Arg::new(alloc, name)
         .long(name)
@@ -78,19 +80,49 @@ fn bare_line<'a>(alloc: Global) -> Command<'a>
         .after_help(help::MANUAL)
 }
 
+// The argument of the option, whose number is at most `MAX_LIMIT`.
+fn argument<'a>(alloc: Global, row: &OptionRow) -> Arg<'a>
+    requires { IsTrue (is_small row.now.greatest) }
+    ensures { IsArgOf (option_of row.now) result }
+{
+    match row.greatest {
+        Some(greatest) => number_option(alloc, row.name, greatest, row.help),
+        None => flag_option(alloc, row.name, row.help),
+    }
+}
+
+// A command line with these options, whose numbers are at most `MAX_LIMIT`.
+fn line_with<'a>(alloc: Global, rows: &[OptionRow]) -> Result<Command<'a>, AllocError>
+    requires { IsTrue (list_all (λ row. is_small row.greatest) rows.now) }
+    ensures { IfOk result (HasOptions (map option_of rows.now)) }
+{
+    let mut line = bare_line(alloc);
+    for row in rows {
+        line = line.arg(argument(alloc, row))?;
+    }
+    Ok(line)
+}
+
 // The command line of the program.
 fn command_line<'a>(alloc: Global) -> Result<Command<'a>, AllocError>
     ensures { IfOk result IsCommandLine }
 {
-    bare_line(alloc)
-        .arg(number_option(alloc, "workers", MAX_WORKERS, help::WORKERS))?
-        .arg(number_option(alloc, "shards", MAX_SHARDS, help::SHARDS))?
-        .arg(number_option(alloc, "limit", MAX_LIMIT, help::LIMIT))?
-        .arg(flag_option(alloc, "stats", help::STATS))?
-        .arg(flag_option(alloc, "explain", help::EXPLAIN))?
-        .arg(flag_option(alloc, "each", help::EACH))?
-        .arg(number_option(alloc, "seconds", MAX_SECONDS, help::SECONDS))?
-        .arg(flag_option(alloc, "progress", help::PROGRESS))
+    line_with(alloc, OPTION_ROWS)
+}
+
+// The number that was given for the option of this name.
+fn number_asked(matches: &ArgMatches<'_>, name: &str) -> Option<u64>
+    ensures { (greatest : ℕ) → GivesUpTo (found_of matches.now) name.now greatest
+        → IsNumberAsked (rows_of (found_of matches.now)) name.now greatest result }
+{
+    matches.get_one(name)
+}
+
+// Whether the option of this name was asked for, which is given or not.
+fn is_asked(matches: &ArgMatches<'_>, name: &str) -> bool
+    ensures { IsFlagAsked (rows_of (found_of matches.now)) name.now result }
+{
+    matches.get_flag(name)
 }
 
 // The options that were asked for.
@@ -98,32 +130,17 @@ fn options_asked(matches: &ArgMatches<'_>) -> Options
     requires { AreInRange (found_of matches.now) }
     ensures { AreAsked (rows_of (found_of matches.now)) result }
 {
-    let workers = matches.get_one("workers").unwrap_or(DEFAULT_WORKERS);
-    let shards = matches.get_one("shards").unwrap_or(DEFAULT_SHARDS);
-    let limit = matches.get_one("limit");
-    let seconds = matches.get_one("seconds");
-    let progress = matches.get_flag("progress");
-    let Ok(options) = Options::new(workers, shards, limit, matches.get_flag("stats")) else {
+    let workers = number_asked(matches, "workers").unwrap_or(DEFAULT_WORKERS);
+    let shards = number_asked(matches, "shards").unwrap_or(DEFAULT_SHARDS);
+    let limit = number_asked(matches, "limit");
+    let seconds = number_asked(matches, "seconds");
+    let Ok(options) = Options::new(workers, shards, limit, is_asked(matches, "stats")) else {
         unreachable!()
     };
     let Ok(timed) = options.with_seconds(seconds) else {
         unreachable!()
     };
-    timed.with_progress(progress)
-}
-
-// Whether an explanation was asked for.
-fn is_explain_asked(matches: &ArgMatches<'_>) -> bool
-    ensures { IsFlagAsked (rows_of (found_of matches.now)) (codes "explain") result }
-{
-    matches.get_flag("explain")
-}
-
-// Whether a line for each object was asked for.
-fn is_each_asked(matches: &ArgMatches<'_>) -> bool
-    ensures { IsFlagAsked (rows_of (found_of matches.now)) (codes "each") result }
-{
-    matches.get_flag("each")
+    timed.with_progress(is_asked(matches, "progress"))
 }
 
 // The request for a check with these options, with an explanation and a line for each object where that is asked for.
@@ -161,8 +178,8 @@ pub fn options_of(alloc: Global, words: &[String]) -> Result<Request, AllocError
     match command_line(alloc)?.try_get_matches_from(words) {
         Ok(matches) => Ok(request_of(
             options_asked(&matches),
-            is_explain_asked(&matches),
-            is_each_asked(&matches),
+            is_asked(&matches, "explain"),
+            is_asked(&matches, "each"),
         )),
         Err(error) => answer_to(alloc, &error),
     }

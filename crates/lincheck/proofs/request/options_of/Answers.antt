@@ -6,8 +6,8 @@ options_asked-requires c = in_range c.in_ok-command_line.field-0 c.in-Ok.matches
 
 pub returns-in-Ok : goal.returns-in-Ok
 returns-in-Ok c =
-    run_answers _ c.in_ok-command_line.field-0 c.in-Ok.matches c.options_asked.result c.is_explain_asked.result c.is_each_asked.result c.request_of.result c.in_ok-command_line.ensures c.in-Ok.ensures.matches
-    c.in-Ok.ensures.kinds c.options_asked.ensures c.is_explain_asked.ensures c.is_each_asked.ensures c.request_of.ensures
+    run_answers _ c.in_ok-command_line.field-0 c.in-Ok.matches c.options_asked.result c.is_asked.result c.is_asked-in-Ok.result c.request_of.result c.in_ok-command_line.ensures c.in-Ok.ensures.matches
+    c.in-Ok.ensures.kinds c.options_asked.ensures c.is_asked.ensures c.is_asked-in-Ok.ensures c.request_of.ensures
 
 pub returns-in-Err : goal.returns-in-Err
 returns-in-Err c =
