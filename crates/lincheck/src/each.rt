@@ -47,12 +47,12 @@ fn judge_each<R: AllocGlobal + Threads + Sync, G: Gate, W: Watcher>(
     ensures stored { IfOk result (λ checked. IsStoredTold history.now
         (length history.now.objects) checked.stored) }
 {
-    let problems = history.problems(setting.rt.alloc())?;
+    let lists = history.calls_by_object(setting.rt.alloc())?;
     let mut statuses = Vec::new(setting.rt.alloc());
     let mut stored = Some(0);
-    for object in 0..problems.len() {
-        let problem = &problems[object];
-        let (answer, more) = judge_object(setting, history, object, problem, Question::Verdict)?;
+    for object in 0..lists.len() {
+        let indices = lists[object].as_slice();
+        let (answer, more) = judge_object(setting, history, object, indices, Question::Verdict)?;
         stored = with_more(stored, more);
         statuses.push(status_by(&answer))?;
     }

@@ -1,6 +1,7 @@
 //! A line for each object of a history, behind that of one that is not linearizable with what lets a reader see that.
 
 ghost use Rattle.std.specs.Prelude.{◌≡◌, ◌++◌, ◌<◌, ℕ, List, Some, length, option_map, slice_get, string_bytes, IfOk, OnOk};
+ghost use Rattle.lin_history.specs.Locality.JoinedOrder.{indices_from};
 ghost use Rattle.lin_history.specs.Recorder.Parts.{start_of, part_calls};
 ghost use Rattle.lin_explain.specs.declared.witness_text.Witness.{Witness as Told};
 ghost use Rattle.lincheck.specs.Each.{told_text, AreStatusLines, AreToldFrom, IsToldBehind};
@@ -34,23 +35,22 @@ fn told_behind(
     }
 }
 
-// The line of the object of this index, with what is told behind it.
+// The line of the object of this index, whose calls have these indices, with what is told behind it.
 fn told_of(
     alloc: Global,
     history: &History,
     object: usize,
-    problem: &Problem<AnyObject>,
+    indices: &[usize],
     status: Status,
     lines: &[u64],
 ) -> Result<String, AllocError>
     requires declared { object < length history.now.objects }
-    requires start { option_map start_of (slice_get history.now.objects object)
-        ≡ Some problem.now.start }
-    requires calls { problem.now.calls ≡ part_calls history.now object }
+    requires indices { indices.now ≡ indices_from object 0 history.now.calls }
     ensures { IfOk result (λ text. (told : Told) × IsToldBehind history.now object status told
         × (string_bytes text ≡ told_text history.now lines.now object status told)) }
 {
-    let told = told_behind(alloc, history, object, problem, status)?;
+    let problem = history.part(alloc, object, indices)?;
+    let told = told_behind(alloc, history, object, &problem, status)?;
     let mut out = String::new(alloc);
     write_status(&mut out, history, object, status)?;
     let name = history.object(object).name;
@@ -63,21 +63,20 @@ fn write_told(
     alloc: Global,
     out: &mut String,
     history: &History,
-    problems: &[Problem<AnyObject>],
+    lists: &[Vec<usize>],
     statuses: &[Status],
     lines: &[u64],
 ) -> Result<(), AllocError>
     requires statuses { length statuses.now ≡ length history.now.objects }
-    requires problems { length problems.now ≡ length history.now.objects }
-    requires starts { (object : ℕ) (problem : _) → slice_get problems.now object ≡ Some problem
-        → option_map start_of (slice_get history.now.objects object) ≡ Some problem.start }
-    requires calls { (object : ℕ) (problem : _) → slice_get problems.now object ≡ Some problem
-        → problem.calls ≡ part_calls history.now object }
+    requires lists { length lists.now ≡ length history.now.objects }
+    requires each { (object : ℕ) (v : _) → slice_get lists.now object ≡ Some v
+        → v.items ≡ indices_from object 0 history.now.calls }
     ensures { OnOk result ((all : List ℕ) × AreToldFrom history.now lines.now 0 statuses.now all
         × (string_bytes out.new ≡ string_bytes out.old ++ all)) }
 {
     for (object, status) in statuses.iter().enumerate() {
-        let told = told_of(alloc, history, object, &problems[object], *status, lines)?;
+        let indices = lists[object].as_slice();
+        let told = told_of(alloc, history, object, indices, *status, lines)?;
         out.push_str(told.as_str())?;
     }
     Ok(())
@@ -93,16 +92,9 @@ fn report_told(
     requires { length statuses.now ≡ length history.now.objects }
     ensures { IfOk result (λ text. AreToldFrom history.now lines.now 0 statuses.now text.items) }
 {
-    let problems = history.problems(alloc)?;
+    let lists = history.calls_by_object(alloc)?;
     let mut out = String::new(alloc);
-    write_told(
-        alloc,
-        &mut out,
-        history,
-        problems.as_slice(),
-        statuses,
-        lines,
-    )?;
+    write_told(alloc, &mut out, history, lists.as_slice(), statuses, lines)?;
     Ok(out.into_bytes())
 }
 

@@ -2,10 +2,10 @@
 
 ghost use Rattle.std.specs.Prelude.{◌≡◌, ◌+◌, ◌^◌, ◌<◌, ◌≤◌, ℕ, List, Some, length, option_map, slice_get, IfOk, IfSome, IsSome, IsSomeAnd};
 ghost use Rattle.std.specs.ControlFlow.{ForBreak, ForContinue};
+ghost use Rattle.lin_history.specs.Locality.JoinedOrder.{indices_from};
 ghost use Rattle.lin_history.specs.Locality.RecordedWhole.{part_of};
 ghost use Rattle.lin_history.specs.Problems.Linearizations.{IsLinearization};
 ghost use Rattle.lin_history.specs.Problems.Lists.{IsLeast};
-ghost use Rattle.lin_history.specs.Recorder.Parts.{start_of, part_calls};
 ghost use Rattle.lin_workers.specs.Bounds.{Bounds as BoundsOf};
 ghost use Rattle.lin_workers.specs.Options.{bounds_of};
 ghost use Rattle.lin_workers.specs.Verdict.{IsNumberStored};
@@ -19,8 +19,7 @@ use crate::object_answer::{ObjectAnswer, Question};
 use crate::object_check::answer_object;
 use crate::setting::Setting;
 use crate::verdict::{Checked, Verdict};
-use lin_history::{History, Order, Problem, join, place};
-use lin_object::AnyObject;
+use lin_history::{History, Order, join, place};
 use lin_workers::{Bounds, CheckFault, Gate, Options, Watcher};
 use std::alloc::{AllocError, Global};
 use std::ops::ControlFlow;
@@ -28,24 +27,25 @@ use std::thread;
 use std::thread::Threads;
 use std::time::Clock;
 
-// The answer for the object of this index, where the part of the history on it is known; and how many configurations were stored.
+// The answer for the object of this index, whose calls have these indices; and how many configurations were stored. The part of
+// the history on it is made here, so that no other object's takes memory while it is searched.
 pub(crate) fn judge_object<R: AllocGlobal + Threads + Sync, G: Gate, W: Watcher>(
     setting: &Setting<'_, '_, R, G, W>,
     history: &History,
     object: usize,
-    problem: &Problem<AnyObject>,
+    indices: &[usize],
     question: Question,
 ) -> Result<(ObjectAnswer, Option<u64>), AllocError>
-    requires start { option_map start_of (slice_get history.now.objects object)
-        ≡ Some problem.now.start }
-    requires calls { problem.now.calls ≡ part_calls history.now object }
+    requires declared { object < length history.now.objects }
+    requires indices { indices.now ≡ indices_from object 0 history.now.calls }
     ensures answer { IfOk result (λ judged. IsObjectAnswer (part_of history.now object) question
         setting.now.bounds judged.0) }
     ensures stored { IfOk result (λ judged. IsSomeAnd judged.1
         (IsNumberStored (part_of history.now object))) }
 {
+    let problem = history.part(setting.rt.alloc(), object, indices)?;
     setting.bounds.watcher().begin(object, problem.len());
-    let (answer, stored) = answer_object(setting, problem, question)?;
+    let (answer, stored) = answer_object(setting, &problem, question)?;
     Ok((answer, Some(stored)))
 }
 
@@ -126,12 +126,12 @@ fn judge<R: AllocGlobal + Threads + Sync, G: Gate, W: Watcher>(
         (judged_of history.now checked.verdict) checked.stored) }
 {
     let alloc = setting.rt.alloc();
-    let problems = history.problems(alloc)?;
+    let lists = history.calls_by_object(alloc)?;
     let mut orders = Vec::new(alloc);
     let mut stored = Some(0);
-    for object in 0..problems.len() {
-        let problem = &problems[object];
-        let (answer, more) = judge_object(setting, history, object, problem, Question::LongestRun)?;
+    for object in 0..lists.len() {
+        let indices = lists[object].as_slice();
+        let (answer, more) = judge_object(setting, history, object, indices, Question::LongestRun)?;
         stored = with_more(stored, more);
         match order_or_end(alloc, history, object, answer)? {
             ControlFlow::Continue(order) => orders.push(order)?,

@@ -74,8 +74,3 @@ module _ {Op Reply : Type 0} (object : ℕ) where
 -- a part has as many calls as are on its object
 pub few_in_part : (object : ℕ) (calls : List (Call Op Reply)) → count_on object calls ≤ MAX_CALLS_ON_OBJECT → length (calls_of_part object calls) ≤ MAX_CALLS_ON_OBJECT
 few_in_part object calls few = let same = length-map (filter (is_on object) calls) problem_call in omega (arith, same, few)
-
-module _ {O : Type 0} where
-  -- each problem is the part of the history on the object of its index
-  abbrev pub ArePartsOf : RecordedHistory → List (ProblemParts O ObjState Op Reply) → Type 0
-  ArePartsOf h problems = (object : ℕ) (problem : ProblemParts O ObjState Op Reply) → slice_get problems object ≡ Some problem → (option_map start_of (slice_get h.objects object) ≡ Some problem.start) × (problem.calls ≡ part_calls h object)

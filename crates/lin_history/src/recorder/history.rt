@@ -228,22 +228,32 @@ impl History {
         problem_at(alloc, self, object, indices.as_slice())
     }
 
-    /// The parts of the history on all objects, in the order of declaration; it walks the calls once.
-    pub fn problems(&self, alloc: Global) -> Result<Vec<Problem<AnyObject>>, AllocError>
-        ensures count { IfOk result (λ problems. length problems.items ≡ length self.now.objects) }
-        ensures starts { IfOk result (λ problems. (object : ℕ) (problem : _)
-            → slice_get problems.items object ≡ Some problem
-            → option_map start_of (slice_get self.now.objects object) ≡ Some problem.start) }
-        ensures calls { IfOk result (λ problems. (object : ℕ) (problem : _)
-            → slice_get problems.items object ≡ Some problem
-            → problem.calls ≡ part_calls self.now object) }
+    /// For each object, in the order of declaration, the indices of its calls, by one walk over the calls. With them `part` makes
+    /// the parts one at a time, so that not all of them take memory at once. `AllocError` where memory was refused.
+    pub fn calls_by_object(&self, alloc: Global) -> Result<Vec<Vec<usize>>, AllocError>
+        ensures count { IfOk result (λ lists. length lists.items ≡ length self.now.objects) }
+        ensures each { IfOk result (λ lists. (object : ℕ) (v : _)
+            → slice_get lists.items object ≡ Some v
+            → v.items ≡ indices_from object 0 self.now.calls) }
     {
-        let lists = indices_of_all(alloc, self)?;
-        let mut problems = Vec::with_capacity(alloc, lists.len())?;
-        for object in 0..lists.len() {
-            let indices = lists[object].as_slice();
-            problems.push(problem_at(alloc, self, object, indices)?)?;
-        }
-        Ok(problems)
+        indices_of_all(alloc, self)
+    }
+
+    /// The part of the history on the object of this index, as `problem` gives it, where the indices of the object's calls are
+    /// known. Conditions: the index is below `object_count()`, and these are the indices of its calls (`calls_by_object`).
+    /// `AllocError` where memory was refused.
+    pub fn part(
+        &self,
+        alloc: Global,
+        object: usize,
+        indices: &[usize],
+    ) -> Result<Problem<AnyObject>, AllocError>
+        requires object { object < length self.now.objects }
+        requires indices { indices.now ≡ indices_from object 0 self.now.calls }
+        ensures start { IfOk result (λ problem. option_map start_of
+            (slice_get self.now.objects object) ≡ Some problem.start) }
+        ensures calls { IfOk result (λ problem. problem.calls ≡ part_calls self.now object) }
+    {
+        problem_at(alloc, self, object, indices)
     }
 }

@@ -17,10 +17,10 @@ loop-object-preserved g c = (
 
 pub returns-clause-statuses : goal.returns-clause-statuses
 returns-clause-statuses g c =
-    let all : c.loop-object.object ≡ length c.args.history.now.objects = omega (arith, c.loop-object-test.false, c.loop-object.auto.object-end, c.len-object-end.ensures, c.in_ok-problems.ensures.count) in
+    let all : c.loop-object.object ≡ length c.args.history.now.objects = omega (arith, c.loop-object-test.false, c.loop-object.auto.object-end, c.len-object-end.ensures, c.in_ok-lists.ensures.count) in
     subst (λ n. AreStatusesOf c.args.history.now c.args.setting.now.bounds n c.loop-object.statuses.items) all c.loop-object.invariant.0
 
 pub returns-clause-stored : goal.returns-clause-stored
 returns-clause-stored g c =
-    let all : c.loop-object.object ≡ length c.args.history.now.objects = omega (arith, c.loop-object-test.false, c.loop-object.auto.object-end, c.len-object-end.ensures, c.in_ok-problems.ensures.count) in
+    let all : c.loop-object.object ≡ length c.args.history.now.objects = omega (arith, c.loop-object-test.false, c.loop-object.auto.object-end, c.len-object-end.ensures, c.in_ok-lists.ensures.count) in
     subst (λ n. IsStoredTold c.args.history.now n c.loop-object.stored) all c.loop-object.invariant.2

@@ -29,10 +29,10 @@ join-requires-clause-each g c =
 
 pub returns-clause-stored : goal.returns-clause-stored
 returns-clause-stored g c =
-    let all : c.loop-object.object ≡ length c.args.history.now.objects = omega (arith, c.loop-object-test.false, c.loop-object.auto.object-end, c.len-object-end.ensures, c.in_ok-problems.ensures.count) in
+    let all : c.loop-object.object ≡ length c.args.history.now.objects = omega (arith, c.loop-object-test.false, c.loop-object.auto.object-end, c.len-object-end.ensures, c.in_ok-lists.ensures.count) in
     subst (λ n. IsStoredTold c.args.history.now n c.loop-object.stored) all c.loop-object.invariant.2
 
 pub returns-clause-verdict : goal.returns-clause-verdict
 returns-clause-verdict g c =
-    let all : c.loop-object.object ≡ length c.args.history.now.objects = omega (arith, c.loop-object-test.false, c.loop-object.auto.object-end, c.len-object-end.ensures, c.in_ok-problems.ensures.count) in
+    let all : c.loop-object.object ≡ length c.args.history.now.objects = omega (arith, c.loop-object-test.false, c.loop-object.auto.object-end, c.len-object-end.ensures, c.in_ok-lists.ensures.count) in
     verdict_yes c.args.history.now c.loop-object.orders.items c.loop-object.object c.in_ok-join.field-0 all c.loop-object.invariant.0 (rw c.as_slice.ensures.value at c.in_ok-join.ensures.joined) c.in_ok-join.ensures.whole c.args.setting.now.bounds
