@@ -9,3 +9,4 @@ pub mod NumberLemmas
 pub mod PlaceLemmas
 pub mod AnswerLemmas
 pub mod WholeLemmas
+pub mod SpentLemmas

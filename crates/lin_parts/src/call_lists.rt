@@ -2,7 +2,7 @@
 
 ghost use Rattle.std.specs.Prelude.{◌≡◌, ◌<◌, ◌≤◌, IfOk, IfSome, length, ℕ, true, false, slice_index_or};
 ghost use Rattle.lin_history.specs.Problems.Lists.{In};
-ghost use Rattle.lin_parts.specs.Parts.{IsFilled, named};
+ghost use Rattle.lin_parts.specs.Parts.{IsFilled, name, named};
 
 use std::alloc::{AllocError, Global};
 
@@ -53,4 +53,28 @@ pub fn with_names(
         names.push(*name)?;
     }
     Ok(Some(names))
+}
+
+// The number that the part's call has in the whole.
+fn name_of(kept: &[usize], call: usize) -> usize
+    requires { call < length kept.now }
+    ensures { result ≡ name kept.now call }
+{
+    kept[call]
+}
+
+/// The same where `kept` has the number of each of them.
+pub(crate) fn own_names(
+    alloc: Global,
+    kept: &[usize],
+    calls: &[usize],
+) -> Result<Vec<usize>, AllocError>
+    requires { (c : ℕ) → In c calls.now → c < length kept.now }
+    ensures { IfOk result (λ names. names.items ≡ named kept.now calls.now) }
+{
+    let mut names = Vec::with_capacity(alloc, calls.len())?;
+    for c in calls {
+        names.push(name_of(kept, *c))?;
+    }
+    Ok(names)
 }

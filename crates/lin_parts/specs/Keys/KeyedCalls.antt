@@ -6,7 +6,9 @@ use Rattle.lin_object.specs.declared.reply.Reply.{Reply}
 use Rattle.lin_object.specs.declared.state.ObjState.{ObjState}
 use Rattle.lin_object.specs.declared.state.ObjState.TheVariants.{Map, Set}
 use Rattle.lin_history.specs.declared.problems.problem.ProblemCall.{ProblemCall}
+use Rattle.lin_history.specs.Problems.Lists.{In}
 use Rattle.lin_history.specs.Problems.ProblemParts.{ProblemParts}
+use Rattle.lin_parts.specs.Parts.{IsRising}
 
 -- The state is an empty map or an empty set.
 abbrev pub StartsEmpty : ObjState → Type 0
@@ -21,6 +23,17 @@ IsOnKey (Set items) (Insert q) k = q ≡ k
 IsOnKey (Set items) (Remove q) k = q ≡ k
 IsOnKey (Set items) (Contains q) k = q ≡ k
 IsOnKey s op k = ⊥
+
+-- The problem goes by key: it starts with an empty map or an empty set, and each call is an operation of that kind.
+pub record GoesByKey {Object : Type 0} (parts : ProblemParts Object ObjState Op Reply) : Type 0 where
+  pub empty : StartsEmpty parts.start
+  pub keyed : (c : ℕ) (x : ProblemCall Op Reply) → slice_get parts.calls c ≡ Some x → (v : ℤ) × IsOnKey parts.start x.op v
+
+-- The list has the calls on the key or the item, in increasing order, and no other.
+pub record AreCallsOn {Object : Type 0} (parts : ProblemParts Object ObjState Op Reply) (v : ℤ) (kept : List ℕ) : Type 0 where
+  pub rises : IsRising kept
+  pub there : (c : ℕ) (x : ProblemCall Op Reply) → slice_get parts.calls c ≡ Some x → IsOnKey parts.start x.op v → In c kept
+  pub own : (c : ℕ) → In c kept → (x : ProblemCall Op Reply) × (slice_get parts.calls c ≡ Some x) × IsOnKey parts.start x.op v
 
 -- The problem starts with an empty map or an empty set, the keys are distinct, and each call has the number of its key.
 pub record AreKeyNumbers {Object : Type 0} (parts : ProblemParts Object ObjState Op Reply) (keys : List ℤ) (numbers : List ℕ) : Type 0 where

@@ -1,10 +1,10 @@
 //! Which key each call has. Keys are numbered from 0 in the order in which they come.
 
-ghost use Rattle.std.specs.Prelude.{◌≡◌, [], Some, IfOk, IfSome, IsTrue, OnOk, slice_get, pos};
+ghost use Rattle.std.specs.Prelude.{◌≡◌, ◌↔◌, ℤ, [], Some, IfNone, IfOk, IfSome, IsFalse, IsTrue, OnOk, slice_get, pos};
 ghost use Rattle.std.specs.Ordering.{int_eq};
 ghost use Rattle.indexmap.specs.IndexSet.{insert_key};
 ghost use Rattle.lin_object.specs.Kinds.{state_at_start};
-ghost use Rattle.lin_parts.specs.Keys.KeyedCalls.{AreKeyNumbers, IsOnKey, StartsEmpty};
+ghost use Rattle.lin_parts.specs.Keys.KeyedCalls.{AreKeyNumbers, GoesByKey, IsOnKey, StartsEmpty};
 
 use indexmap::IndexSet;
 use lin_history::Problem;
@@ -20,21 +20,22 @@ pub(crate) struct KeyNumbers {
 
 // Whether the state is the one in which an object of the kind starts.
 fn starts_as(alloc: Global, state: &ObjState, kind: Kind) -> bool
-    ensures { IsTrue result → state.now ≡ state_at_start kind (pos 0) }
+    ensures { IsTrue result ↔ state.now ≡ state_at_start kind (pos 0) }
 {
     *state == start_state(alloc, kind, 0)
 }
 
 // Whether the state is an empty map or an empty set.
 fn is_empty(alloc: Global, state: &ObjState) -> bool
-    ensures { IsTrue result → StartsEmpty state.now }
+    ensures { IsTrue result ↔ StartsEmpty state.now }
 {
     starts_as(alloc, state, Kind::Map) || starts_as(alloc, state, Kind::Set)
 }
 
 // The key or the item that the operation touches, where it is one of the state's kind, a map or a set.
 fn key_of(state: &ObjState, op: &Op) -> Option<i64>
-    ensures { IfSome result (IsOnKey state.now op.now) }
+    ensures on_key { IfSome result (IsOnKey state.now op.now) }
+    ensures none { IfNone result ((v : ℤ) → IsOnKey state.now op.now v → ⊥) }
 {
     match (state, op) {
         (ObjState::Map(_), Op::Put(key, _)) => Some(*key),
@@ -65,8 +66,9 @@ fn add_numbers(
     requires empty { StartsEmpty problem.now.start }
     requires keys { keys.old.keys ≡ [] }
     requires numbers { numbers.old.items ≡ [] }
-    ensures { IfOk result (λ all. IsTrue all
+    ensures keys { IfOk result (λ all. IsTrue all
         → AreKeyNumbers problem.now keys.new.keys numbers.new.items) }
+    ensures none { IfOk result (λ all. IsFalse all → GoesByKey problem.now → ⊥) }
 {
     for c in 0..problem.len() {
         let Some(key) = key_of(problem.start(), &problem.call(c).op) else {
@@ -84,8 +86,9 @@ pub(crate) fn key_numbers(
     alloc: Global,
     problem: &Problem<AnyObject>,
 ) -> Result<Option<KeyNumbers>, AllocError>
-    ensures { IfOk result (λ answer. IfSome answer (λ known.
+    ensures keys { IfOk result (λ answer. IfSome answer (λ known.
         AreKeyNumbers problem.now known.keys.keys known.numbers.items)) }
+    ensures none { IfOk result (λ answer. IfNone answer (GoesByKey problem.now → ⊥)) }
 {
     if !is_empty(alloc, problem.start()) {
         return Ok(None);

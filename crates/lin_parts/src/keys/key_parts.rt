@@ -1,9 +1,12 @@
-//! The problem of each key. Nothing is proved of how they are made: each is compared with the whole, call by call.
+//! The problem of some of a problem's calls, and whether a problem is that.
 
-ghost use Rattle.std.specs.Prelude.{◌≡◌, ◌<◌, ℕ, IsTrue, length, slice_get, slice_index};
+ghost use Rattle.std.specs.Prelude.{◌≡◌, ◌<◌, ℕ, IfOk, IsTrue, length, slice_get, slice_index};
+ghost use Rattle.lin_history.specs.Problems.AnyProblem.{any_problem};
+ghost use Rattle.lin_history.specs.Problems.Lists.{In};
+ghost use Rattle.lin_parts.specs.Keys.PartOrder.{AreSomeCalls};
+ghost use Rattle.lin_parts.specs.Parts.{ArePart};
 
-use crate::keys::calls_of_key::CallsOfKey;
-use lin_history::{Problem, ProblemCall, ProblemEvent, ProblemFault};
+use lin_history::{Problem, ProblemCall};
 use lin_object::{AnyObject, ObjState, Op, Reply, SeqObject};
 use std::alloc::{AllocError, Global};
 
@@ -54,86 +57,48 @@ pub fn is_part(problem: &Problem<AnyObject>, kept: &[usize], part: &Problem<AnyO
     true
 }
 
-// So many problems with no call, which start as the whole does.
-fn empty_parts(
+// The same call.
+fn copy_of(call: &ProblemCall<Op, Reply>) -> ProblemCall<Op, Reply>
+    ensures { result ≡ call.now }
+{
+    ProblemCall {
+        process: call.process,
+        op: call.op,
+        called: call.called,
+        returned: call.returned,
+    }
+}
+
+// The calls of these numbers.
+fn some_calls(
     alloc: Global,
     problem: &Problem<AnyObject>,
-    count: usize,
-) -> Result<Vec<Problem<AnyObject>>, AllocError> {
-    let mut parts = Vec::with_capacity(alloc, count)?;
-    for _ in 0..count {
-        let start = problem.object().copy_state(alloc, problem.start())?;
-        parts.push(Problem::new(alloc, AnyObject, start))?;
+    kept: &[usize],
+) -> Result<Vec<ProblemCall<Op, Reply>>, AllocError>
+    requires { (c : ℕ) → In c kept.now → c < length problem.now.calls }
+    ensures count { IfOk result (λ calls. length calls.items ≡ length kept.now) }
+    ensures same { IfOk result (λ calls. (i : ℕ) → i < length kept.now
+        → slice_get calls.items i ≡ slice_get problem.now.calls (slice_index kept.now i)) }
+{
+    let mut calls = Vec::with_capacity(alloc, kept.len())?;
+    for call in kept {
+        calls.push(copy_of(problem.call(*call)))?;
     }
-    Ok(parts)
+    Ok(calls)
 }
 
-// Adds the call to the part.
-fn add_call(
-    part: &mut Problem<AnyObject>,
-    call: &ProblemCall<Op, Reply>,
-) -> Result<(), AllocError> {
-    match part.add_call(call.process, call.op, call.called) {
-        Err(ProblemFault::OutOfMemory) => Err(AllocError),
-        Ok(()) => Ok(()),
-        Err(ProblemFault::Late | ProblemFault::NoCall | ProblemFault::TooManyCalls) => Ok(()),
-    }
-}
-
-// Adds the return of the call of this number to the part, of which it is one.
-fn add_return(
-    part: &mut Problem<AnyObject>,
-    kept: &CallsOfKey,
-    number: usize,
-    call: &ProblemCall<Op, Reply>,
-) {
-    let Ok(index) = kept.calls().binary_search(&number) else {
-        return;
-    };
-    if let Some((event, reply)) = &call.returned {
-        let _ = part.add_return(index, *reply, *event);
-    }
-}
-
-// Adds the event to the part of its call's key. An event that has no part, or that its part refuses, is left out.
-fn add_event(
-    parts: &mut Vec<Problem<AnyObject>>,
-    problem: &Problem<AnyObject>,
-    numbers: &[usize],
-    lists: &[CallsOfKey],
-    event: &ProblemEvent,
-) -> Result<(), AllocError> {
-    let number = match event {
-        ProblemEvent::Call(call) => *call,
-        ProblemEvent::Return(call) => *call,
-    };
-    let (Some(call), Some(key)) = (problem.calls().get(number), numbers.get(number)) else {
-        return Ok(());
-    };
-    let (Some(part), Some(kept)) = (parts.get_mut(*key), lists.get(*key)) else {
-        return Ok(());
-    };
-    match event {
-        ProblemEvent::Call(_) => add_call(part, call),
-        ProblemEvent::Return(_) => {
-            add_return(part, kept, number, call);
-            Ok(())
-        }
-    }
-}
-
-/// The problem of each key, with the event numbers of the whole, by one pass over the events. `AllocError` where memory was
-/// refused.
-pub(crate) fn parts_of_keys(
+/// The problem of these calls, with their event numbers. `AllocError` where memory was refused.
+pub(crate) fn part_of(
     alloc: Global,
     problem: &Problem<AnyObject>,
-    numbers: &[usize],
-    lists: &[CallsOfKey],
-) -> Result<Vec<Problem<AnyObject>>, AllocError> {
-    let events = problem.timeline(alloc)?;
-    let mut parts = empty_parts(alloc, problem, lists.len())?;
-    for event in &events {
-        add_event(&mut parts, problem, numbers, lists, event)?;
-    }
-    Ok(parts)
+    kept: &[usize],
+) -> Result<Problem<AnyObject>, AllocError>
+    requires { AreSomeCalls (any_problem problem.now) kept.now }
+    ensures start { IfOk result (λ part. part.start ≡ problem.now.start) }
+    ensures part { IfOk result (λ part. ArePart (any_problem problem.now) kept.now part.calls) }
+{
+    let _whole = problem.calls();
+    let start = problem.object().copy_state(alloc, problem.start())?;
+    let calls = some_calls(alloc, problem, kept)?;
+    Ok(Problem::with_calls(AnyObject, start, calls))
 }

@@ -1,21 +1,20 @@
 //! The search by key.
 
-ghost use Rattle.std.specs.Prelude.{◌≡◌, IfOk};
+ghost use Rattle.std.specs.Prelude.{◌≡◌, ◌⊎◌, IfOk};
 ghost use Rattle.lin_history.specs.Problems.Lists.{IsLeast};
 ghost use Rattle.lin_history.specs.Problems.Linearizations.{IsLinearization};
 ghost use Rattle.lin_history.specs.Problems.AnyProblem.{any_problem};
 ghost use Rattle.lin_search.specs.Told.{IsRightOf, IsToldUnless};
-ghost use Rattle.lin_parts.specs.Keys.KeyedCalls.{AreKeyNumbers};
+ghost use Rattle.lin_parts.specs.Keys.KeyedCalls.{AreKeyNumbers, GoesByKey};
 ghost use Rattle.lin_parts.specs.Keys.Products.{AreListsOfKeys};
-ghost use Rattle.lin_parts.specs.Keys.PartOrder.{AreFullOrders, ArePartOrders};
+ghost use Rattle.lin_parts.specs.Keys.PartOrder.{AreFullOrders, ArePartOrders, HasAnswered, IsSpentOnKey};
 
 use crate::keys::calls_of_key::CallsOfKey;
 use crate::keys::key_calls::calls_of_keys;
 use crate::keys::key_numbers::{KeyNumbers, key_numbers};
-use crate::keys::key_parts::parts_of_keys;
 use crate::keys::merge::{end_of_completed, merged};
 use crate::keys::orders_told::OrdersTold;
-use crate::keys::part_orders::{PartBounds, orders_of_parts};
+use crate::keys::part_orders::orders_of_parts;
 use lin_history::{Order, Problem};
 use lin_object::{AnyObject, map_law, set_law};
 use lin_search::{AtTimes, Stop, Told};
@@ -70,11 +69,10 @@ fn told_of_orders(
 }
 
 /// The least linearization of a problem that starts with an empty map or an empty set, from searches of the calls of each key
-/// as a problem of its own; or that it has none, where one of them has none. Nothing is told where that is not known: of a problem of
-/// another kind, or that does not start empty; where a call is no operation of the kind; and where the search of a key's calls
-/// would have taken more lifts than it may make. None of these searches makes more lifts than the limit allows, where there is
-/// one; the stop is asked at each 256th lift or step of them, and where it answers nothing is told.
-/// `AllocError` where memory was refused.
+/// as a problem of its own; or that it has none, where one of them has none. Nothing is told only of a problem that does not go by
+/// key: of another kind, or that does not start empty, or where a call is no operation of the kind; and where the calls of a key
+/// have more runs than a search of them may make lifts, or the stop answered. None of these searches makes more lifts than the limit
+/// allows, where there is one; the stop is asked at each 256th lift or step of them. `AllocError` where memory was refused.
 ///
 /// The time is that of the searches, and O(n log n) for n calls, however many keys there are.
 pub fn search_by_key<S: Stop>(
@@ -83,22 +81,17 @@ pub fn search_by_key<S: Stop>(
     limit: Option<u64>,
     stop: &mut S,
 ) -> Result<Told, AllocError>
-    ensures { IfOk result (IsRightOf (any_problem problem.now)) }
+    ensures told { IfOk result (IsRightOf (any_problem problem.now)) }
+    ensures nothing { IfOk result (IsToldUnless ((GoesByKey problem.now → ⊥)
+        ⊎ IsSpentOnKey problem.now limit (HasAnswered S.follows S.tells stop.old stop.new))) }
+    ensures stop { S.follows stop.old stop.new }
 {
     let Some(known) = key_numbers(alloc, problem)? else {
         return Ok(Told::Nothing);
     };
     let numbers = known.numbers.as_slice();
     let lists = calls_of_keys(alloc, numbers, known.keys.len())?;
-    let parts = parts_of_keys(alloc, problem, numbers, lists.as_slice())?;
-    let stop = AtTimes::new(stop);
-    let mut bounds = PartBounds { limit, stop };
-    let orders = orders_of_parts(
-        alloc,
-        problem,
-        lists.as_slice(),
-        parts.as_slice(),
-        &mut bounds,
-    )?;
+    let mut seldom = AtTimes::new(stop);
+    let orders = orders_of_parts(alloc, problem, lists.as_slice(), limit, &mut seldom)?;
     told_of_orders(alloc, problem, &known, lists.as_slice(), orders)
 }

@@ -1,13 +1,14 @@
 //! What searches of one part tell.
 
-ghost use Rattle.std.specs.Prelude.{◌≤◌, IfOk, IfSome};
+ghost use Rattle.std.specs.Prelude.{◌≡◌, ◌<◌, ◌≤◌, ℕ, IfOk, length};
+ghost use Rattle.lin_history.specs.declared.limits.TheConstants.{MAX_CALLS_ON_OBJECT};
 ghost use Rattle.lin_history.specs.Problems.AnyProblem.{any_problem};
-ghost use Rattle.lin_search.specs.Told.{IsRightOf};
-ghost use Rattle.lin_parts.specs.Parts.{IsRising};
-ghost use Rattle.lin_parts.specs.Keys.PartOrder.{IsNamed, IsPartOrder};
+ghost use Rattle.lin_history.specs.Problems.Lists.{In};
+ghost use Rattle.lin_search.specs.Told.{IsRightOf, IsSpent, IsToldUnless};
+ghost use Rattle.lin_parts.specs.Keys.PartOrder.{AreSomeCalls, IsNamed, IsPartOrder, IsSpentOnPart, at_most, lifts_of_part};
 
-use crate::call_lists::{fill, with_names};
-use crate::keys::key_parts::is_part;
+use crate::call_lists::{fill, own_names};
+use crate::keys::key_parts::part_of;
 use lin_ahead::{known_ahead, search_first};
 use lin_history::{Order, Problem};
 use lin_object::AnyObject;
@@ -23,23 +24,38 @@ const LIFTS_FOR_A_CALL: u64 = 300;
 
 const MORE_LIFTS: u64 = 4_000;
 
-// So many lifts for each call and so many more, but never more than the limit.
-fn budget(calls: usize, for_a_call: u64, more: u64, limit: Option<u64>) -> u64
-    ensures { IfSome limit (λ most. result ≤ most) }
-{
-    within(
-        for_a_call.saturating_mul(calls as u64).saturating_add(more),
-        limit,
-    )
-}
-
 /// So many lifts, but never more than the limit.
 pub(crate) fn within(lifts: u64, limit: Option<u64>) -> u64
-    ensures { IfSome limit (λ most. result ≤ most) }
+    ensures { result ≡ at_most limit lifts }
 {
     match limit {
         Some(most) => most.min(lifts),
         None => lifts,
+    }
+}
+
+// How many lifts a search of a part of so many calls may make: never more than the limit.
+fn lifts_of_part(calls: usize, limit: Option<u64>) -> u64
+    requires { calls ≤ MAX_CALLS_ON_OBJECT }
+    ensures { result ≡ lifts_of_part limit calls }
+{
+    within(LIFTS_FOR_A_CALL * calls as u64 + MORE_LIFTS, limit)
+}
+
+// What a first search of the part tells, where something is known ahead.
+fn told_at_first<S: Stop>(
+    alloc: Global,
+    part: &Problem<AnyObject>,
+    limit: Option<u64>,
+    stop: &mut S,
+) -> Result<Told, AllocError>
+    ensures told { IfOk result (IsRightOf (any_problem part.now)) }
+    ensures stop { S.follows stop.old stop.new }
+{
+    let lifts = within(FIRST_LIFTS.saturating_mul(part.len() as u64), limit);
+    match known_ahead(alloc, part)? {
+        Some(ahead) => search_first(alloc, part, &ahead, lifts, stop),
+        None => Ok(Told::Nothing),
     }
 }
 
@@ -51,56 +67,52 @@ fn told_of_part<S: Stop>(
     limit: Option<u64>,
     stop: &mut S,
 ) -> Result<Told, AllocError>
-    ensures { IfOk result (IsRightOf (any_problem part.now)) }
+    ensures told { IfOk result (IsRightOf (any_problem part.now)) }
+    ensures nothing { IfOk result (IsToldUnless (IsSpent (any_problem part.now)
+        (lifts_of_part limit (length part.now.calls)) (S.tells stop.new))) }
+    ensures stop { S.follows stop.old stop.new }
 {
-    let lifts = budget(part.len(), FIRST_LIFTS, 0, limit);
-    let told = match known_ahead(alloc, part)? {
-        Some(ahead) => search_first(alloc, part, &ahead, lifts, stop)?,
-        None => Told::Nothing,
-    };
-    let lifts = budget(part.len(), LIFTS_FOR_A_CALL, MORE_LIFTS, limit);
-    match told {
+    let lifts = lifts_of_part(part.calls().len(), limit);
+    match told_at_first(alloc, part, limit, stop)? {
         Told::Nothing => search_for_order(alloc, part, lifts, stop),
         known => Ok(known),
     }
 }
 
-// The order's calls and, behind them, the other calls of the part, by their numbers in the whole; `None` where a call has no
-// number there.
-fn full_order(alloc: Global, kept: &[usize], order: Order) -> Result<Option<Order>, AllocError>
-    ensures { IfOk result (λ answer. IfSome answer (IsNamed kept.now order)) }
+// The order's calls and, behind them, the other calls of the part, by their numbers in the whole.
+fn full_order(alloc: Global, kept: &[usize], order: Order) -> Result<Order, AllocError>
+    requires { (c : ℕ) → In c order → c < length kept.now }
+    ensures { IfOk result (IsNamed kept.now order) }
 {
     let mut calls = order.into_calls();
     fill(alloc, &mut calls, kept.len())?;
-    match with_names(alloc, kept, calls.as_slice())? {
-        Some(names) => Ok(Some(Order::new(names))),
-        None => Ok(None),
-    }
+    let names = own_names(alloc, kept, calls.as_slice())?;
+    Ok(Order::new(names))
 }
 
 /// What searches of the part of these calls tell: its least linearization and behind it the pending calls that it lacks, by
-/// their numbers in the whole; or that it has none; or nothing, and so where the stop answers. `AllocError` where memory was refused.
+/// their numbers in the whole; or that it has none; or nothing, where it has more runs than lifts may be made, or where the stop
+/// answers. `AllocError` where memory was refused.
 pub(crate) fn order_of_part<S: Stop>(
     alloc: Global,
     problem: &Problem<AnyObject>,
     kept: &[usize],
-    part: &Problem<AnyObject>,
     limit: Option<u64>,
     stop: &mut S,
 ) -> Result<Told, AllocError>
-    requires { IsRising kept.now }
-    ensures { IfOk result (IsPartOrder (any_problem problem.now) kept.now) }
+    requires { AreSomeCalls (any_problem problem.now) kept.now }
+    ensures told { IfOk result (IsPartOrder (any_problem problem.now) kept.now) }
+    ensures nothing { IfOk result (IsToldUnless (IsSpentOnPart (any_problem problem.now) kept.now
+        limit (S.tells stop.new))) }
+    ensures stop { S.follows stop.old stop.new }
 {
-    if !is_part(problem, kept, part) {
-        return Ok(Told::Nothing);
-    }
-    let order = match told_of_part(alloc, part, limit, stop)? {
-        Told::Found(order) => order,
-        Told::Refuted => return Ok(Told::Refuted),
-        Told::Nothing => return Ok(Told::Nothing),
-    };
-    match full_order(alloc, kept, order)? {
-        Some(order) => Ok(Told::Found(order)),
-        None => Ok(Told::Nothing),
+    let part = part_of(alloc, problem, kept)?;
+    match told_of_part(alloc, &part, limit, stop)? {
+        Told::Found(order) => {
+            let order = full_order(alloc, kept, order)?;
+            Ok(Told::Found(order))
+        }
+        Told::Refuted => Ok(Told::Refuted),
+        Told::Nothing => Ok(Told::Nothing),
     }
 }

@@ -2,9 +2,8 @@
 
 ghost use Rattle.std.specs.Prelude.{◌<◌, ℕ, IfOk, IsTrue, length};
 ghost use Rattle.lin_history.specs.Problems.AnyProblem.{any_problem};
-ghost use Rattle.lin_parts.specs.Parts.{IsRising};
 ghost use Rattle.lin_parts.specs.Keys.Merging.{order_at};
-ghost use Rattle.lin_parts.specs.Keys.PartOrder.{ArePartOrders, HasRefutedPart};
+ghost use Rattle.lin_parts.specs.Keys.PartOrder.{ArePartOrders, AreSomeCalls, AreToldUnless, HasAnswered, HasRefutedPart, IsSpentOnPart};
 
 use crate::keys::calls_of_key::CallsOfKey;
 use crate::keys::key_calls::calls_at;
@@ -12,16 +11,8 @@ use crate::keys::orders_told::OrdersTold;
 use crate::keys::part_order::{order_of_part, within};
 use lin_history::Problem;
 use lin_object::AnyObject;
-use lin_search::{AtTimes, Stop, Told};
+use lin_search::{Stop, Told};
 use std::alloc::{AllocError, Global};
-
-/// Within which bounds parts are searched: so many lifts of each search at most, where there is a limit; and this stop, which all of
-/// them ask.
-#[derive(Drop)]
-pub(crate) struct PartBounds<'a, S> {
-    pub(crate) limit: Option<u64>,
-    pub(crate) stop: AtTimes<'a, S>,
-}
 
 // The most lifts of a search for each call of a part, where the order of an earlier one is not known: no order of the whole is
 // found any more.
@@ -32,24 +23,20 @@ fn some_is_refuted<S: Stop>(
     alloc: Global,
     problem: &Problem<AnyObject>,
     lists: &[CallsOfKey],
-    parts: &[Problem<AnyObject>],
     from: usize,
-    bounds: &mut PartBounds<'_, S>,
+    limit: Option<u64>,
+    stop: &mut S,
 ) -> Result<bool, AllocError>
-    requires { (k : ℕ) → k < length lists.now → IsRising (order_at lists.now k) }
-    ensures { IfOk result (λ refuted. IsTrue refuted → (k : ℕ) × (k < length lists.now)
+    requires { (k : ℕ) → k < length lists.now
+        → AreSomeCalls (any_problem problem.now) (order_at lists.now k) }
+    ensures refuted { IfOk result (λ refuted. IsTrue refuted → (k : ℕ) × (k < length lists.now)
         × HasRefutedPart (any_problem problem.now) (order_at lists.now k)) }
+    ensures stop { S.follows stop.old stop.new }
 {
     for key in from..lists.len() {
-        let Some(part) = parts.get(key) else {
-            return Ok(false);
-        };
-        let lifts = within(
-            LIFTS_TO_REFUTE.saturating_mul(part.len() as u64),
-            bounds.limit,
-        );
         let kept = calls_at(lists, key);
-        let answer = order_of_part(alloc, problem, kept, part, Some(lifts), &mut bounds.stop)?;
+        let lifts = within(LIFTS_TO_REFUTE.saturating_mul(kept.len() as u64), limit);
+        let answer = order_of_part(alloc, problem, kept, Some(lifts), stop)?;
         if let Told::Refuted = answer {
             return Ok(true);
         }
@@ -64,23 +51,25 @@ pub(crate) fn orders_of_parts<S: Stop>(
     alloc: Global,
     problem: &Problem<AnyObject>,
     lists: &[CallsOfKey],
-    parts: &[Problem<AnyObject>],
-    bounds: &mut PartBounds<'_, S>,
+    limit: Option<u64>,
+    stop: &mut S,
 ) -> Result<OrdersTold, AllocError>
-    requires { (k : ℕ) → k < length lists.now → IsRising (order_at lists.now k) }
-    ensures { IfOk result (ArePartOrders (any_problem problem.now) lists.now) }
+    requires { (k : ℕ) → k < length lists.now
+        → AreSomeCalls (any_problem problem.now) (order_at lists.now k) }
+    ensures told { IfOk result (ArePartOrders (any_problem problem.now) lists.now) }
+    ensures nothing { IfOk result (AreToldUnless ((k : ℕ) × (k < length lists.now)
+        × IsSpentOnPart (any_problem problem.now) (order_at lists.now k) limit
+        (HasAnswered S.follows S.tells stop.old stop.new))) }
+    ensures stop { S.follows stop.old stop.new }
 {
     let mut orders = Vec::with_capacity(alloc, lists.len())?;
     for key in 0..lists.len() {
-        let Some(part) = parts.get(key) else {
-            return Ok(OrdersTold::Nothing);
-        };
-        let (kept, limit) = (calls_at(lists, key), bounds.limit);
-        match order_of_part(alloc, problem, kept, part, limit, &mut bounds.stop)? {
+        let kept = calls_at(lists, key);
+        match order_of_part(alloc, problem, kept, limit, stop)? {
             Told::Found(order) => orders.push(order)?,
             Told::Refuted => return Ok(OrdersTold::Refuted),
             Told::Nothing => {
-                return if some_is_refuted(alloc, problem, lists, parts, key + 1, bounds)? {
+                return if some_is_refuted(alloc, problem, lists, key + 1, limit, stop)? {
                     Ok(OrdersTold::Refuted)
                 } else {
                     Ok(OrdersTold::Nothing)
