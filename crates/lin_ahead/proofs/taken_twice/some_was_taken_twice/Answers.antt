@@ -11,10 +11,12 @@ use Rattle.lin_ahead.proofs.taken_twice.some_was_taken_twice.Goals as goal
 pub returns-then-not-some_took_again-clause-exact :
     goal.returns-then-not-some_took_again-clause-exact
 returns-then-not-some_took_again-clause-exact c =
-    let nobody : (v : ℤ) → are_several (callers_in (get int_eq c.new.result) v) ≡ false = λ v. rw c.new.ensures.empty refl in
-    (λ found. absurd (true≢false (sym found)), λ twice.
-    let k = twice_again (any_problem c.args.problem.now) _ (callers_in (get int_eq c.new.result)) c.in_ok-takers.ensures (λ v few. nobody v) twice in
-    absurd (true≢false (sym (c.some_took_again-2.ensures.1 k) ∙ c.if-not-some_took_again.true)))
+    let nobody : (v : ℤ) → are_several (callers_in (get int_eq c.new.result) v) ≡ false = λ v. rw c.new.ensures.empty refl in (
+      λ found. absurd (true≢false (sym found)),
+      λ twice.
+          let k = twice_again (any_problem c.args.problem.now) _ (callers_in (get int_eq c.new.result)) c.in_ok-takers.ensures (λ v few. nobody v) twice in
+          absurd (true≢false (sym (c.some_took_again-2.ensures.1 k) ∙ c.if-not-some_took_again.true)),
+    )
 
 pub returns-clause-exact : goal.returns-clause-exact
 returns-clause-exact c =
