@@ -1,7 +1,6 @@
 -- An item that a call returned with was put there before: where each call that puts it there came later, there is no linearization.
-use Rattle.std.proofs.Common.{◌≡◌, ℕ, ◌<◌, ◌+◌, Some, List, [], ◌∷◌, ◌++◌, length, ◌⊎◌, inl, inr, refl, sym, ◌∙◌, ap, subst, arith}
+use Rattle.std.proofs.Common.{◌≡◌, ℕ, ◌+◌, Some, List, [], ◌∷◌, ◌++◌, inl, inr, refl, sym, ◌∙◌, ap, subst}
 use Rattle.std.specs.Prelude.{ℤ, slice_get}
-use Rattle.std.proofs.lemmas.Option.{slice_get_within}
 use Rattle.lin_object.specs.declared.op.Op.{Op}
 use Rattle.lin_object.specs.declared.reply.Reply.{Reply}
 use Rattle.lin_object.specs.declared.reply.Reply.TheVariants.{Int}
@@ -16,7 +15,7 @@ use Rattle.lin_history.specs.Problems.LegalLists.{Legal}
 use Rattle.lin_history.specs.Problems.Precedence.{Before}
 use Rattle.lin_history.specs.Problems.Linearizations.{IsRun, IsLinearization}
 use Rattle.lin_history.specs.Problems.AnyProblem.{any_problem}
-use Rattle.lin_ahead.specs.Impossible.{AddsItem, CameTooEarly}
+use Rattle.lin_ahead.specs.Impossible.{CameTooEarly}
 use Rattle.lin_ahead.specs.Queue.{IsOfQueue, Puts, Took}
 use Rattle.lin_ahead.specs.Stack.{Pushes, Popped}
 use Rattle.lin_ahead.proofs.AnyLemmas.{of_any}
@@ -24,21 +23,6 @@ use Rattle.lin_ahead.proofs.ChainLemmas.{legal_split}
 use Rattle.lin_ahead.proofs.NeedsLemmas.{not_before, stands}
 use Rattle.lin_ahead.proofs.QueueLemmas.{moment, put_place, queue_answered, replied}
 use Rattle.lin_ahead.proofs.StackLemmas.{IsExact, NeverThere, never_there, push_is_no_pop}
-
--- a call that puts an item there is a call of the problem
-pub adds_within : {Object : Type 0} (p : ProblemParts Object ObjState Op Reply) (a : ℕ) (v : ℤ) → AddsItem (any_problem p) a v → a < length p.calls
-adds_within p a v (inl put) = slice_get_within p.calls a put.0 put.1
-adds_within p a v (inr push) = slice_get_within p.calls a push.0 push.1
-
--- what is so of the calls before one, and of that one, is so of one more
-pub after_more : (p : Problem ObjState Op Reply) (z n : ℕ) (v : ℤ) → ((a : ℕ) → a < n → AddsItem p a v → Before p z a) → (AddsItem p n v → Before p z n) → (a : ℕ) → a < n + 1 → AddsItem p a v → Before p z a
-after_more p z n v so_far last a less adds = elim (up_to a n less) [
-  | inl k ↦ so_far a k adds
-  | inr e ↦ subst (λ (m : ℕ). Before p z m) (sym e) (last (subst (λ (m : ℕ). AddsItem p m v) e adds))
-]
-  where
-    up_to : (i j : ℕ) → i < j + 1 → (i < j) ⊎ (i ≡ j)
-    up_to i j h = grind arith
 
 -- of a queue
 module _ {p : Problem ObjState Op Reply} (of_queue : IsOfQueue p []) (z : ℕ) (v : ℤ) (took : Took p z v) (after_it : (a : ℕ) → Puts p a v → Before p z a) where

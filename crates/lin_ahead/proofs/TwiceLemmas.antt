@@ -1,5 +1,5 @@
 -- Two calls that returned with one item, which no two calls put there: there is no linearization.
-use Rattle.std.proofs.Common.{◌≡◌, ◌≢◌, ℕ, ◌<◌, ◌+◌, Some, List, [], ◌∷◌, ◌++◌, ◌⊎◌, inl, inr, refl, sym, ◌∙◌, ap, subst, append_assoc, arith}
+use Rattle.std.proofs.Common.{◌≡◌, ◌≢◌, ℕ, ◌+◌, Some, List, [], ◌∷◌, ◌++◌, inl, inr, refl, sym, ◌∙◌, ap, subst, append_assoc}
 use Rattle.std.specs.Prelude.{ℤ}
 use Rattle.lin_object.specs.declared.op.Op.{Op}
 use Rattle.lin_object.specs.declared.reply.Reply.{Reply}
@@ -14,7 +14,7 @@ use Rattle.lin_history.specs.Problems.LegalLists.{next, Legal}
 use Rattle.lin_history.specs.Problems.Precedence.{IsCompleted}
 use Rattle.lin_history.specs.Problems.Linearizations.{IsRun, IsLinearization}
 use Rattle.lin_history.specs.Problems.AnyProblem.{any_problem}
-use Rattle.lin_ahead.specs.Impossible.{AddsItem, IsTakenTwice}
+use Rattle.lin_ahead.specs.Impossible.{IsTakenTwice}
 use Rattle.lin_ahead.specs.Queue.{Item, Took}
 use Rattle.lin_ahead.specs.Stack.{Popped, PushedOnce}
 use Rattle.lin_ahead.proofs.AnyLemmas.{of_any}
@@ -24,16 +24,6 @@ use Rattle.lin_ahead.proofs.OwedStackLemmas.{still_stack, item_at}
 use Rattle.lin_ahead.proofs.PlaceLemmas.{distinct_late}
 use Rattle.lin_ahead.proofs.QueueLemmas.{not_taken_again}
 use Rattle.lin_ahead.proofs.StackLemmas.{IsExact, IsPoppedBy, WasPushed, pops_top, top_of, one_popper}
-
--- what is so of the calls before one, and of that one, is so of one more
-pub only_more : (p : Problem ObjState Op Reply) (adder n : ℕ) (v : ℤ) → ((a : ℕ) → a < n → AddsItem p a v → a ≡ adder) → (AddsItem p n v → n ≡ adder) → (a : ℕ) → a < n + 1 → AddsItem p a v → a ≡ adder
-only_more p adder n v so_far last a less adds = elim (up_to a n less) [
-  | inl k ↦ so_far a k adds
-  | inr e ↦ e ∙ last (subst (λ (m : ℕ). AddsItem p m v) e adds)
-]
-  where
-    up_to : (i j : ℕ) → i < j + 1 → (i < j) ⊎ (i ≡ j)
-    up_to i j h = grind arith
 
 module _ {State Op Reply : Type 0} (p : Problem State Op Reply) where
   -- of two calls of a linearization one stands behind the other

@@ -11,10 +11,13 @@
 //!   are too late.
 //! - `sum_rows`: the limits of a counter's `get`s, by one pass over the events for each sum.
 //! - `look_ahead`: what is known ahead of a whole problem; `impossible_items`: items that a call returned with before any call
-//!   put them there; `taken_twice`: items that two calls returned with, though one put them there; `crossed_pushes`: items that
+//!   put them there; `taken_twice`: items that two calls returned with, though no two put them there; `crossed_pushes`: items that
 //!   lie above one which is popped first.
-//! - `first_search`: a search that passes over calls that need one left out, that would take a reply which is owed to
-//!   another, that are too late, that would change a state which is held, or that leave too few takers; `needed_calls`: the calls by how early they are needed;
+//! - `first_search`: a search that passes over calls by rules, and keeps `refuted_set`, what it has refuted; `rules`: what it asks
+//!   of them; `identical_calls`: calls that an identical one stands for, or that come behind one that changes nothing.
+//! - `known_rules`: the rules that what is known ahead gives: a call needs one left out, would take a reply which is owed to
+//!   another, is too late, would change a state which is held, or leaves too few takers; `needed_calls`: the calls by how early
+//!   they are needed;
 //!   `owed_replies`: the replies that are owed; `calls_in_turn`: calls in an order, and the first that is not lifted;
 //!   `late_pushes`: pushes that are too late, by the pushes that must lie above them, and enqueues that are too late for a call that
 //!   found the queue empty; `late_hints`, `stack_hints`: which of those to ask of;
@@ -22,9 +25,7 @@
 //!   `sum_tree`: the room that each `get` leaves;
 //!   `takers`: calls that leave too few dequeues for what must be taken out of a queue; `stack_takers`: the same of pops and a
 //!   stack; `taker_hints`: which calls to ask of;
-//!   `held_state`: calls until which the state is held; `identical_calls`: calls that an identical one stands for, or that come
-//!   behind one that changes nothing; `finders`: the calls that found each value, in turn; `refuted_set`:
-//!   what it has refuted.
+//!   `held_state`: calls until which the state is held; `finders`: the calls that found each value, in turn.
 #![tactic(auto)]
 
 mod call_values;
@@ -39,6 +40,7 @@ mod identical_calls;
 mod impossible_items;
 mod item_calls;
 mod key_value;
+mod known_rules;
 mod late_enqueues;
 mod late_hints;
 mod late_pushes;
@@ -48,6 +50,7 @@ mod needed_pairs;
 mod numbers;
 mod owed_replies;
 mod refuted_set;
+mod rules;
 mod stack_hints;
 mod stack_rows;
 mod stack_takers;
@@ -62,8 +65,8 @@ mod value_calls;
 mod value_rows;
 
 pub use crossed_pushes::some_push_crosses;
-pub use first_search::search_first;
 pub use impossible_items::some_came_too_early;
+pub use known_rules::search_first;
 pub use late_pushes::LateRows;
 pub use look_ahead::{KnownAhead, known_ahead};
 pub use sum_rows::{SumLimit, SumRows};

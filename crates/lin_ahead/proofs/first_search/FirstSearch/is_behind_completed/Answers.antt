@@ -1,6 +1,6 @@
 use Rattle.std.proofs.Common.{Result, Ok, Err}
 use Rattle.std.specs.Prelude.{IfOk}
-use Rattle.lin_history.specs.Problems.AnyProblem.{any_problem}
+use Rattle.lin_history.specs.Problems.Problem.{problem_of}
 use Rattle.lin_search.specs.SameLemmas.{alike_itself}
 use Rattle.lin_ahead.proofs.FirstLemmas.{identical_begins_none}
 use Rattle.lin_ahead.proofs.first_search.FirstSearch.is_behind_completed.Goals as goal
@@ -10,11 +10,11 @@ ok_map P Q (Ok x) f k = f x k
 ok_map P Q (Err e) f k = tt
 
 pub returns : goal.returns
-returns c =
+returns g c =
     ok_map _ _ c.can_follow_before.result
     (λ known k told.
     let n = k told in
-    identical_begins_none (any_problem c.args.self.now.path.entries.problem) (alike_itself c.lawful.ensures _) _ _ _ _
+    identical_begins_none (problem_of g.O.SeqObject.after g.O.State.PartialEq.eq g.O.Reply.PartialEq.eq c.args.self.now.path.entries.problem) (alike_itself c.lawful.ensures _) _ _ _ _
     ((rw c.problem.ensures at (c.stands_where_it_follows.ensures c.if-not-stands_where_it_follows.false)) c.args.self.now.path.config.lifted c.args.self.now.path.config.state n.0 n.1)
     c.requires.passed)
     c.can_follow_before.ensures.follows

@@ -1,9 +1,0 @@
-use Rattle.std.proofs.Common.{ℕ, ◌<◌}
-use Rattle.lin_history.specs.Problems.Precedence.{Before}
-use Rattle.lin_history.specs.Problems.AnyProblem.{any_problem}
-use Rattle.lin_ahead.specs.Impossible.{AddsItem}
-use Rattle.lin_ahead.proofs.impossible_items.is_added_after.Given as goal
-
--- so it is of the calls so far
-abbrev pub invariant-loop-call : goal.invariant-loop-call
-invariant-loop-call l = (a : ℕ) → a < l.call → AddsItem (any_problem l.problem) a l.item → Before (any_problem l.problem) l.taker a
