@@ -1,5 +1,5 @@
 -- An item that a call returned with was put there before: where each call that puts it there came later, there is no linearization.
-use Rattle.std.proofs.Common.{◌≡◌, ℕ, ◌+◌, Some, List, [], ◌∷◌, ◌++◌, inl, inr, refl, sym, ◌∙◌, ap, subst}
+use Rattle.std.proofs.Common.{◌≡◌, ℕ, Some, List, [], ◌∷◌, ◌++◌, inl, inr, refl, sym, ◌∙◌, ap, subst}
 use Rattle.std.specs.Prelude.{ℤ, slice_get}
 use Rattle.lin_object.specs.declared.op.Op.{Op}
 use Rattle.lin_object.specs.declared.reply.Reply.{Reply}
