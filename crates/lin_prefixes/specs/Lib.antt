@@ -1,4 +1,5 @@
 pub mod Prefixes
+pub mod Crossing
 pub mod Freed
 pub mod PartAnswer
 pub mod WholeAnswer

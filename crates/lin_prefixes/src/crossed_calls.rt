@@ -1,88 +1,61 @@
 //! Two calls that cross: the one returned before the other was called, and yet needs it by what is known ahead. Then there is
 //! no linearization.
 
-ghost use Rattle.std.specs.Prelude.{◌≡◌, ◌<◌, ℕ, List, IfOk, IsTrue, length};
-ghost use Rattle.lin_history.specs.Problems.Precedence.{Before, IsCompleted};
+ghost use Rattle.std.specs.Prelude.{◌≡◌, ◌<◌, ◌≤◌, ◌↔◌, ◌⊎◌, ℕ, List, Some, slice_get, IfOk, IsSomeAnd, IsTrue};
 ghost use Rattle.lin_history.specs.Problems.Linearizations.{IsLinearization};
 ghost use Rattle.lin_history.specs.Problems.AnyProblem.{any_problem};
 ghost use Rattle.lin_ahead.specs.Behind.{AreOtherNeeds};
+ghost use Rattle.lin_prefixes.specs.Crossing.{SomeCross};
 
 use lin_history::{NeedRows, Problem, ProblemEvent};
 use lin_object::AnyObject;
 use std::alloc::{AllocError, Global};
 
-// Whether the call returned before the other one was called.
-fn precedes(problem: &Problem<AnyObject>, call: usize, other: usize) -> bool
-    requires call { call < length problem.now.calls }
-    requires other { other < length problem.now.calls }
-    ensures before { IsTrue result → Before (any_problem problem.now) call other }
-    ensures completed { IsTrue result → IsCompleted (any_problem problem.now) call }
+// Whether the number from which on the call is needed is less than this one.
+fn is_needed_before(rows: &NeedRows, call: usize, most: u64) -> bool
+    ensures { IsTrue result ↔ IsSomeAnd (slice_get rows.now.by call) (λ m. m < most) }
 {
-    match &problem.call(call).returned {
-        Some((returned, _)) => *returned < problem.call(other).called,
+    match rows.by().get(call) {
+        Some(by) => *by < most,
         None => false,
     }
 }
 
-// Whether the first call crosses the second: it returned before that was called, and needs it.
-fn crosses(problem: &Problem<AnyObject>, rows: &NeedRows, call: usize, other: usize) -> bool
-    requires rows { AreOtherNeeds (any_problem problem.now) rows.now }
-    requires call { call < length problem.now.calls }
-    requires other { other < length problem.now.calls }
-    ensures { IsTrue result → (l : List ℕ) → IsLinearization (any_problem problem.now) l → ⊥ }
+// The number up to which the call needs others, where it is greater than this one; else this one.
+fn most_with(rows: &NeedRows, call: usize, most: u64) -> u64
+    ensures least { most ≤ result }
+    ensures own { (n : ℕ) → slice_get rows.now.from call ≡ Some n → n ≤ result }
+    ensures told { (result ≡ most) ⊎ (slice_get rows.now.from call ≡ Some result) }
 {
-    if call == other || !precedes(problem, call, other) {
-        return false;
+    match rows.from().get(call) {
+        Some(from) if *from > most => *from,
+        _ => most,
     }
-    rows.by()[other] < rows.from()[call]
 }
 
-// For each call, of those that returned before it was called one that needs most. That is a hint: nothing is proved of it.
-fn neediest(
-    alloc: Global,
-    problem: &Problem<AnyObject>,
-    rows: &NeedRows,
-) -> Result<Vec<usize>, AllocError> {
-    let events = problem.timeline(alloc)?;
-    let from = rows.from();
-    let mut hints = Vec::with_capacity(alloc, problem.len())?;
-    let mut latest = 0;
-    let mut most = 0;
-    for event in &events {
-        match event {
-            ProblemEvent::Call(_) => hints.push(latest)?,
-            ProblemEvent::Return(call) => match from.get(*call) {
-                Some(number) if *number > most => {
-                    most = *number;
-                    latest = *call;
-                }
-                _ => {}
-            },
-        }
-    }
-    Ok(hints)
-}
-
-/// Whether some two calls cross, by these rows of the problem: `true` only where there is no linearization. `AllocError` where
-/// memory was refused. The time is that of sorting the events.
+/// Whether some two calls cross, by these rows of the problem; then there is no linearization. `AllocError` where memory was
+/// refused. The time is that of sorting the events: what the calls that have returned need most is kept from event to event.
 pub(crate) fn some_cross(
     alloc: Global,
     problem: &Problem<AnyObject>,
     rows: &NeedRows,
 ) -> Result<bool, AllocError>
     requires { AreOtherNeeds (any_problem problem.now) rows.now }
-    ensures { IfOk result (λ crossed. IsTrue crossed
+    ensures exact { IfOk result (λ crossed. IsTrue crossed
+        ↔ SomeCross (any_problem problem.now) rows.now) }
+    ensures none { IfOk result (λ crossed. IsTrue crossed
         → (l : List ℕ) → IsLinearization (any_problem problem.now) l → ⊥) }
 {
-    let hints = neediest(alloc, problem, rows)?;
-    for call in 0..problem.len() {
-        match hints.get(call) {
-            Some(hint) if *hint < problem.len() => {
-                if crosses(problem, rows, *hint, call) {
+    let events = problem.timeline(alloc)?;
+    let mut most = 0;
+    for index in 0..events.len() {
+        match events[index] {
+            ProblemEvent::Call(call) => {
+                if is_needed_before(rows, call, most) {
                     return Ok(true);
                 }
             }
-            _ => {}
+            ProblemEvent::Return(call) => most = most_with(rows, call, most),
         }
     }
     Ok(false)
