@@ -27,12 +27,12 @@ KINDS = ["register", "counter", "queue", "stack", "set", "mutex", "map"]
 MOST_CALLS = 12
 
 
-def draw(chance, kind, keys, values, held):
-    """A call: its operation and its arguments. `held` says whether the process holds the mutex."""
+def draw(chance, kind, keys, values, adds, held):
+    """A call: its operation and its arguments. `adds` are what is added, and `held` says whether the process holds the mutex."""
     key, value = chance.randrange(keys), chance.randrange(values)
     ops = {
         "register": [("write", [value]), ("read", []), ("cas", [chance.randrange(values), value])],
-        "counter": [("add", [value + 1]), ("get", [])],
+        "counter": [("add", [chance.choice(adds)]), ("get", [])],
         "queue": [("enq", [value]), ("deq", [])],
         "stack": [("push", [value]), ("pop", [])],
         "set": [("add", [key]), ("remove", [key]), ("contains", [key])],
@@ -45,6 +45,7 @@ def draw(chance, kind, keys, values, held):
 def history(chance, kind):
     """A history's text: that of simulated calls, of which some never return or fail, with some wrong replies."""
     count, keys, values = chance.randrange(3, MOST_CALLS), chance.randrange(1, 3), chance.randrange(1, 4)
+    adds = chance.choice([[1], [1, 2, 3], [1, 2, 5, 7], [-1, -2, -5], [-3, 2, 5], [0, 1, 4]])
     clients, fresh = list(range(chance.randrange(2, 5))), 10
     lost = chance.choice([0, 0.3, 0.4, 0.4])
     state, called, done, events, made = START[kind], {}, {}, [], 0
@@ -74,7 +75,7 @@ def history(chance, kind):
                     del called[process]
         elif made < count:
             made += 1
-            called[process] = draw(chance, kind, keys, values, state == process and kind == "mutex")
+            called[process] = draw(chance, kind, keys, values, adds, state == process and kind == "mutex")
             op, args = called[process]
             events.append({"event": "call", "process": process, "object": "x", "op": op, "args": args})
         elif not called and not done:

@@ -235,6 +235,28 @@ class Counter:
         return self.value
 
 
+class Adding(Counter):
+    """The same, but each `add` is of a number from 1 to 100."""
+
+    def choose(self, chance, number):
+        return ("get", None) if chance.random() < 0.3 else ("add", chance.randrange(1, 101))
+
+
+class ForgetfulCounter(Adding):
+    """The same, which forgets one `add` at nine tenths of the history."""
+
+    def __init__(self, calls):
+        super().__init__()
+        self.late, self.calls = calls * 9 // 10, 0
+
+    def reply(self, op, value):
+        self.calls += 1
+        if op == "add" and self.calls >= self.late:
+            self.late = 2 * self.calls + 1_000_000
+            return OKAY
+        return super().reply(op, value)
+
+
 class Event(NamedTuple):
     process: int
     op: str
@@ -524,6 +546,16 @@ def unknown(processes, share, stale=0, seed=SEED):
         return lines("x", "register", with_stale_reads(events, stale, FewValues.values, seed))
 
     return history
+
+
+def unknown_adds(processes, share):
+    """A counter of different adds, some of whose calls never return."""
+    return lambda calls: lines("c", "counter", timing_out(Adding(), processes, calls, share))
+
+
+def forgotten_add(processes, share):
+    """The same, of which one `add` was forgotten."""
+    return lambda calls: lines("c", "counter", timing_out(ForgetfulCounter(calls), processes, calls, share))
 
 
 def unknown_objects(number):
@@ -868,6 +900,18 @@ FAMILIES = {
         for processes, share in ((5, 30), (10, 15), (10, 30), (20, 5), (20, 15), (20, 30))
     },
     "unknown_objects": Family("registers of 150 to 190 calls, 5 clients, values 0 to 4, 5 to 30 % of the calls never return", "objects", [100], 0, unknown_objects),
+    **{
+        f"unknown_adds_{processes}_{share}": Family(
+            f"a counter, adds of 1 to 100, {processes} clients, {share} % of the calls never return", "calls", [500, 1000, 2000], 0, unknown_adds(processes, share)
+        )
+        for processes in (5, 8, 10, 16)
+        for share in (1, 5)
+    },
+    **{
+        f"unknown_adds_{processes}_{share}_no": Family("the same, of which one add was forgotten", "calls", [500, 1000, 2000], 1, forgotten_add(processes, share))
+        for processes in (5, 8, 16)
+        for share in (1, 5)
+    },
     "crashed": Family("pending writes before 1,000 calls, and an impossible read", "pending", [1, 2, 4, 6], 1, crashed),
     "additions": Family("concurrent additions of different numbers, and an impossible get", "additions", [14, 16, 18, 20], 1, additions),
     "shared_additions": Family(

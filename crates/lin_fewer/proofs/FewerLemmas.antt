@@ -29,7 +29,7 @@ true_is_not true h = absurd (h refl)
 true_is_not false h = refl
 
 module _ {State Op Reply : Type 0} (p : Problem State Op Reply) where
-  before_completed : (a b : ℕ) → Before p a b → IsCompleted p a
+  pub before_completed : (a b : ℕ) → Before p a b → IsCompleted p a
   before_completed a b before = returned (slice_get p.calls a) (λ r. IsSomeAnd (slice_get p.calls b) (λ y. r.0 < y.called)) before
 
   module _ (a b : List Bool) (s : State) (fewer : UsedFewer p a b) where

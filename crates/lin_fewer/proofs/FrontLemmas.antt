@@ -1,15 +1,16 @@
 -- What the first completed call that is left and the least return of what is left say of the calls that may be next.
-use Rattle.std.proofs.Common.{◌≡◌, ℕ, ◌+◌, ◌<◌, ◌≤◌, Bool, true, false, Option, Some, None, List, [], length, ◌⊎◌, inl, inr, refl, sym, ◌∙◌, subst, arith}
+use Rattle.std.proofs.Common.{◌≡◌, ℕ, ◌+◌, ◌<◌, ◌≤◌, Bool, true, false, Option, Some, None, List, [], ◌∷◌, length, ◌⊎◌, inl, inr, refl, sym, ◌∙◌, subst, arith}
 use Rattle.std.specs.Prelude.{slice_get, IsSome, IsSomeAnd, min}
 use Rattle.std.proofs.lemmas.Option.{slice_get_cases}
 use Rattle.lin_history.specs.declared.problems.problem.ProblemCall.{ProblemCall}
 use Rattle.lin_history.specs.Problems.ProblemParts.{AreTimed}
 use Rattle.lin_history.specs.Problems.Problem.{Problem}
 use Rattle.lin_history.specs.Problems.Precedence.{Before, IsCompleted}
-use Rattle.lin_history.specs.Problems.Continuations.{has}
+use Rattle.lin_history.specs.Problems.Continuations.{has, IsCompletion}
 use Rattle.lin_search.specs.CallSetLemmas.{true_or_false, below_or_last}
 use Rattle.lin_search.specs.Entries.{IsMinimal}
 use Rattle.lin_search.specs.FirstCallLemmas.{next_within}
+use Rattle.lin_search.specs.NextCall.{IsNext}
 use Rattle.lin_fewer.specs.Fronts.{HasCompletedBelow, IsCalledBy, IsLater, IsFirstLeft, IsLeastReturn, IsLesserReturn, IsReturnLeft, IsReturnOf}
 use Rattle.lin_fewer.specs.Nodes.{NoneBegins}
 
@@ -105,6 +106,27 @@ module _ {State Op Reply : Type 0} (p : Problem State Op Reply) where
       | inl within ↦ late_within s bound c d later.made later.timed least later.at later.late up within l k
       | inr past ↦ absurd (let w = next_within p s k.continuation.legal.1.0 d k.continuation.legal.1.1 in omega (arith, w, past))
     ]
+
+  -- ---- what can follow was called by the least return of what is left
+
+  module _ (set : List Bool) (bound c d : ℕ) (least : IsLeastReturn p set bound) (later : IsLater p c bound) (up : c ≤ d) (y : ProblemCall Op Reply) (at : slice_get p.calls d ≡ Some y) where
+    called_later : later.made.called ≤ y.called
+    called_later = elim (least_or c d) [
+      | inl less ↦ (let h = later.timed.called c d later.made y less later.at at in omega (arith, h))
+      | inr more ↦ (let e : c ≡ d = omega (arith, more, up) in let f : slice_get p.calls d ≡ Some later.made = subst (λ (n : ℕ). slice_get p.calls n ≡ Some later.made) e later.at in let q : later.made ≡ y = cc in subst (λ (n : ProblemCall Op Reply). later.made.called ≤ n.called) q (omega arith))
+    ]
+
+    pub late_next : (s t : State) → IsNext p set s d t → ⊥
+    late_next s t is =
+        let a = least.there in
+        let before : Before p a.call d = before_by a.call d a.made a.returned y a.at a.is at (let e : a.returned.0 ≡ bound = a.number in let l = later.late in let m = called_later in omega (arith, e, l, m)) in
+        let h = is.preceded a.call before in
+        let out = a.outside in
+        absurd (cc)
+
+  -- a call with which a completion begins is there
+  pub next_begins_within : (set : List Bool) (s : State) (c : ℕ) (l : List ℕ) → IsCompletion p set s (c ∷ l) → c < length p.calls
+  next_begins_within set s c l k = next_within p s k.continuation.legal.1.0 c k.continuation.legal.1.1
 
   -- ---- what the tests find
 

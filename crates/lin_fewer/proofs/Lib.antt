@@ -4,4 +4,7 @@ pub mod FrontLemmas
 pub mod KnowledgeLemmas
 pub mod NodeLemmas
 pub mod SearchLemmas
+pub mod WaitingLemmas
 pub mod LeastLemmas
+pub mod TurnLemmas
+pub mod AddLemmas

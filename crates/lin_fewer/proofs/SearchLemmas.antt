@@ -11,14 +11,16 @@ use Rattle.lin_search.specs.NextCall.{IsNext}
 use Rattle.lin_search.specs.NeedlessCalls.{LeavesStates}
 use Rattle.lin_search.specs.Answer.{HasNoCompletion}
 use Rattle.std.specs.Cmp.{IsEquivalence}
-use Rattle.lin_search.specs.FirstCallLemmas.{next_within}
+use Rattle.lin_history.specs.Problems.Continuations.{IsCompletion}
+use Rattle.lin_search.specs.FirstCallLemmas.{next_within, completion_join}
 use Rattle.lin_fewer.specs.Fewer.{IsNoWorse, FewerLaw}
-use Rattle.lin_fewer.specs.Fronts.{HasCompletedBelow, IsFirstLeft}
+use Rattle.lin_fewer.specs.Fronts.{AreCompletedTo, HasCompletedBelow, IsFirstLeft}
 use Rattle.lin_fewer.specs.Nodes.{Node, NoneBegins, NoneBeginsBelow, IsCovered, IsCoveredAt, HasNoWorse, IsChild, CameFrom, IsNode, AreNodes, IsBlockTo, IsSuspended, IsSearch, IsMoreOf, IsAt, BearsBy}
 use Rattle.lin_fewer.specs.Knowledge.{IsBorne}
+use Rattle.lin_fewer.specs.Turns.{ComesFirst}
 use Rattle.lin_search.specs.AlikeLemmas.{AreAlike}
 use Rattle.lin_fewer.proofs.ReadLemmas.{get_early, get_last, get_end, get_within}
-use Rattle.lin_fewer.proofs.FrontLemmas.{least_or}
+use Rattle.lin_fewer.proofs.FrontLemmas.{least_or, next_begins_within}
 use Rattle.lin_fewer.proofs.NodeLemmas.{covered_no_worse, covered_wider, block_none, incomplete, none_alone, none_by_child, none_not_next}
 
 pub get_append : {X : Type 0} (xs ys : List X) (k : ℕ) → k < length xs → slice_get xs k ≡ slice_get (xs ++ ys) k
@@ -69,6 +71,7 @@ module _ {State Op Reply : Type 0} (p : Problem State Op Reply) where
         at = there x.from c.node (let l = c.less in omega (arith, l, h)) c.at;
         next = c.next;
         lifted = c.lifted;
+        block = c.block;
       });
     }
 
@@ -76,6 +79,7 @@ module _ {State Op Reply : Type 0} (p : Problem State Op Reply) where
     block_moved low high index h up b = record {
       done = λ k x low_ less at c. covered_wider p old new low high high x.config c (λ j z l e. there j z (omega (arith, l, h)) e) (omega arith)
           (b.done k x low_ less (back k x (omega (arith, less, up, h)) at) c);
+      none = λ k x low_ less at. b.none k x low_ less (back k x (omega (arith, less, up, h)) at);
       same = λ k x low_ less at. b.same k x low_ less (back k x (omega (arith, less, h)) at);
     }
 
@@ -129,6 +133,13 @@ module _ {State Op Reply : Type 0} (p : Problem State Op Reply) where
     ];
   }
 
+  -- the calls up to another one are covered too, if those between are completed
+  pub covered_to : (nodes : List (Node State)) (index from to : ℕ) → ((d : ℕ) → d < from → IsCoveredAt p nodes index d) → AreCompletedTo p from to → IsAt nodes index (λ x. (c : ℕ) → IsCompleted p c → NoneBegins p x.config.lifted x.config.state c) → (d : ℕ) → d < to → IsCoveredAt p nodes index d
+  covered_to nodes index from to covered between none d less = elim (least_or d from) [
+    | inl early ↦ covered d early
+    | inr past ↦ (λ x at l k. absurd (none x at d (between d past less (next_begins_within p x.config.lifted x.config.state d l k)) l k))
+  ]
+
   -- ---- what a pending call adds
 
   pub first_still : (set : List Bool) (first c : ℕ) → c < length set → (c ≡ first → ⊥) → IsFirstLeft p set first → IsFirstLeft p (with_call set c) first
@@ -142,8 +153,13 @@ module _ {State Op Reply : Type 0} (p : Problem State Op Reply) where
   pub below_still : (set : List Bool) (first c : ℕ) → c < length set → HasCompletedBelow p set first → HasCompletedBelow p (with_call set c) first
   below_still set first c within below d less done = has_still set c d within (below d less done)
 
+  -- below the first completed call that is left all are lifted after a call too
+  pub child_has_below : (nodes : List (Node State)) (index c : ℕ) → AreNodes p nodes → (x : Node State) → slice_get nodes index ≡ Some x → (child : Configuration State) → IsChild p x.config c child → HasCompletedBelow p child.lifted x.first
+  child_has_below nodes index c are x at child is = subst (λ (a : List Bool). HasCompletedBelow p a x.first) (sym is.lifted)
+      (below_still x.config.lifted x.first c (let f = (are index x at).reachable.flags in let w = next_within p x.config.state child.state c is.next.step in omega (arith, f, w)) (are index x at).first.below)
+
   module _ (nodes : List (Node State)) (index c : ℕ) (are : AreNodes p nodes) (x : Node State) (at : slice_get nodes index ≡ Some x) (y : Node State) (is : IsChild p x.config c y.config)
-      (within : c < length p.calls) (first : IsFirstLeft p y.config.lifted y.first) (from : y.from ≡ index) (by : y.by ≡ c) where
+      (within : c < length p.calls) (first : IsFirstLeft p y.config.lifted y.first) (from : y.from ≡ index) (by : y.by ≡ c) (block : (y.base ≡ length nodes → ⊥) → x.base ≡ y.base) where
     abbrev pub new : List (Node State)
     new = nodes ++ y ∷ []
 
@@ -157,6 +173,7 @@ module _ {State Op Reply : Type 0} (p : Problem State Op Reply) where
       at = subst (λ (i : ℕ). slice_get new i ≡ Some x) (sym from) x_there;
       next = subst (λ (d : ℕ). IsNext p x.config.lifted x.config.state d y.config.state) (sym by) is.next;
       lifted = is.lifted ∙ ap (λ (d : ℕ). with_call x.config.lifted d) (sym by);
+      block = block;
     }
 
     pub pushed_nodes : y.base ≤ length nodes → ((z : Node State) × (slice_get new y.base ≡ Some z) × (z.base ≡ y.base)) → AreNodes p new
@@ -195,10 +212,10 @@ module _ {State Op Reply : Type 0} (p : Problem State Op Reply) where
   pub pending_pushed : FewerLaw p → IsEquivalence p.same_state → (nodes : List (Node State)) (index c : ℕ) → AreNodes p nodes → (x : Node State) → slice_get nodes index ≡ Some x → (y : Node State) → IsChild p x.config c y.config
       → (IsCompleted p c → ⊥) → y.first ≡ x.first → y.from ≡ index → y.by ≡ c → y.base ≡ x.base → IsMoreOf p nodes (nodes ++ y ∷ []) index × IsCoveredAt p (nodes ++ y ∷ []) index c
   pending_pushed fewer equal nodes index c are x at y is pending same_first from by same_base = (
-    pushed_more nodes index c are x at y is within first from by same_base,
+    pushed_more nodes index c are x at y is within first from by (λ other. sym same_base) same_base,
     at_one (nodes ++ y ∷ []) index x (λ (z : Node State). IsCovered p (nodes ++ y ∷ []) z.base (length (nodes ++ y ∷ [])) z.config c) (get_early nodes (y ∷ []) index x at)
         (covered_no_worse p (nodes ++ y ∷ []) x.base (length (nodes ++ y ∷ [])) x.config c fewer (are index x at).reachable.flags y.config is
-        (pushed_has nodes index c are x at y is within first from by (record { fewer = record { subset = λ d h. h; completed = λ d done h. h }; state = equal.refl y.config.state }))),
+        (pushed_has nodes index c are x at y is within first from by (λ other. sym same_base) (record { fewer = record { subset = λ d h. h; completed = λ d done h. h }; state = equal.refl y.config.state }))),
   )
     where
       within : c < length p.calls
@@ -229,9 +246,32 @@ module _ {State Op Reply : Type 0} (p : Problem State Op Reply) where
       ];
     }
 
+    came_at : (x : Node State) → slice_get nodes index ≡ Some x → (x.base ≡ index → ⊥) → CameFrom p nodes index x
+    came_at x at other = (is.are index x at).came (let u = (is.are index x at).base in elim (least_or 0 index) [ inl h ↦ h | inr h ↦ absurd (other (omega (arith, u, h))) ])
+
+    pub from_within : (x : Node State) → slice_get nodes index ≡ Some x → (x.base ≡ index → ⊥) → x.from < length nodes
+    from_within x at other = let l = (came_at x at other).less in let h = get_within nodes index x at in omega (arith, l, h)
+
+    pub by_within : (x : Node State) → slice_get nodes index ≡ Some x → (x.base ≡ index → ⊥) → x.by < length p.calls
+    by_within x at other = let came = came_at x at other in next_within p came.node.config.state x.config.state x.by came.next.step
+
+    -- in a block a completed call that may as well come first was tried before the pending one
+    pub late_none : (x z : Node State) (c : ℕ) → slice_get nodes index ≡ Some x → (x.base ≡ index → ⊥) → slice_get nodes x.from ≡ Some z → ComesFirst p z.config x.by c → IsCompleted p c → NoneBegins p x.config.lifted x.config.state c
+    late_none x z c at other from first done l k =
+        let own : x.base ≡ base = is.block.same index x is.up (get_within nodes index x at) at in
+        let came : CameFrom p nodes index x = came_at x at other in
+        let node_is : came.node ≡ z = (let e = came.at in cc) in
+        let z_base : z.base ≡ base = ap (λ (v : Node State). v.base) (sym node_is) ∙ came.block other ∙ own in
+        let low : base ≤ x.from = (let u = (is.are x.from z from).base in omega (arith, u, z_base)) in
+        let next : IsNext p z.config.lifted z.config.state x.by x.config.state = subst (λ (v : Node State). IsNext p v.config.lifted v.config.state x.by x.config.state) node_is came.next in
+        let lifted : x.config.lifted ≡ with_call z.config.lifted x.by = subst (λ (v : Node State). x.config.lifted ≡ with_call v.config.lifted x.by) node_is came.lifted in
+        let both = completion_join p z.config.lifted z.config.state x.by (c ∷ l) x.config.state (is.are x.from z from).reachable.flags next (subst (λ (a : List Bool). IsCompletion p a x.config.state (c ∷ l)) lifted k) in
+        let turned = first l both in
+        is.block.none x.from z low came.less from c done turned.0 turned.1
+
   -- every call is covered at the node
-  pub block_next : (nodes : List (Node State)) (base index : ℕ) → IsBlockTo p nodes base (length nodes) index → base ≤ index → (x : Node State) → slice_get nodes index ≡ Some x → ((c : ℕ) → IsCovered p nodes base (length nodes) x.config c) → IsBlockTo p nodes base (length nodes) (index + 1)
-  block_next nodes base index block up x at covered = record {
+  pub block_next : (nodes : List (Node State)) (base index : ℕ) → IsBlockTo p nodes base (length nodes) index → base ≤ index → (x : Node State) → slice_get nodes index ≡ Some x → ((c : ℕ) → IsCovered p nodes base (length nodes) x.config c) → ((c : ℕ) → IsCompleted p c → NoneBegins p x.config.lifted x.config.state c) → IsBlockTo p nodes base (length nodes) (index + 1)
+  block_next nodes base index block up x at covered none = record {
     done = λ k z low less e c. elim (below_or_last k index less) [
       | inl early ↦ block.done k z low early e c
       | inr same ↦ (
@@ -240,14 +280,22 @@ module _ {State Op Reply : Type 0} (p : Problem State Op Reply) where
           subst (λ (w : Node State). IsCovered p nodes base (length nodes) w.config c) q (covered c)
           )
     ];
+    none = λ k z low less e. elim (below_or_last k index less) [
+      | inl early ↦ block.none k z low early e
+      | inr same ↦ (
+          let f : slice_get nodes index ≡ Some z = subst (λ (i : ℕ). slice_get nodes i ≡ Some z) same e in
+          let q : x ≡ z = cc in
+          subst (λ (w : Node State). (c : ℕ) → IsCompleted p c → NoneBegins p w.config.lifted w.config.state c) q none
+          )
+    ];
     same = block.same;
   }
 
-  pub search_next : (nodes : List (Node State)) (base index next : ℕ) → IsSearch p nodes base index next → index < length nodes → (x : Node State) → slice_get nodes index ≡ Some x → ((c : ℕ) → IsCovered p nodes base (length nodes) x.config c) → IsSearch p nodes base (index + 1) 0
-  search_next nodes base index next is within x at covered = record {
+  pub search_next : (nodes : List (Node State)) (base index next : ℕ) → IsSearch p nodes base index next → index < length nodes → (x : Node State) → slice_get nodes index ≡ Some x → ((c : ℕ) → IsCovered p nodes base (length nodes) x.config c) → ((c : ℕ) → IsCompleted p c → NoneBegins p x.config.lifted x.config.state c) → IsSearch p nodes base (index + 1) 0
+  search_next nodes base index next is within x at covered none = record {
     are = is.are;
     suspended = is.suspended;
-    block = block_next nodes base index is.block is.up x at covered;
+    block = block_next nodes base index is.block is.up x at covered none;
     own = is.own;
     up = (let u = is.up in omega (arith, u));
     within = omega (arith, within);
@@ -273,6 +321,7 @@ module _ {State Op Reply : Type 0} (p : Problem State Op Reply) where
     block = record {
       done = λ k x low less e c. covered_wider p old new base (length old) (length new) x.config c (λ j z l at. sym (same j l) ∙ at) (more_length old new index more)
           (is.block.done k x low less (same k (omega (arith, less, within)) ∙ e) c);
+      none = λ k x low less e. is.block.none k x low less (same k (omega (arith, less, within)) ∙ e);
       same = λ k x low less e. elim (least_or k (length old)) [
         | inl early ↦ is.block.same k x low early (same k early ∙ e)
         | inr past ↦ more.same at_index.0 at_index.1 k x past e ∙ at_base old base index next is at_index.0 within at_index.1
@@ -309,6 +358,7 @@ module _ {State Op Reply : Type 0} (p : Problem State Op Reply) where
     ];
     block = record {
       done = λ k z low less e c. absurd (omega (arith, low, less));
+      none = λ k z low less e. absurd (omega (arith, low, less));
       same = λ k z low less e. elim (get_end nodes y k z e) [
         | inl early ↦ absurd (let h = get_within nodes k z early in omega (arith, h, low))
         | inr last ↦ ap (λ (v : Node State). v.base) (sym last) ∙ own
@@ -401,6 +451,7 @@ module _ {State Op Reply : Type 0} (p : Problem State Op Reply) where
   module _ (alike : AreAlike p p) (nodes : List (Node State)) (base index next call : ℕ) (is : IsSearch p nodes base index next) (within : index < length nodes) (x : Node State) (at_x : slice_get nodes index ≡ Some x) where
     pub passed_alone : (child : Configuration State) → IsChild p x.config call child → LeavesStates p call → HasNoCompletion p child.lifted child.state → IsSearch p nodes base (index + 1) 0
     passed_alone child of leaves none = search_next nodes base index next is within x at_x (λ c l k. absurd (none_alone p x.config call (is.are index x at_x).reachable.flags alike leaves child of none (c ∷ l) k))
+        (λ c done l k. none_alone p x.config call (is.are index x at_x).reachable.flags alike leaves child of none (c ∷ l) k)
 
     pub passed_other : (child : Configuration State) → IsChild p x.config call child → IsAt nodes index (λ z. NoneBeginsBelow p z.config call) → HasNoCompletion p child.lifted child.state → IsSearch p nodes base index (call + 1)
     passed_other child of below none = search_other nodes base index next is call below (at_one nodes index x (λ (z : Node State). NoneBegins p z.config.lifted z.config.state call) at_x (none_by_child p x.config call (is.are index x at_x).reachable.flags child of none))
@@ -412,7 +463,7 @@ module _ {State Op Reply : Type 0} (p : Problem State Op Reply) where
     pub entered : (y : Node State) → IsChild p x.config call y.config → IsFirstLeft p y.config.lifted y.first → y.from ≡ index → y.by ≡ call → y.base ≡ length nodes
         → (IsTrue y.alone → LeavesStates p call) → (IsFalse y.alone → IsAt nodes index (λ z. NoneBeginsBelow p z.config call)) → IsSearch p (nodes ++ y ∷ []) (length nodes) (length nodes) 0
     entered y of first from by own alone below = search_entered nodes base index next is x y at_x
-        (pushed_nodes nodes index call is.are x at_x y of (next_within p x.config.state y.config.state call of.next.step) first from by (let e = own in omega (arith, e)) (y, subst (λ (i : ℕ). slice_get (nodes ++ y ∷ []) i ≡ Some y) (sym own) (get_last nodes y), refl))
+        (pushed_nodes nodes index call is.are x at_x y of (next_within p x.config.state y.config.state call of.next.step) first from by (λ other. absurd (other own)) (let e = own in omega (arith, e)) (y, subst (λ (i : ℕ). slice_get (nodes ++ y ∷ []) i ≡ Some y) (sym own) (get_last nodes y), refl))
         from own (λ h. subst (λ (c : ℕ). LeavesStates p c) (sym by) (alone h)) (λ h. subst (λ (c : ℕ). NoneBeginsBelow p x.config c) (sym by) (below h x at_x))
 
     pub child_below : (child : Configuration State) → IsChild p x.config call child → HasCompletedBelow p child.lifted x.first
@@ -469,6 +520,7 @@ module _ {State Op Reply : Type 0} (p : Problem State Op Reply) where
     suspended = λ b x some e own_. absurd (let h = get_within (y ∷ []) b x e in omega (arith, h, some));
     block = record {
       done = λ k x low less e c. absurd (omega (arith, less));
+      none = λ k x low less e. absurd (omega (arith, less));
       same = λ k x low less e. elim (get_end [] y k x e) [ inl early ↦ absurd (cc) | inr last ↦ ap (λ (v : Node State). v.base) (sym last) ∙ own ];
     };
     own = (y, refl, own);

@@ -10,6 +10,21 @@ use Rattle.lin_history.specs.Problems.Continuations.{has}
 abbrev pub HasCompletedBelow : {State Op Reply : Type 0} → Problem State Op Reply → List Bool → ℕ → Type 0
 HasCompletedBelow p set first = (c : ℕ) → c < first → IsCompleted p c → has set c ≡ true
 
+-- Each call from the one on and below the other is completed.
+abbrev pub AreCompletedTo : {State Op Reply : Type 0} → Problem State Op Reply → ℕ → ℕ → Type 0
+AreCompletedTo p from to = (c : ℕ) → from ≤ c → c < to → c < length p.calls → IsCompleted p c
+
+-- Each call from the one on and below the other is completed, and below the first one.
+abbrev pub AreLeftOrDone : {State Op Reply : Type 0} → Problem State Op Reply → ℕ → ℕ → ℕ → Type 0
+AreLeftOrDone p first from to = (c : ℕ) → from ≤ c → c < to → c < length p.calls → IsCompleted p c × (c < first)
+
+-- For each of some calls, from the first on, the first one from it on that is pending; those behind them are completed.
+pub record AreNextPending {State Op Reply : Type 0} (p : Problem State Op Reply) (next : List ℕ) (to : ℕ) : Type 0 where
+  pub up : (c d : ℕ) → slice_get next c ≡ Some d → c ≤ d
+  pub between : (c d : ℕ) → slice_get next c ≡ Some d → AreCompletedTo p c d
+  pub behind : AreCompletedTo p (length next) to
+  pub few : length next ≤ to
+
 -- It is the first completed call that is not in the set.
 pub record IsFirstLeft {State Op Reply : Type 0} (p : Problem State Op Reply) (set : List Bool) (first : ℕ) : Type 0 where
   pub within : first < length p.calls

@@ -2,4 +2,6 @@ pub mod Fewer
 pub mod Knowledge
 pub mod Nodes
 pub mod Fronts
+pub mod Turns
+pub mod Adds
 pub mod Answers

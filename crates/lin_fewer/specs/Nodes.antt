@@ -47,6 +47,7 @@ pub record CameFrom {State Op Reply : Type 0} (p : Problem State Op Reply) (node
   pub at : slice_get nodes x.from ≡ Some node
   pub next : IsNext p node.config.lifted node.config.state x.by x.config.state
   pub lifted : x.config.lifted ≡ with_call node.config.lifted x.by
+  pub block : (x.base ≡ k → ⊥) → node.base ≡ x.base
 
 -- A node of a search: not complete, with its block, and it came from a node before.
 pub record IsNode {State Op Reply : Type 0} (p : Problem State Op Reply) (nodes : List (Node State)) (k : ℕ) (x : Node State) : Type 0 where
@@ -56,9 +57,10 @@ pub record IsNode {State Op Reply : Type 0} (p : Problem State Op Reply) (nodes 
   pub own : (z : Node State) × (slice_get nodes x.base ≡ Some z) × (z.base ≡ x.base)
   pub came : 0 < k → CameFrom p nodes k x
 
--- The nodes of one block, of which each below the index is covered.
+-- The nodes of one block. At each below the index every call is covered, and no completion begins with a completed one.
 pub record IsBlockTo {State Op Reply : Type 0} (p : Problem State Op Reply) (nodes : List (Node State)) (low high index : ℕ) : Type 0 where
   pub done : (k : ℕ) (x : Node State) → low ≤ k → k < index → slice_get nodes k ≡ Some x → (c : ℕ) → IsCovered p nodes low high x.config c
+  pub none : (k : ℕ) (x : Node State) → low ≤ k → k < index → slice_get nodes k ≡ Some x → (c : ℕ) → IsCompleted p c → NoneBegins p x.config.lifted x.config.state c
   pub same : (k : ℕ) (x : Node State) → low ≤ k → k < high → slice_get nodes k ≡ Some x → x.base ≡ low
 
 -- The base of a block, and how far the block below got before it.

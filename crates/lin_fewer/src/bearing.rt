@@ -16,22 +16,15 @@ use crate::borne::note_borne;
 use crate::completed_calls::{next_call, still_child};
 use crate::front::least_return;
 use crate::laws::fewer_law;
-use crate::node::{Link, Node, at, child_of};
-use crate::pending_calls::add_pending;
+use crate::node::{Link, Node, Place, at, child_of};
+use crate::pending_calls::cover_pending;
+use crate::rules::Rules;
 use crate::search::{Search, key_of, mixed};
 use crate::seen::{Seen, known_of};
 use crate::verdict::Verdict;
 use lin_object::{SeqObject, lawful};
 use lin_search::{Config, Stop};
 use std::alloc::AllocError;
-
-// Where a search is: the base of its block, the node at hand, and below which call its completed calls were tried.
-#[derive(Clone, Copy)]
-struct Place {
-    base: usize,
-    index: usize,
-    next: usize,
-}
 
 // A call that is tried, and whether it alone is.
 #[derive(Clone, Copy)]
@@ -72,8 +65,8 @@ fn after(place: Place, tried: Try) -> Place
 }
 
 // Goes on with what the call leads to from the node at hand: a new block, unless something is known of it.
-fn enter<O: SeqObject>(
-    search: &mut Search<'_, O>,
+fn enter<O: SeqObject, R: Rules<O>>(
+    search: &mut Search<'_, O, R>,
     nodes: &mut Vec<Node<O>>,
     place: &mut Place,
     tried: Try,
@@ -129,8 +122,8 @@ fn enter<O: SeqObject>(
 }
 
 // Closes the block, each node of which is covered, and goes on where its base came from.
-fn close<O: SeqObject>(
-    search: &mut Search<'_, O>,
+fn close<O: SeqObject, R: Rules<O>>(
+    search: &mut Search<'_, O, R>,
     nodes: &mut Vec<Node<O>>,
     place: &mut Place,
 ) -> Result<Option<Verdict>, AllocError>
@@ -169,8 +162,8 @@ fn close<O: SeqObject>(
 }
 
 // Tries the next call at the node at hand. Where there is none left to try, its pending calls are followed.
-fn try_next<O: SeqObject>(
-    search: &mut Search<'_, O>,
+fn try_next<O: SeqObject, R: Rules<O>>(
+    search: &mut Search<'_, O, R>,
     nodes: &mut Vec<Node<O>>,
     place: &mut Place,
 ) -> Result<Option<Verdict>, AllocError>
@@ -187,8 +180,8 @@ fn try_next<O: SeqObject>(
     lawful::<O>();
     let node = at(nodes.as_slice(), place.index);
     let bound = least_return(search.problem(), node.config().lifted(), node.first());
-    let Some(call) = next_call(search, node, bound, place.next) else {
-        add_pending(search, nodes, place.index, bound)?;
+    let Some(call) = next_call(search, nodes.as_slice(), *place, bound) else {
+        cover_pending(search, nodes, place.index, bound)?;
         place.index += 1;
         place.next = 0;
         return Ok(None);
@@ -203,8 +196,8 @@ fn try_next<O: SeqObject>(
 }
 
 // Makes one step: the verdict on the first node, where it is known then.
-fn step<O: SeqObject>(
-    search: &mut Search<'_, O>,
+fn step<O: SeqObject, R: Rules<O>>(
+    search: &mut Search<'_, O, R>,
     nodes: &mut Vec<Node<O>>,
     place: &mut Place,
 ) -> Result<Option<Verdict>, AllocError>
@@ -237,8 +230,8 @@ fn step<O: SeqObject>(
 /// Whether the configuration has a completion. Nothing is told where no step is left, or the stop answers.
 ///
 /// Conditions: it is reachable, and the completed calls below this one are lifted.
-pub(crate) fn bears<O: SeqObject, S: Stop>(
-    search: &mut Search<'_, O>,
+pub(crate) fn bears<O: SeqObject, R: Rules<O>, S: Stop>(
+    search: &mut Search<'_, O, R>,
     stop: &mut S,
     config: Config<O>,
     from: usize,

@@ -9,6 +9,7 @@ ghost use Rattle.lin_fewer.specs.Nodes.{AreNodes, BearsBy, IsAt};
 
 use crate::laws::fewer_law;
 use crate::node::{Node, at};
+use crate::rules::Rules;
 use crate::search::{Search, key_of};
 use lin_history::Problem;
 use lin_object::{SeqObject, lawful};
@@ -34,8 +35,8 @@ fn take_out<O: SeqObject>(
 }
 
 // Notes what the node bears, if it is the base of a block.
-fn note_base<O: SeqObject>(
-    search: &mut Search<'_, O>,
+fn note_base<O: SeqObject, R: Rules<O>>(
+    search: &mut Search<'_, O, R>,
     nodes: &[Node<O>],
     index: usize,
     borne: &CallSet,
@@ -56,8 +57,8 @@ fn note_base<O: SeqObject>(
 
 /// Notes what the nodes bear from which the configuration came that bears this: the call led to it from the node at the index. So the
 /// first node has a completion.
-pub(crate) fn note_borne<O: SeqObject>(
-    search: &mut Search<'_, O>,
+pub(crate) fn note_borne<O: SeqObject, R: Rules<O>>(
+    search: &mut Search<'_, O, R>,
     nodes: &[Node<O>],
     index: usize,
     call: usize,

@@ -7,19 +7,20 @@ ghost use Rattle.lin_history.specs.Problems.Continuations.{has};
 ghost use Rattle.lin_history.specs.Problems.Configurations.{IsReachable};
 ghost use Rattle.lin_search.specs.Entries.{IsMinimal};
 ghost use Rattle.lin_search.specs.NeedlessCalls.{LeavesStates};
-ghost use Rattle.lin_fewer.specs.Fronts.{IsCalledBy, IsFirstLeft, IsLeastReturn};
-ghost use Rattle.lin_fewer.specs.Nodes.{IsChild, NoneBegins, NoneBeginsBelow};
+ghost use Rattle.lin_fewer.specs.Fronts.{IsCalledBy, IsLeastReturn};
+ghost use Rattle.lin_fewer.specs.Nodes.{IsAt, IsChild, IsSearch, NoneBegins, NoneBeginsBelow};
 
 use crate::front::{is_completed, is_later};
-use crate::node::{Node, child_of};
+use crate::node::{Node, Place, at, child_of};
+use crate::rules::Rules;
 use crate::search::Search;
 use lin_object::{SeqObject, lawful};
 use lin_search::{Config, ends_the_list};
 use std::alloc::AllocError;
 
 // What the call leads to, if it is completed, can follow, and changes nothing.
-fn still_child_by<O: SeqObject>(
-    search: &Search<'_, O>,
+fn still_child_by<O: SeqObject, R: Rules<O>>(
+    search: &Search<'_, O, R>,
     node: &Node<O>,
     bound: u32,
     call: usize,
@@ -43,8 +44,8 @@ fn still_child_by<O: SeqObject>(
 }
 
 /// A completed call that can follow the node and changes nothing, so that it alone is tried, and what it leads to.
-pub(crate) fn still_child<O: SeqObject>(
-    search: &Search<'_, O>,
+pub(crate) fn still_child<O: SeqObject, R: Rules<O>>(
+    search: &Search<'_, O, R>,
     node: &Node<O>,
     bound: u32,
 ) -> Result<Option<(usize, Config<O>)>, AllocError>
@@ -66,16 +67,47 @@ pub(crate) fn still_child<O: SeqObject>(
     Ok(None)
 }
 
-// Whether the completed call is to be tried at the node: it is left, and no identical call before it is.
-fn is_to_be_tried<O: SeqObject>(search: &Search<'_, O>, node: &Node<O>, call: usize) -> bool
+// Whether the completed call was tried in front of the pending one by which the search came to the node, and may as well stand there.
+fn came_first<O: SeqObject, R: Rules<O>>(
+    search: &Search<'_, O, R>,
+    nodes: &[Node<O>],
+    place: Place,
+    call: usize,
+) -> bool
+    requires search { IsSearch (problem_of O.after O.State.eq O.Reply.eq search.now) nodes.now place.base place.index place.next }
+    requires index { place.index < length nodes.now }
     requires call { call < length search.now.calls }
-    requires before { NoneBeginsBelow (problem_of O.after O.State.eq O.Reply.eq search.now) node.now.config call }
-    ensures yes { IsTrue result → has node.now.config.lifted call ≡ false }
-    ensures no { IsFalse result → IsCompleted (problem_of O.after O.State.eq O.Reply.eq search.now) call
-        → NoneBegins (problem_of O.after O.State.eq O.Reply.eq search.now) node.now.config.lifted node.now.config.state call }
+    ensures { IsTrue result → IsCompleted (problem_of O.after O.State.eq O.Reply.eq search.now) call → IsAt nodes.now place.index
+        (λ x. NoneBegins (problem_of O.after O.State.eq O.Reply.eq search.now) x.config.lifted x.config.state call) }
+{
+    let link = at(nodes, place.index).link();
+    if link.base == place.index {
+        return false;
+    }
+    let from = at(nodes, link.from).config();
+    search
+        .rules()
+        .comes_first(search.problem(), from, link.by, call)
+}
+
+// Whether the completed call is to be tried at the node at hand: it is left, no identical call before it is, and it was not tried in
+// front of the pending one.
+fn is_to_be_tried<O: SeqObject, R: Rules<O>>(
+    search: &Search<'_, O, R>,
+    nodes: &[Node<O>],
+    place: Place,
+    call: usize,
+) -> bool
+    requires search { IsSearch (problem_of O.after O.State.eq O.Reply.eq search.now) nodes.now place.base place.index place.next }
+    requires index { place.index < length nodes.now }
+    requires call { call < length search.now.calls }
+    requires before { IsAt nodes.now place.index (λ x. NoneBeginsBelow (problem_of O.after O.State.eq O.Reply.eq search.now) x.config call) }
+    ensures yes { IsTrue result → IsAt nodes.now place.index (λ x. has x.config.lifted call ≡ false) }
+    ensures no { IsFalse result → IsCompleted (problem_of O.after O.State.eq O.Reply.eq search.now) call → IsAt nodes.now place.index
+        (λ x. NoneBegins (problem_of O.after O.State.eq O.Reply.eq search.now) x.config.lifted x.config.state call) }
 {
     lawful::<O>();
-    let config = node.config();
+    let config = at(nodes, place.index).config();
     if !is_completed(search.problem(), call) {
         return false;
     }
@@ -85,32 +117,34 @@ fn is_to_be_tried<O: SeqObject>(search: &Search<'_, O>, node: &Node<O>, call: us
     if search.has_earlier(config.lifted(), call) {
         return false;
     }
+    if came_first(search, nodes, place, call) {
+        return false;
+    }
     true
 }
 
-/// The first completed call that is to be tried at the node, from this one on. `None` where there is none.
-///
-/// Condition: no completed call below it begins a completion there.
-pub(crate) fn next_call<O: SeqObject>(
-    search: &Search<'_, O>,
-    node: &Node<O>,
+/// The first completed call that is to be tried at the node at hand, from the place's call on. `None` where there is none.
+pub(crate) fn next_call<O: SeqObject, R: Rules<O>>(
+    search: &Search<'_, O, R>,
+    nodes: &[Node<O>],
+    place: Place,
     bound: u32,
-    from: usize,
 ) -> Option<usize>
-    requires first { IsFirstLeft (problem_of O.after O.State.eq O.Reply.eq search.now) node.now.config.lifted node.now.first }
-    requires bound { IsLeastReturn (problem_of O.after O.State.eq O.Reply.eq search.now) node.now.config.lifted bound }
-    requires before { NoneBeginsBelow (problem_of O.after O.State.eq O.Reply.eq search.now) node.now.config from }
-    ensures minimal { IfSome result (IsMinimal (problem_of O.after O.State.eq O.Reply.eq search.now) node.now.config.lifted) }
-    ensures before { IfSome result (NoneBeginsBelow (problem_of O.after O.State.eq O.Reply.eq search.now) node.now.config) }
-    ensures none { IfNone result ((c : ℕ) → IsCompleted (problem_of O.after O.State.eq O.Reply.eq search.now) c
-        → NoneBegins (problem_of O.after O.State.eq O.Reply.eq search.now) node.now.config.lifted node.now.config.state c) }
+    requires search { IsSearch (problem_of O.after O.State.eq O.Reply.eq search.now) nodes.now place.base place.index place.next }
+    requires index { place.index < length nodes.now }
+    requires bound { IsAt nodes.now place.index (λ x. IsLeastReturn (problem_of O.after O.State.eq O.Reply.eq search.now) x.config.lifted bound) }
+    ensures minimal { IfSome result (λ call. IsAt nodes.now place.index (λ x. IsMinimal (problem_of O.after O.State.eq O.Reply.eq search.now) x.config.lifted call)) }
+    ensures before { IfSome result (λ call. IsAt nodes.now place.index (λ x. NoneBeginsBelow (problem_of O.after O.State.eq O.Reply.eq search.now) x.config call)) }
+    ensures none { IfNone result (IsAt nodes.now place.index (λ x. (c : ℕ) → IsCompleted (problem_of O.after O.State.eq O.Reply.eq search.now) c
+        → NoneBegins (problem_of O.after O.State.eq O.Reply.eq search.now) x.config.lifted x.config.state c)) }
 {
     let problem = search.problem();
-    for call in usize::max(from, node.first())..problem.len() {
+    let node = at(nodes, place.index);
+    for call in usize::max(place.next, node.first())..problem.len() {
         if is_later(problem, call, bound) {
             return None;
         }
-        if is_to_be_tried(search, node, call) {
+        if is_to_be_tried(search, nodes, place, call) {
             return Some(call);
         }
     }

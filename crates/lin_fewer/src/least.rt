@@ -14,6 +14,7 @@ use crate::bearing::bears;
 use crate::front::{first_left, is_completed, is_later, least_return};
 use crate::laws::fewer_law;
 use crate::node::child_of;
+use crate::rules::Rules;
 use crate::search::{Search, mixed};
 use crate::verdict::{Verdict, is_completion, is_refutation};
 use lin_history::{Order, Problem};
@@ -46,8 +47,8 @@ struct Asked<'c, O: SeqObject> {
 }
 
 // Whether a completion begins with the call.
-fn begins<O: SeqObject, S: Stop>(
-    search: &mut Search<'_, O>,
+fn begins<O: SeqObject, R: Rules<O>, S: Stop>(
+    search: &mut Search<'_, O, R>,
     stop: &mut S,
     asked: &Asked<'_, O>,
     call: usize,
@@ -80,8 +81,8 @@ fn begins<O: SeqObject, S: Stop>(
 }
 
 // The least call with which a completion begins. `None` where that is not known.
-fn least_call<O: SeqObject, S: Stop>(
-    search: &mut Search<'_, O>,
+fn least_call<O: SeqObject, R: Rules<O>, S: Stop>(
+    search: &mut Search<'_, O, R>,
     stop: &mut S,
     config: &Config<O>,
     first: usize,
@@ -116,8 +117,8 @@ fn least_call<O: SeqObject, S: Stop>(
 }
 
 // The same from the root on, which has a completion.
-fn least_order<O: SeqObject, S: Stop>(
-    search: &mut Search<'_, O>,
+fn least_order<O: SeqObject, R: Rules<O>, S: Stop>(
+    search: &mut Search<'_, O, R>,
     stop: &mut S,
     root: Config<O>,
 ) -> Result<Option<Vec<usize>>, AllocError>
@@ -163,9 +164,10 @@ pub fn has_many_pending<O: SeqObject>(problem: &Problem<O>) -> bool {
 
 /// The least linearization of the problem, in lexicographic order, or that there is none, where that is told within so many steps and
 /// before the stop answers. `AllocError` where memory was refused.
-pub fn least_linearization<O: SeqObject, S: Stop>(
+pub fn least_linearization<O: SeqObject, R: Rules<O>, S: Stop>(
     alloc: Global,
     problem: &Problem<O>,
+    rules: &R,
     steps: u64,
     stop: &mut S,
 ) -> Result<Told, AllocError>
@@ -173,7 +175,7 @@ pub fn least_linearization<O: SeqObject, S: Stop>(
 {
     lawful::<O>();
     fewer_law(problem);
-    let mut search = Search::new(alloc, problem, steps)?;
+    let mut search = Search::new(alloc, problem, rules, steps)?;
     let root = Config::root(alloc, problem)?;
     let copy = root.copy(alloc, problem)?;
     match bears(&mut search, stop, copy, 0, 0)? {

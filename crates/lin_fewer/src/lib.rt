@@ -19,9 +19,16 @@ mod laws;
 mod least;
 mod node;
 mod pending_calls;
+mod rules;
 mod search;
 mod seen;
+mod sum_hints;
+mod sums;
 mod verdict;
+mod waiting;
 
 pub use laws::fewer_law;
 pub use least::{has_many_pending, least_linearization};
+pub use rules::{NoRules, Rules};
+pub use sums::SumRules;
+pub use waiting::Waiting;

@@ -91,6 +91,14 @@ impl<O: SeqObject> Node<O> {
     }
 }
 
+/// Where a search is: the base of its block, the node at hand, and below which call its completed calls were tried.
+#[derive(Clone, Copy)]
+pub(crate) struct Place {
+    pub(crate) base: usize,
+    pub(crate) index: usize,
+    pub(crate) next: usize,
+}
+
 /// The node at the index.
 pub(crate) fn at<O: SeqObject>(nodes: &[Node<O>], index: usize) -> &Node<O>
     requires { index < length nodes.now }

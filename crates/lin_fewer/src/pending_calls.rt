@@ -9,14 +9,15 @@ ghost use Rattle.lin_fewer.specs.Nodes.{AreNodes, HasNoWorse, IsAt, IsChild, IsC
 use crate::front::{is_completed, is_later};
 use crate::laws::fewer_law;
 use crate::node::{Link, Node, at, child_of};
+use crate::rules::Rules;
 use crate::search::Search;
 use lin_object::{SeqObject, lawful};
 use lin_search::Config;
 use std::alloc::AllocError;
 
 // Whether one of the nodes from the base on is no worse than the configuration.
-fn has_no_worse<O: SeqObject>(
-    search: &Search<'_, O>,
+fn has_no_worse<O: SeqObject, R: Rules<O>>(
+    search: &Search<'_, O, R>,
     nodes: &[Node<O>],
     base: usize,
     config: &Config<O>,
@@ -33,8 +34,8 @@ fn has_no_worse<O: SeqObject>(
 }
 
 // Puts what the pending call leads to from the node at the index behind the nodes, unless one of the block is no worse.
-fn add_child<O: SeqObject>(
-    search: &Search<'_, O>,
+fn add_child<O: SeqObject, R: Rules<O>>(
+    search: &Search<'_, O, R>,
     nodes: &mut Vec<Node<O>>,
     index: usize,
     call: usize,
@@ -54,6 +55,9 @@ fn add_child<O: SeqObject>(
     let from = at(nodes.as_slice(), index);
     let first = from.first();
     let link = from.link();
+    if search.rules().refutes(search.waiting(), &child, first) {
+        return Ok(());
+    }
     if has_no_worse(search, nodes.as_slice(), link.base, &child) {
         return Ok(());
     }
@@ -69,8 +73,8 @@ fn add_child<O: SeqObject>(
 }
 
 // The same for a call called before all that is left returned, if it is pending and can follow.
-fn add_call<O: SeqObject>(
-    search: &Search<'_, O>,
+fn add_call<O: SeqObject, R: Rules<O>>(
+    search: &Search<'_, O, R>,
     nodes: &mut Vec<Node<O>>,
     index: usize,
     call: usize,
@@ -107,12 +111,9 @@ fn add_call<O: SeqObject>(
     Ok(())
 }
 
-/// Puts what pending calls lead to from the node at the index behind the nodes, unless one of its block is no worse. Then each call is
-/// covered there.
-///
-/// Condition: no completed call begins a completion there.
-pub(crate) fn add_pending<O: SeqObject>(
-    search: &Search<'_, O>,
+// The same for each call.
+fn add_pending<O: SeqObject, R: Rules<O>>(
+    search: &Search<'_, O, R>,
     nodes: &mut Vec<Node<O>>,
     index: usize,
     bound: u32,
@@ -127,11 +128,48 @@ pub(crate) fn add_pending<O: SeqObject>(
     ensures covered { OnOk result ((c : ℕ) → IsCoveredAt (problem_of O.after O.State.eq O.Reply.eq search.now) nodes.new.items index c) }
 {
     let problem = search.problem();
-    for call in 0..problem.len() {
+    let _calls = problem.calls();
+    let waiting = search.waiting();
+    let mut call = waiting.from(0);
+    'calls: for turn in 0..problem.len() {
+        if call >= problem.len() {
+            return Ok(());
+        }
         if is_later(problem, call, bound) {
             return Ok(());
         }
         add_call(search, nodes, index, call, bound)?;
+        call = waiting.from(call + 1);
     }
     Ok(())
+}
+
+/// Puts what pending calls lead to from the node at the index behind the nodes, unless one of its block is no worse, or no pending call
+/// need be tried there. Then each call is covered there.
+///
+/// Condition: no completed call begins a completion there.
+pub(crate) fn cover_pending<O: SeqObject, R: Rules<O>>(
+    search: &Search<'_, O, R>,
+    nodes: &mut Vec<Node<O>>,
+    index: usize,
+    bound: u32,
+) -> Result<(), AllocError>
+    requires nodes { AreNodes (problem_of O.after O.State.eq O.Reply.eq search.now) nodes.old.items }
+    requires index { index < length nodes.old.items }
+    requires none { IsAt nodes.old.items index (λ x. (c : ℕ) → IsCompleted (problem_of O.after O.State.eq O.Reply.eq search.now) c
+        → NoneBegins (problem_of O.after O.State.eq O.Reply.eq search.now) x.config.lifted x.config.state c) }
+    requires bound { IsAt nodes.old.items index (λ x. IsLeastReturn (problem_of O.after O.State.eq O.Reply.eq search.now)
+        x.config.lifted bound) }
+    ensures more { OnOk result (IsMoreOf (problem_of O.after O.State.eq O.Reply.eq search.now) nodes.old.items nodes.new.items index) }
+    ensures covered { OnOk result ((c : ℕ) → IsCoveredAt (problem_of O.after O.State.eq O.Reply.eq search.now) nodes.new.items index c) }
+{
+    let node = at(nodes.as_slice(), index);
+    let config = node.config();
+    if search
+        .rules()
+        .begins_completed(search.waiting(), config, node.first(), bound)
+    {
+        return Ok(());
+    }
+    add_pending(search, nodes, index, bound)
 }

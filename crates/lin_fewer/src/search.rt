@@ -11,6 +11,8 @@ ghost use Rattle.lin_fewer.specs.Knowledge.{IsBorne, HasEarlier, HasEvery, ArePe
 use crate::front::is_completed;
 use crate::known::Known;
 use crate::laws::fewer_law;
+use crate::rules::Rules;
+use crate::waiting::Waiting;
 use lin_history::Problem;
 use lin_object::{SeqObject, lawful};
 use lin_search::{CallSet, Config, IdenticalCalls, repeats};
@@ -24,9 +26,11 @@ const LOOKS: usize = 1 << 12;
 /// What a search knows of its problem: its pending calls, for each call an identical one, the configurations found to have no
 /// completion and those found to have one, and how many steps are left. Contracts see the problem.
 #[derive(Drop)]
-pub(crate) struct Search<'p, O: SeqObject> {
+pub(crate) struct Search<'p, O: SeqObject, R> {
     alloc: Global,
     problem: &'p Problem<O>,
+    rules: &'p R,
+    waiting: Waiting<'p, O>,
     pending: CallSet,
     all: CallSet,
     identical: IdenticalCalls,
@@ -35,9 +39,10 @@ pub(crate) struct Search<'p, O: SeqObject> {
     left: u64,
 }
 
-impl<'p, O: SeqObject> Model for Search<'p, O> {
+impl<'p, O: SeqObject, R> Model for Search<'p, O, R> {
     ghost use Rattle.lin_history.specs.Problems.ProblemParts.{ProblemParts};
     ghost use Rattle.lin_history.specs.Problems.Problem.{problem_of};
+    ghost use Rattle.std.specs.Prelude.{◌≡◌};
     ghost use Rattle.lin_fewer.specs.Knowledge.{IsKnowledge};
 
     ghost Value = { ProblemParts O O.State O.Op O.Reply };
@@ -45,7 +50,7 @@ impl<'p, O: SeqObject> Model for Search<'p, O> {
     ghost view = { λ s. s.problem.now };
 
     ghost invariant = { λ s. IsKnowledge (problem_of O.after O.State.eq O.Reply.eq s.problem.now)
-        s.pending s.all s.refuted s.good };
+        s.pending s.all s.refuted s.good × (s.waiting ≡ s.problem.now) };
 }
 
 // A number whose bits all depend on all of this one's.
@@ -103,11 +108,12 @@ fn pending_calls<O: SeqObject>(alloc: Global, problem: &Problem<O>) -> Result<Ca
     Ok(pending)
 }
 
-impl<'p, O: SeqObject> Search<'p, O> {
+impl<'p, O: SeqObject, R: Rules<O>> Search<'p, O, R> {
     /// What is known before the first step, with so many steps left.
     pub(crate) fn new(
         alloc: Global,
         problem: &'p Problem<O>,
+        rules: &'p R,
         steps: u64,
     ) -> Result<Self, AllocError>
         ensures { IfOk result (λ search. search ≡ problem.now) }
@@ -118,6 +124,8 @@ impl<'p, O: SeqObject> Search<'p, O> {
         Ok(Search {
             alloc,
             problem,
+            rules,
+            waiting: Waiting::of(alloc, problem)?,
             pending,
             all,
             identical,
@@ -137,6 +145,18 @@ impl<'p, O: SeqObject> Search<'p, O> {
         ensures { result.now ≡ self.now }
     {
         self.problem
+    }
+
+    /// What may be passed over.
+    pub(crate) fn rules(&self) -> &'p R {
+        self.rules
+    }
+
+    /// The pending calls of the problem.
+    pub(crate) fn waiting(&self) -> &Waiting<'p, O>
+        ensures { result.now ≡ self.now }
+    {
+        &self.waiting
     }
 
     /// Whether a step was left. It is one fewer then.

@@ -7,6 +7,7 @@ ghost use Rattle.lin_fewer.specs.Fronts.{HasCompletedBelow};
 ghost use Rattle.lin_fewer.specs.Answers.{IsSeen};
 
 use crate::front::first_left;
+use crate::rules::Rules;
 use crate::search::{Search, key_of};
 use lin_object::SeqObject;
 use lin_search::{CallSet, Config};
@@ -25,8 +26,8 @@ pub enum Seen {
 
 /// What is known of the configuration, of whose completed calls the mixed numbers make this sum. Condition: those below this one are
 /// lifted.
-pub(crate) fn known_of<O: SeqObject>(
-    search: &Search<'_, O>,
+pub(crate) fn known_of<O: SeqObject, R: Rules<O>>(
+    search: &Search<'_, O, R>,
     config: &Config<O>,
     from: usize,
     completed: u64,
@@ -42,6 +43,9 @@ pub(crate) fn known_of<O: SeqObject>(
     let key = key_of(completed, config);
     if let Some(borne) = search.known_borne(config, key)? {
         return Ok(Seen::Bears(borne));
+    }
+    if search.rules().refutes(search.waiting(), config, first) {
+        return Ok(Seen::Refuted);
     }
     if search.is_refuted(config, key) {
         return Ok(Seen::Refuted);

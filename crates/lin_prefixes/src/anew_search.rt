@@ -19,9 +19,9 @@ use lin_ahead::{
     KnownAhead, known_ahead, search_first, some_came_too_early, some_push_crosses,
     some_was_taken_twice,
 };
-use lin_fewer::{has_many_pending, least_linearization};
+use lin_fewer::{SumRules, has_many_pending, least_linearization};
 use lin_history::{Problem, ProblemEvent};
-use lin_object::AnyObject;
+use lin_object::{AnyObject, ObjState};
 use lin_parts::{is_part, search_by_key};
 use lin_search::{AtTimes, Stop, Told, search_for_order};
 use std::alloc::{AllocError, Global};
@@ -50,8 +50,11 @@ const STEPS_FOR_A_LIFT_OF_A_BOUND: u64 = 64;
 const STEPS_LIKE_A_LIFT: u64 = 32;
 
 // How many steps such a search makes at most, times how many calls there are. With more calls a step takes longer, and more of them are
-// wanted: with thousands of calls it is no good bet, and the full search would wait for it.
+// wanted: with thousands of calls it is no good bet, and the full search would wait for it. Of a counter it is one: what its gets leave
+// room for bounds it.
 const MOST_STEPS_TIMES_CALLS: u64 = 200_000_000;
+
+const MOST_STEPS_TIMES_CALLS_OF_A_COUNTER: u64 = 4_000_000_000;
 
 // What counts as a lift beside the lifts: each part that is made, and so many of its calls; and of what is done between searches so
 // many looks at a call.
@@ -77,14 +80,31 @@ fn rounds_for(wish: Wish, known: &Option<KnownAhead>) -> usize {
     }
 }
 
-// How many steps a search of so many calls makes beside one of so many lifts. `None` where it is no good bet.
-fn steps_for(wish: Wish, lifts: u64, calls: usize) -> Option<u64> {
+// Whether the object is a counter.
+fn is_counter(part: &Problem<AnyObject>) -> bool {
+    match part.start() {
+        ObjState::Counter(_) => true,
+        _ => false,
+    }
+}
+
+// How many steps times how many calls a search of the part makes at most.
+fn most_steps_times_calls(part: &Problem<AnyObject>) -> u64 {
+    if is_counter(part) {
+        MOST_STEPS_TIMES_CALLS_OF_A_COUNTER
+    } else {
+        MOST_STEPS_TIMES_CALLS
+    }
+}
+
+// How many steps a search of the part makes beside one of so many lifts. `None` where it is no good bet.
+fn steps_for(wish: Wish, lifts: u64, part: &Problem<AnyObject>) -> Option<u64> {
     let for_a_lift = match wish {
         Wish::Order => STEPS_FOR_A_LIFT,
         Wish::Bound | Wish::Group => STEPS_FOR_A_LIFT_OF_A_BOUND,
     };
     let steps = lifts.saturating_mul(for_a_lift);
-    if steps.saturating_mul(calls as u64) > MOST_STEPS_TIMES_CALLS {
+    if steps.saturating_mul(part.len() as u64) > most_steps_times_calls(part) {
         return None;
     }
     Some(steps)
@@ -131,7 +151,8 @@ fn told_in_steps<S: Stop>(
 ) -> Result<Told, AllocError>
     ensures { IfOk result (IsRightOf (any_problem part.now)) }
 {
-    least_linearization(alloc, part, steps, &mut AtTimes::new(stop))
+    let rules = SumRules::of(alloc, part)?;
+    least_linearization(alloc, part, &rules, steps, &mut AtTimes::new(stop))
 }
 
 // Whether what is known ahead shows that there is no linearization: some calls were in vain, or they cross, of a queue by what they
@@ -234,11 +255,29 @@ impl<'a, S: Stop> AnewSearch<'a, S> {
         if !self.has_many_pending {
             return Ok(Told::Nothing);
         }
-        let Some(steps) = steps_for(wish, lifts, part.len()) else {
+        let Some(steps) = steps_for(wish, lifts, part) else {
             return Ok(Told::Nothing);
         };
         self.take(steps / STEPS_LIKE_A_LIFT);
         told_in_steps(alloc, part, steps, self.stop)
+    }
+
+    // What is told of a counter with so many lifts for each search: that by blocks goes first.
+    fn told_of_counter(
+        &mut self,
+        alloc: Global,
+        part: &Problem<AnyObject>,
+        known: &Option<KnownAhead>,
+        wish: Wish,
+        lifts: u64,
+    ) -> Result<Told, AllocError>
+        requires { IfSome known.now (IsRightAhead (any_problem part.now)) }
+        ensures { IfOk result (IsRightOf (any_problem part.now)) }
+    {
+        match self.told_by_blocks(alloc, part, wish, lifts)? {
+            Told::Nothing => told_in_order(alloc, part, known, lifts, self.stop),
+            told => Ok(told),
+        }
     }
 
     // What is told of the problem with so many lifts for each search.
@@ -253,6 +292,9 @@ impl<'a, S: Stop> AnewSearch<'a, S> {
         requires { IfSome known.now (IsRightAhead (any_problem part.now)) }
         ensures { IfOk result (IsRightOf (any_problem part.now)) }
     {
+        if is_counter(part) {
+            return self.told_of_counter(alloc, part, known, wish, lifts);
+        }
         match told_in_order(alloc, part, known, lifts, self.stop)? {
             Told::Nothing => self.told_by_blocks(alloc, part, wish, lifts),
             told => Ok(told),
