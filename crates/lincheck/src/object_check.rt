@@ -9,6 +9,7 @@
 //!    stalls, a core is looked for, or a get of a counter for whose reply the adds leave no room: either shows that there is none. Where
 //!    many calls are pending, the searches of prefixes, the first of which is one of the whole, also try pending calls only between
 //!    completed ones (`lin_fewer`): of two configurations that differ in pending calls alone the one that used fewer is never worse.
+//!    Of a counter with many pending calls the full search's first turn ends after its lifts, whatever progress it makes.
 //! 3. *To the end* (`to_the_end`): the calling thread goes on by itself where there is to be one worker. Else workers share the search.
 //!
 //! A search that met the limit is not begun again: what follows are the tasks of workers, each with a limit of its own. What the
@@ -28,6 +29,7 @@ use crate::object_answer::{ObjectAnswer, Question};
 use crate::object_fault::fault_of_object;
 use crate::setting::Setting;
 use lin_ahead::{known_ahead, search_first};
+use lin_fewer::has_many_pending;
 use lin_history::Problem;
 use lin_object::{AnyObject, ObjState, Op, Reply};
 use lin_parts::search_by_key;
@@ -139,6 +141,25 @@ fn is_large_and_keyed(problem: &Problem<AnyObject>) -> bool {
     }
 }
 
+// Whether the problem is that of a counter of which many calls are pending. A search that tries these only between completed ones
+// mostly decides it, while the full search may make progress for minutes and come to no end.
+fn is_counter_with_many_pending(problem: &Problem<AnyObject>) -> bool {
+    match problem.start() {
+        ObjState::Counter(_) => has_many_pending(problem),
+        _ => false,
+    }
+}
+
+// How long the full search goes on in its first turn.
+fn first_patience(problem: &Problem<AnyObject>, asked: &Asked) -> Patience {
+    let lifts = FIRST_TURN.max(problem.len() as u64);
+    if is_counter_with_many_pending(problem) {
+        Patience::ForLifts(lifts)
+    } else {
+        patience_for(lifts, asked)
+    }
+}
+
 // How many lifts the first searches of prefixes make.
 fn first_lifts(problem: &Problem<AnyObject>, is_refuted: bool) -> u64 {
     let for_a_call = if is_refuted {
@@ -158,9 +179,8 @@ fn first_turn(problem: &Problem<AnyObject>, asked: &Asked, most: u64) -> Turn {
             lifts: most,
         };
     }
-    let full = FIRST_TURN.max(problem.len() as u64);
     Turn {
-        patience: Some(patience_for(full, asked)),
+        patience: Some(first_patience(problem, asked)),
         looks_for_core: true,
         lifts: first_lifts(problem, asked.is_refuted).min(most),
     }

@@ -56,6 +56,18 @@ pub(crate) fn search_unless_starved<O: SeqObject, M: Memo<O>, S: Stop, W: Watche
     search_watched(alloc, problem, config, memo, bounds, stop, &mut watch)
 }
 
+// What the stop says of a search that it stopped. One that answered between lifts is asked so again: before a lift it may look
+// only now and then.
+fn told_by<S: Stop>(stop: &mut S) -> Option<u64>
+    ensures told { IfSome result (λ told. S.tells stop.new told) }
+    ensures follows { S.follows stop.old stop.new }
+{
+    match stop.ask() {
+        Some(told) => Some(told),
+        None => stop.ask_between(),
+    }
+}
+
 // The same, where this watches it.
 fn search_watched<O: SeqObject, M: Memo<O>, S: Stop, W: Watcher, V: Watch>(
     alloc: Global,
@@ -85,7 +97,7 @@ fn search_watched<O: SeqObject, M: Memo<O>, S: Stop, W: Watcher, V: Watch>(
     if !was_stopped(&outcome) {
         return Ok(outcome);
     }
-    match stop.ask() {
+    match told_by(stop) {
         Some(told) => Ok(Outcome::Stopped(told)),
         None if is_over.load(SeqCst) => Err(Unfinished::Memory),
         None => Err(Unfinished::Time),
