@@ -1,6 +1,6 @@
 //! A search or a scout that is refused memory for all that it notes ends: without what it has refuted it would take too long.
 //! It ends too when the time is up.
-ghost use Rattle.std.specs.Prelude.{IfOk};
+ghost use Rattle.std.specs.Prelude.{IfSome, IfOk};
 ghost use Rattle.lin_history.specs.Problems.Configurations.{IsReachable};
 ghost use Rattle.lin_history.specs.Problems.Problem.{problem_of};
 ghost use Rattle.lin_search.specs.Answer.{IsAnswer};
