@@ -106,6 +106,18 @@ class FilledQueue(Filled, Queue):
     pass
 
 
+class RepeatedQueue(FilledQueue):
+    """A queue of numbers of jobs, each of which goes in again and again."""
+
+    def __init__(self, values, most=20):
+        super().__init__(most)
+        self.values = values
+
+    def choose(self, chance, number):
+        op, value = super().choose(chance, number)
+        return (op, value if value is None else chance.randrange(self.values))
+
+
 class FilledStack(Filled, Stack):
     pass
 
@@ -319,6 +331,27 @@ class FewValues:
         return "true" if was_there else "false"
 
 
+class FewPairs:
+    """A map of few keys and values."""
+
+    kind = "map"
+
+    def __init__(self, keys):
+        self.keys, self.pairs = keys, {}
+
+    def choose(self, chance, number):
+        op, key = chance.choice(["put", "put", "put", "put", "put", "get", "get", "get", "get", "delete"]), chance.randrange(self.keys)
+        return op, (key, chance.randrange(FewValues.values)) if op == "put" else key
+
+    def reply(self, op, value):
+        if op == "put":
+            self.pairs[value[0]] = value[1]
+            return OKAY
+        if op == "get":
+            return self.pairs.get(value, "null")
+        return "true" if self.pairs.pop(value, None) is not None else "false"
+
+
 def timing_out(model, processes, calls, share, seed=SEED):
     """The events of so many calls, as of `simulated`, of which so many in a hundred never return: their clients go on as new ones.
     Such a call takes effect at once, later or never, each as often as the others."""
@@ -351,9 +384,9 @@ def timing_out(model, processes, calls, share, seed=SEED):
 
 
 def with_stale_reads(events, count, values, seed=SEED):
-    """So many reads of the second half, at even distances, each with another value."""
+    """So many values read in the second half, at even distances, each replaced by another one."""
     chance = random.Random(seed)
-    places = [place for place, event in enumerate(events) if event.op == "read" and event.reply is not None]
+    places = [place for place, event in enumerate(events) if event.op in ("read", "get") and isinstance(event.reply, int)]
     places = places[len(places) // 2 :]
     for number in range(count):
         place = places[len(places) * (2 * number + 1) // (2 * count)]
@@ -497,6 +530,54 @@ def shared_sums(count):
             yield returned(process, "c", OKAY)
 
 
+def locking(processes, calls, tries, share, broken=None, seed=SEED):
+    """The events of so many calls on a mutex, which each process takes and gives back, again and again. So many in a hundred of the
+    calls that take it are `try_lock`s. So many in a hundred of all calls never return: their clients go on as new ones. Such an
+    `unlock` takes effect, any other such call does not. After the tenth `broken` of the calls one `lock` is granted while another
+    process holds the mutex for sure."""
+    chance = random.Random(seed)
+    events, called, done, holders, made = [], {}, {}, [], 0
+    clients, fresh = list(range(processes)), processes
+    late = calls + processes if broken is None else calls * broken // 10
+    while made < calls or called or done:
+        place = chance.randrange(len(clients))
+        process = clients[place]
+        if process in called:
+            op, stops = called[process]
+            if stops:
+                clients[place], fresh = fresh, fresh + 1
+                if op == "unlock":
+                    holders.remove(process)
+            elif op == "unlock":
+                holders.remove(process)
+                done[process] = Event(process, op, None, OKAY)
+            elif not holders:
+                holders.append(process)
+                done[process] = Event(process, op, None, OKAY if op == "lock" else "true")
+            elif op == "try_lock":
+                done[process] = Event(process, op, None, "false")
+            elif made > late and holders[0] not in called and holders[0] not in done:
+                late = calls + processes
+                holders.append(process)
+                events.append(Event(process, op, None, OKAY))
+            else:
+                continue
+            del called[process]
+        elif process in done:
+            events.append(done.pop(process))
+        elif made < calls or process in holders:
+            made += 1
+            op = "unlock" if process in holders else "try_lock" if chance.random() * 100 < tries else "lock"
+            called[process] = op, chance.random() * 100 < share
+            events.append(Event(process, op, None, None))
+    return events
+
+
+def mutex(processes, tries=0, share=0, broken=None):
+    """A mutex of so many processes, as of `locking`."""
+    return lambda calls: lines("m", "mutex", locking(processes, calls, tries, share, broken))
+
+
 def tries(count):
     """So many tries at once to take a mutex that is held, and an unlock by one that does not hold it."""
     yield declared("m", "mutex")
@@ -544,6 +625,16 @@ def unknown(processes, share, stale=0, seed=SEED):
     def history(calls):
         events = timing_out(FewValues(), processes, calls, share, seed)
         return lines("x", "register", with_stale_reads(events, stale, FewValues.values, seed))
+
+    return history
+
+
+def unknown_pairs(processes, share, keys, stale):
+    """A map of few keys and values, some of whose calls never return, and perhaps so many stale gets."""
+
+    def history(calls):
+        events = timing_out(FewPairs(keys), processes, calls, share)
+        return lines("m", "map", with_stale_reads(events, stale, FewValues.values))
 
     return history
 
@@ -665,6 +756,10 @@ def backlog_taken_twice(model, most):
     return lambda calls: lines("b", model.kind, with_item_taken_twice(simulated(model(most), 6, calls), model.take))
 
 
+def repeated(values):
+    return lambda calls: lines("j", "queue", simulated(RepeatedQueue(values), 6, calls))
+
+
 def counter(processes, pending=0):
     """A counter of so many processes, and so many more that stop within an add."""
     return lambda calls: lines("c", "counter", simulated(Counter(), processes + pending, calls, pending))
@@ -780,6 +875,10 @@ FAMILIES = {
     **{
         f"backlog_{most}": Family(f"a queue filled to {most} items and emptied, 6 processes", "calls", BACKLOG_CALLS, 0, backlog(FilledQueue, most))
         for most in (16, 32, 64, 128)
+    },
+    **{
+        f"queue_repeated_{values}": Family(f"a queue of {values} items that repeat, filled to 20 and emptied, 6 processes", "calls", BACKLOG_CALLS, 0, repeated(values))
+        for values in (10, 100)
     },
     **{
         f"stopped_{stops}": Family(
@@ -912,6 +1011,16 @@ FAMILIES = {
         for processes in (5, 8, 16)
         for share in (1, 5)
     },
+    **{
+        f"unknown_pairs_{processes}_{share}_no": Family(
+            f"a map of 3 keys, values 0 to 4, {processes} clients, {share} % of the calls never return, with 4 stale gets",
+            "calls",
+            [1000],
+            1,
+            unknown_pairs(processes, share, 3, 4),
+        )
+        for processes, share in ((5, 5), (10, 5), (20, 5))
+    },
     "crashed": Family("pending writes before 1,000 calls, and an impossible read", "pending", [1, 2, 4, 6], 1, crashed),
     "additions": Family("concurrent additions of different numbers, and an impossible get", "additions", [14, 16, 18, 20], 1, additions),
     "shared_additions": Family(
@@ -921,6 +1030,15 @@ FAMILIES = {
     "pending_additions": Family("clients that stopped within an addition, and a get to which two of them led", "clients", [8, 32], 0, pending_additions),
     "pending_gets_no": Family("clients that stopped within a get, and a get of more than was added", "clients", [8, 32], 1, pending_gets),
     "equal_additions": Family("concurrent additions of 1, and a get of one more", "additions", [16, 40], 1, equal_additions),
+    **{
+        f"mutex_{processes}": Family(f"a mutex, {processes} processes, every third taken by `try_lock`", "calls", MORE_CALLS[:-1] + [16000], 0, mutex(processes, 30))
+        for processes in (5, 30)
+    },
+    "mutex_unknown": Family("a mutex, 10 processes, 5 in 100 calls never return", "calls", [2000, 16000], 0, mutex(10, 30, 5)),
+    **{
+        f"mutex_two_{tenth}": Family(f"the same, 5 processes, and after {tenth} tenths a second holder", "calls", [500, 1000], 1, mutex(5, 30, 2, tenth))
+        for tenth in (1, 5, 9)
+    },
     "tries": Family("concurrent tries of a held mutex, and an unlock by another", "tries", [18, 22, 64], 1, tries),
     "concurrent": Family("concurrent writes, and an impossible read", "writes", [8, 10, 12, 14, 16, 18], 1, concurrent),
 }

@@ -4,8 +4,8 @@
     bench/prefixes.py [--program PROGRAM] [--count COUNT] [--seed SEED] [--keep FOLDER]
 
 Builds `bench/prefixes.program` by `bin/build_unproved.py` (two minutes), unless it is given, and asks it of each history at once,
-with no other search before. The histories are random: of a register, a queue, a stack, a set and a map, on one to three keys, with
-many calls at once and some that never return. Of most, two to five replies in a row are wrong. So there are ties between the calls
+with no other search before. The histories are random: of a register, a queue, a stack, a set and a map, on one to three keys, and of
+a mutex, with many calls at once and some that never return. Of most, two to five replies in a row are wrong. So there are ties between the calls
 at which a run may end, and between those that it may leave out. The least linearization, or else the first longest run, is found
 by all orders. Prints how many histories of each kind had none, by how many of its completed calls the longest run lacks; and each that
 differs. With --keep the histories that differ are kept.
@@ -23,8 +23,9 @@ BENCH = Path(__file__).resolve().parent
 sys.path[:0] = [str(BENCH), str(BENCH.parent / "bin")]
 from explanations import PENDING, START, precedes, read, same, step
 
-KINDS = ["register", "queue", "stack", "set", "map"]
+KINDS = ["register", "queue", "stack", "set", "map", "mutex"]
 AT_ONCE = 500  # files of one run of the program
+MOST_TURNS = 500  # of the clients of one history; calls that wait for a mutex then are pending
 OKAY = {"ok": '"ok"', "empty": "null", True: "true", False: "false"}
 
 
@@ -63,8 +64,8 @@ def orders(kind, start, calls):
     return order, longest(frozenset(), start) if order is None else None
 
 
-def draw(chance, kind, keys, values, number):
-    """A call."""
+def draw(chance, kind, keys, values, number, held=False):
+    """A call. `held` says whether the process seems to hold the mutex."""
     key, value = chance.randrange(keys), chance.randrange(values) if values else number
     ops = {
         "register": [("write", [value]), ("read", []), ("read", []), ("cas", [chance.randrange(3), value])],
@@ -72,6 +73,7 @@ def draw(chance, kind, keys, values, number):
         "stack": [("push", [value]), ("pop", [])],
         "set": [("add", [key]), ("remove", [key]), ("contains", [key])],
         "map": [("put", [key, value]), ("put", [key, value]), ("get", [key]), ("get", [key]), ("delete", [key])],
+        "mutex": [("unlock", [])] if held else [("lock", []), ("try_lock", [])],
     }
     return chance.choice(ops[kind])
 
@@ -90,19 +92,28 @@ def events_of(chance, kind):
     """The events of simulated calls: process, operation, arguments, and the reply of a return."""
     processes, count, keys = chance.randrange(2, 7), chance.randrange(5, 13), chance.randrange(1, 4)
     values, state = chance.choice([0, 2, 3]), START[kind]
-    events, called, done, made = [], {}, {}, 0
+    events, called, done, held, made = [], {}, {}, set(), 0
     stopped = set(chance.sample(range(processes), chance.choice([0, 0, 1, 2]) if processes > 2 else 0))
-    while made < count or (set(called) | set(done)) - stopped:
+    for _ in range(MOST_TURNS):
+        if made == count and not (set(called) | set(done)) - stopped:
+            break
         process = chance.randrange(processes)
         if process in called and (process not in stopped or chance.random() < 0.5):
-            op, args = called.pop(process)
-            state, reply = step(kind, state, process, op, args)
+            op, args = called[process]
+            answer = step(kind, state, process, op, args)
+            if answer is None and chance.random() < 0.8:
+                continue
+            # a fault: a lock of a mutex that is held returns
+            state, reply = answer or (state, "ok")
+            called.pop(process)
             done[process] = op, args, reply
         elif process in done and process not in stopped:
-            events.append((process, *done.pop(process)))
+            op, args, reply = done.pop(process)
+            held ^= {process} if op in ("lock", "unlock") or op == "try_lock" and reply else set()
+            events.append((process, op, args, reply))
         elif process not in called and process not in done and made < count:
             made += 1
-            called[process] = draw(chance, kind, keys, values, made)
+            called[process] = draw(chance, kind, keys, values, made, process in held)
             events.append((process, *called[process], None))
         elif made < count and not set(range(processes)) - stopped - set(called) - set(done) and stopped >= set(called) | set(done):
             break

@@ -3,7 +3,7 @@ use Rattle.std.proofs.Common.{◌≡◌, ◌≢◌, ℕ, zero, suc, ◌+◌, ◌
 use Rattle.std.specs.Prelude.{ℤ, pos, ◌+ℤ◌, ◌-ℤ◌, ◌<ℤ◌, slice_get, nat_lt, nat_le, ◌&&◌}
 use Rattle.std.proofs.lemmas.Int.{ints}
 use Rattle.lin_object.specs.declared.op.Op.{Op}
-use Rattle.lin_object.specs.declared.op.Op.TheVariants.{Write, Read, Cas, Add, Get, Enqueue, Dequeue, Push, Pop, Insert, Remove, Contains, Lock, Unlock, TryLock, Put, Lookup, Delete}
+use Rattle.lin_object.specs.declared.op.Op.TheVariants.{Add, Get}
 use Rattle.lin_object.specs.declared.reply.Reply.{Reply}
 use Rattle.lin_object.specs.declared.reply.Reply.TheVariants.{Okay, Int}
 use Rattle.lin_object.specs.declared.state.ObjState.{ObjState}
@@ -19,7 +19,7 @@ use Rattle.lin_history.specs.Problems.ListLemmas.{in_early, in_late, in_either, 
 use Rattle.lin_history.specs.Problems.LegalLists.{fits, state_if_fits, after_call, next, Legal}
 use Rattle.lin_history.specs.Problems.Precedence.{Before, IsCompleted}
 use Rattle.lin_history.specs.Problems.Linearizations.{IsLinearization}
-use Rattle.lin_ahead.specs.Sums.{share_in, share_of, share_of_call, total, sum_of_shares}
+use Rattle.lin_ahead.specs.Counters.Sums.{share_in, share_of, share_of_call, total, sum_of_shares}
 use Rattle.lin_core.specs.declared.sum_faults.Times.{Times}
 use Rattle.lin_core.specs.declared.sum_faults.Between.{Between}
 use Rattle.lin_core.specs.declared.sum_faults.SumFault.{SumFault}
@@ -157,22 +157,7 @@ no_step m r e = absurd (cc)
 counter_moves : (n : ℤ) (op : Op) (m : ObjState) (r : Reply) → counter_step n op ≡ Some (m, r) → (k : ℤ) × (m ≡ Counter k) × Leads n op k
 counter_moves n (Add d) m r e = (n +ℤ d, add_moves (is_in_range (n +ℤ d)) n d m r e, leads_by n d)
 counter_moves n Get m r e = (n, (let h : ◌≡◌ {A = ObjState × Reply} (m, r) (Counter n, Int n) = cc in ap (λ (a : ObjState × Reply). a.0) h), leads_get n)
-counter_moves n (Write w) m r e = absurd (no_step m r e)
-counter_moves n Read m r e = absurd (no_step m r e)
-counter_moves n (Cas b d) m r e = absurd (no_step m r e)
-counter_moves n (Enqueue v) m r e = absurd (no_step m r e)
-counter_moves n Dequeue m r e = absurd (no_step m r e)
-counter_moves n (Push v) m r e = absurd (no_step m r e)
-counter_moves n Pop m r e = absurd (no_step m r e)
-counter_moves n (Insert v) m r e = absurd (no_step m r e)
-counter_moves n (Remove v) m r e = absurd (no_step m r e)
-counter_moves n (Contains v) m r e = absurd (no_step m r e)
-counter_moves n Lock m r e = absurd (no_step m r e)
-counter_moves n Unlock m r e = absurd (no_step m r e)
-counter_moves n TryLock m r e = absurd (no_step m r e)
-counter_moves n (Put k v) m r e = absurd (no_step m r e)
-counter_moves n (Lookup k) m r e = absurd (no_step m r e)
-counter_moves n (Delete k) m r e = absurd (no_step m r e)
+counter_moves n op m r e = absurd (no_step m r e)
 
 -- a get returns with the number that is there, which stays
 get_answer : (n : ℤ) (op : Op) (m : ObjState) (r : Reply) → op ≡ Get → counter_step n op ≡ Some (m, r) → (m ≡ Counter n) × (r ≡ Int n)

@@ -1,9 +1,9 @@
 -- What adds up on a counter: a get for which it is too much; and adds that may stand in front of pending calls.
-use Rattle.std.proofs.Common.{◌≡◌, ◌≢◌, ℕ, zero, suc, ◌+◌, ◌^◌, ◌<◌, ◌≤◌, Bool, true, false, not, Option, Some, None, List, [], ◌∷◌, ◌++◌, length, ◌⊎◌, inl, inr, refl, sym, ◌∙◌, ap, subst, append_assoc, arith, if◌then◌else◌}
+use Rattle.std.proofs.Common.{◌≡◌, ◌≢◌, ℕ, ◌+◌, ◌^◌, ◌<◌, ◌≤◌, Bool, true, false, not, Option, Some, None, List, [], ◌∷◌, ◌++◌, length, inl, inr, refl, sym, ◌∙◌, ap, subst, append_assoc, arith, if◌then◌else◌}
 use Rattle.std.specs.Prelude.{ℤ, pos, negsuc, ◌+ℤ◌, int_lt, slice_get, ◌&&◌, IsSome, IsSomeAnd}
 use Rattle.std.proofs.lemmas.Int.{ints}
 use Rattle.lin_object.specs.declared.op.Op.{Op}
-use Rattle.lin_object.specs.declared.op.Op.TheVariants.{Write, Read, Cas, Add, Get, Enqueue, Dequeue, Push, Pop, Insert, Remove, Contains, Lock, Unlock, TryLock, Put, Lookup, Delete}
+use Rattle.lin_object.specs.declared.op.Op.TheVariants.{Add, Get}
 use Rattle.lin_object.specs.declared.reply.Reply.{Reply}
 use Rattle.lin_object.specs.declared.reply.Reply.TheVariants.{Okay, Int}
 use Rattle.lin_object.specs.declared.state.ObjState.{ObjState}
@@ -15,7 +15,7 @@ use Rattle.lin_history.specs.Problems.Problem.{Problem}
 use Rattle.lin_history.specs.Problems.ProblemParts.{ProblemParts}
 use Rattle.lin_history.specs.Problems.AnyProblem.{any_problem}
 use Rattle.lin_history.specs.Problems.Lists.{In, IsDistinct}
-use Rattle.lin_history.specs.Problems.ListLemmas.{in_early, in_late, in_either, in_place, distinct_early, apart}
+use Rattle.lin_history.specs.Problems.ListLemmas.{in_early, in_late, in_either, in_place, apart}
 use Rattle.lin_history.specs.Problems.LegalLists.{fits, state_if_fits, after_call, next, Legal}
 use Rattle.lin_history.specs.Problems.Precedence.{Before, IsCompleted}
 use Rattle.lin_history.specs.Problems.Continuations.{has, IsCompletion}
@@ -27,9 +27,8 @@ use Rattle.lin_fewer.proofs.NodeLemmas.{incomplete}
 use Rattle.lin_search.specs.Configuration.{Configuration}
 use Rattle.lin_search.specs.FirstCallLemmas.{completion_split, completion_join, complete_none, next_within}
 use Rattle.lin_search.specs.NextCall.{IsNext, HasEveryCompleted}
-use Rattle.lin_search.specs.Answer.{HasNoCompletion}
 use Rattle.lin_fewer.specs.declared.sums.Got.{Got}
-use Rattle.lin_fewer.specs.Adds.{part_in, part_of, part_of_call, sum_of_parts, IsGot, AddBefore, IsAdd, IsPendingGet, MayComeLate, MayComeLateTo, IsTooMuch}
+use Rattle.lin_fewer.specs.Adds.{part_in, part_of, part_of_call, sum_of_parts, IsGot, AddBefore, IsAdd, MayComeLate, MayComeLateTo, IsTooMuch}
 use Rattle.lin_fewer.specs.Fewer.{FewerLaw}
 use Rattle.lin_fewer.specs.Turns.{ComesFirst, BeginsCompleted}
 use Rattle.lin_fewer.proofs.FewerLemmas.{before_completed, completed_or_not}
@@ -70,7 +69,7 @@ not_in_front xs c ys d h = apart c xs (c ∷ ys) d h (inl refl)
 -- ---- what a step of a counter adds
 
 -- one number leads to another by what the operation adds
-abbrev Leads : ℤ → Op → ℤ → Type 0
+abbrev pub Leads : ℤ → Op → ℤ → Type 0
 Leads n op k = (up : Bool) → part_in up n + part_of up op + part_in (not up) k ≡ part_in up k + part_in (not up) n + part_of (not up) op
 
 leads_by : (n d : ℤ) → Leads n (Add d) (n +ℤ d)
@@ -91,28 +90,13 @@ add_moves false n d m r range e = absurd (cc)
 no_step : (m : ObjState) (r : Reply) → ◌≡◌ {A = Option (ObjState × Reply)} None (Some (m, r)) → ⊥
 no_step m r e = absurd (cc)
 
-get_moves : (n : ℤ) (m : ObjState) (r : Reply) → counter_step n Get ≡ Some (m, r) → (m ≡ Counter n) × (r ≡ Int n)
+pub get_moves : (n : ℤ) (m : ObjState) (r : Reply) → counter_step n Get ≡ Some (m, r) → (m ≡ Counter n) × (r ≡ Int n)
 get_moves n m r e = let h : ◌≡◌ {A = ObjState × Reply} (m, r) (Counter n, Int n) = cc in (ap (λ (a : ObjState × Reply). a.0) h, ap (λ (a : ObjState × Reply). a.1) h)
 
-counter_moves : (n : ℤ) (op : Op) (m : ObjState) (r : Reply) → counter_step n op ≡ Some (m, r) → (k : ℤ) × (m ≡ Counter k) × Leads n op k
+pub counter_moves : (n : ℤ) (op : Op) (m : ObjState) (r : Reply) → counter_step n op ≡ Some (m, r) → (k : ℤ) × (m ≡ Counter k) × Leads n op k
 counter_moves n (Add d) m r e = (n +ℤ d, (add_moves (is_in_range (n +ℤ d)) n d m r refl e).0, leads_by n d)
 counter_moves n Get m r e = (n, (get_moves n m r e).0, leads_get n)
-counter_moves n (Write w) m r e = absurd (no_step m r e)
-counter_moves n Read m r e = absurd (no_step m r e)
-counter_moves n (Cas b d) m r e = absurd (no_step m r e)
-counter_moves n (Enqueue v) m r e = absurd (no_step m r e)
-counter_moves n Dequeue m r e = absurd (no_step m r e)
-counter_moves n (Push v) m r e = absurd (no_step m r e)
-counter_moves n Pop m r e = absurd (no_step m r e)
-counter_moves n (Insert v) m r e = absurd (no_step m r e)
-counter_moves n (Remove v) m r e = absurd (no_step m r e)
-counter_moves n (Contains v) m r e = absurd (no_step m r e)
-counter_moves n Lock m r e = absurd (no_step m r e)
-counter_moves n Unlock m r e = absurd (no_step m r e)
-counter_moves n TryLock m r e = absurd (no_step m r e)
-counter_moves n (Put k v) m r e = absurd (no_step m r e)
-counter_moves n (Lookup k) m r e = absurd (no_step m r e)
-counter_moves n (Delete k) m r e = absurd (no_step m r e)
+counter_moves n op m r e = absurd (no_step m r e)
 
 same_int : (n v : ℤ) → Int n ≡ Int v → n ≡ v
 same_int n v e = cc
@@ -174,7 +158,7 @@ module _ {Object : Type 0} (parts : ProblemParts Object ObjState Op Reply) where
   there_in s m (Some x) e = (x, refl)
 
   -- a call that has a step is there
-  step_there : (s m : ObjState) (c : ℕ) → next p s c ≡ Some m → (x : ProblemCall Op Reply) × (slice_get p.calls c ≡ Some x)
+  pub step_there : (s m : ObjState) (c : ℕ) → next p s c ≡ Some m → (x : ProblemCall Op Reply) × (slice_get p.calls c ≡ Some x)
   step_there s m c e = there_in s m (slice_get p.calls c) e
 
   given : (answer : Option (ObjState × Reply)) (recorded : Option (ℕ × Reply)) (m : ObjState) → state_if_fits p.same_reply recorded answer ≡ Some m → (r : Reply) × (answer ≡ Some (m, r)) × (fits p.same_reply r recorded ≡ true)
@@ -186,7 +170,7 @@ module _ {Object : Type 0} (parts : ProblemParts Object ObjState Op Reply) where
       go false f g = absurd (cc)
 
   -- the answer of a call's step on a counter
-  answered : (n : ℤ) (m : ObjState) (c : ℕ) (x : ProblemCall Op Reply) → slice_get p.calls c ≡ Some x → next p (Counter n) c ≡ Some m → (r : Reply) × (counter_step n x.op ≡ Some (m, r)) × (fits p.same_reply r x.returned ≡ true)
+  pub answered : (n : ℤ) (m : ObjState) (c : ℕ) (x : ProblemCall Op Reply) → slice_get p.calls c ≡ Some x → next p (Counter n) c ≡ Some m → (r : Reply) × (counter_step n x.op ≡ Some (m, r)) × (fits p.same_reply r x.returned ≡ true)
   answered n m c x there step = given (counter_step n x.op) x.returned m (subst (λ (o : Option (ProblemCall Op Reply)). after_call p (Counter n) o ≡ Some m) there step)
 
   -- a legal list leads from one number to another
@@ -223,7 +207,7 @@ module _ {Object : Type 0} (parts : ProblemParts Object ObjState Op Reply) where
   legal_there (c ∷ cs) s t a (m, step, more) (inr h) = legal_there cs m t a more h
 
   -- a get finds the number that is there
-  got_here : (n : ℤ) (m : ObjState) (g : ℕ) (got : Got) → IsGot p g got → next p (Counter n) g ≡ Some m → n ≡ got.value
+  pub got_here : (n : ℤ) (m : ObjState) (g : ℕ) (got : Got) → IsGot p g got → next p (Counter n) g ≡ Some m → n ≡ got.value
   got_here n m g got is step =
       let a = answered n m g is.call is.at step in
       let k = get_moves n m a.0 (subst (λ (o : Op). counter_step n o ≡ Some (m, a.0)) is.op a.1) in

@@ -8,3 +8,4 @@ pub mod WaitingLemmas
 pub mod LeastLemmas
 pub mod TurnLemmas
 pub mod AddLemmas
+pub mod AnyAddsLemmas

@@ -1,14 +1,14 @@
 -- Two calls that stand in each other's place.
-use Rattle.std.proofs.Common.{◌≡◌, ◌≢◌, ℕ, ◌<◌, Bool, true, false, Some, List, [], ◌∷◌, length, ◌⊎◌, inl, inr, refl, sym, ◌∙◌, subst, arith}
+use Rattle.std.proofs.Common.{◌≡◌, ◌≢◌, ℕ, ◌<◌, Bool, true, Some, List, [], ◌∷◌, length, inl, inr, sym, ◌∙◌, subst, arith}
 use Rattle.lin_history.specs.Problems.Problem.{Problem}
 use Rattle.lin_history.specs.Problems.LegalLists.{next}
-use Rattle.lin_history.specs.Problems.Precedence.{Before, IsCompleted}
+use Rattle.lin_history.specs.Problems.Precedence.{IsCompleted}
 use Rattle.lin_history.specs.Problems.Continuations.{has, IsCompletion}
 use Rattle.lin_search.specs.CallSet.{with_call}
-use Rattle.lin_search.specs.CallSetLemmas.{same_or_not, true_or_false, has_same, has_other, has_still, has_with, length_calls}
+use Rattle.lin_search.specs.CallSetLemmas.{true_or_false, has_same, has_other, has_still, has_with, length_calls}
 use Rattle.lin_search.specs.FirstCallLemmas.{completion_join, next_within}
 use Rattle.lin_search.specs.NextCall.{IsNext}
-use Rattle.lin_fewer.specs.Fewer.{FewerLaw, UsedFewer}
+use Rattle.lin_fewer.specs.Fewer.{FewerLaw}
 use Rattle.lin_fewer.proofs.FewerLemmas.{before_completed}
 
 has_either : (set : List Bool) (c d a : ℕ) → c < length set → d < length set → has (with_call (with_call set c) d) a ≡ true → has (with_call (with_call set d) c) a ≡ true

@@ -8,9 +8,8 @@ use Rattle.lin_object.specs.declared.state.ObjState.{ObjState}
 use Rattle.lin_history.specs.declared.problems.problem.ProblemCall.{ProblemCall}
 use Rattle.lin_history.specs.Problems.Problem.{Problem}
 use Rattle.lin_history.specs.Problems.Lists.{In, IsDistinct}
-use Rattle.lin_history.specs.Problems.Precedence.{Before, IsCompleted}
+use Rattle.lin_history.specs.Problems.Precedence.{Before}
 use Rattle.lin_history.specs.Problems.Continuations.{has}
-use Rattle.lin_search.specs.Configuration.{Configuration}
 use Rattle.lin_fewer.specs.declared.sums.Got.{Got}
 
 -- What a number adds in a direction, upwards or else downwards.

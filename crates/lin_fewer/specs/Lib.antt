@@ -4,4 +4,5 @@ pub mod Nodes
 pub mod Fronts
 pub mod Turns
 pub mod Adds
+pub mod AnyAdds
 pub mod Answers

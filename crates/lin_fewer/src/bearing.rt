@@ -241,6 +241,7 @@ pub(crate) fn bears<O: SeqObject, R: Rules<O>, S: Stop>(
     requires below { HasCompletedBelow (problem_of O.after O.State.eq O.Reply.eq search.old) config.lifted from }
     ensures verdict { IfOk result (IsVerdict (problem_of O.after O.State.eq O.Reply.eq search.old) config) }
     ensures same { search.new ≡ search.old }
+    ensures stop { S.follows stop.old stop.new }
 {
     lawful::<O>();
     fewer_law(search.problem());
@@ -264,7 +265,10 @@ pub(crate) fn bears<O: SeqObject, R: Rules<O>, S: Stop>(
         next: 0,
     };
     for _ in 0..usize::MAX {
-        if !search.takes_step() || stop.ask().is_some() {
+        if !search.takes_step() {
+            return Ok(Verdict::Unknown);
+        }
+        if stop.ask().is_some() {
             return Ok(Verdict::Unknown);
         }
         if let Some(verdict) = step(search, &mut nodes, &mut place)? {

@@ -62,6 +62,7 @@ fn begins<O: SeqObject, R: Rules<O>, S: Stop>(
         asked.now.config.now.state d }
     ensures verdict { IfOk result (IsVerdictBy (problem_of O.after O.State.eq O.Reply.eq search.old) asked.now.config.now call) }
     ensures same { search.new ≡ search.old }
+    ensures stop { S.follows stop.old stop.new }
 {
     lawful::<O>();
     let problem = search.problem();
@@ -92,6 +93,7 @@ fn least_call<O: SeqObject, R: Rules<O>, S: Stop>(
     requires first { IsFirstLeft (problem_of O.after O.State.eq O.Reply.eq search.old) config.now.lifted first }
     ensures least { IfOk result (λ answer. IfSome answer (IsLeastCall (problem_of O.after O.State.eq O.Reply.eq search.old) config.now)) }
     ensures same { search.new ≡ search.old }
+    ensures stop { S.follows stop.old stop.new }
 {
     let problem = search.problem();
     let bound = least_return(problem, config.lifted(), first);
@@ -123,8 +125,9 @@ fn least_order<O: SeqObject, R: Rules<O>, S: Stop>(
     root: Config<O>,
 ) -> Result<Option<Vec<usize>>, AllocError>
     requires reachable { IsReachable (problem_of O.after O.State.eq O.Reply.eq search.old) root.lifted root.state }
-    ensures { IfOk result (λ answer. IfSome answer (λ calls. IsLeast (IsCompletion (problem_of O.after O.State.eq O.Reply.eq search.old) root.lifted
+    ensures least { IfOk result (λ answer. IfSome answer (λ calls. IsLeast (IsCompletion (problem_of O.after O.State.eq O.Reply.eq search.old) root.lifted
         root.state) calls.items)) }
+    ensures stop { S.follows stop.old stop.new }
 {
     let alloc = search.alloc();
     let problem = search.problem();
@@ -171,7 +174,8 @@ pub fn least_linearization<O: SeqObject, R: Rules<O>, S: Stop>(
     steps: u64,
     stop: &mut S,
 ) -> Result<Told, AllocError>
-    ensures { IfOk result (IsRightOf (problem_of O.after O.State.eq O.Reply.eq problem.now)) }
+    ensures told { IfOk result (IsRightOf (problem_of O.after O.State.eq O.Reply.eq problem.now)) }
+    ensures stop { S.follows stop.old stop.new }
 {
     lawful::<O>();
     fewer_law(problem);

@@ -7,9 +7,11 @@
 //!   on the way back.
 //! - `node`: the configurations that a search has open; `search`: what it knows; `known`: configurations found by keys; `seen` and
 //!   `verdict`: what is known of one configuration.
+//! - `any_adds`: orders of a counter's completed calls, whatever the pending ones add.
 //! - `front`: which calls may be next; `laws`: the law that all this rests on.
 #![tactic(auto)]
 
+mod any_adds;
 mod bearing;
 mod borne;
 mod completed_calls;
@@ -27,6 +29,7 @@ mod sums;
 mod verdict;
 mod waiting;
 
+pub use any_adds::is_refuted_with_any_adds;
 pub use laws::fewer_law;
 pub use least::{has_many_pending, least_linearization};
 pub use rules::{NoRules, Rules};

@@ -13,6 +13,7 @@ ghost use Rattle.lin_history.specs.Problems.Continuations.{has};
 ghost use Rattle.lin_history.specs.Problems.Configurations.{IsReachable};
 ghost use Rattle.lin_search.specs.Answer.{HasNoCompletion};
 ghost use Rattle.lin_fewer.specs.Fronts.{HasCompletedBelow, IsFirstLeft, IsLeastReturn};
+ghost use Rattle.lin_fewer.specs.AnyAdds.{NoneTakesOff};
 ghost use Rattle.lin_fewer.specs.Turns.{BeginsCompleted};
 ghost use Rattle.lin_fewer.specs.Adds.{part_in, part_of, IsGot, AddBefore, IsAdd, IsPendingGet, MayComeLate, IsTooMuch};
 
@@ -50,7 +51,7 @@ struct Asked {
 }
 
 // What the number adds, or else takes off.
-fn part_in(up: bool, value: i64) -> u64
+pub(crate) fn part_in(up: bool, value: i64) -> u64
     ensures part { result ≡ part_in up value }
     ensures few { result ≤ 2 ^ 63 }
 {
@@ -88,7 +89,7 @@ fn got_at(problem: &Problem<AnyObject>, call: usize) -> Option<Got>
 }
 
 // The number of a counter.
-fn number_of(state: &ObjState) -> Option<i64>
+pub(crate) fn number_of(state: &ObjState) -> Option<i64>
     ensures is { IfSome result (λ number. state.now ≡ Counter number) }
     ensures range { IfSome result (λ number. is_in_range number ≡ true) }
 {
@@ -306,9 +307,11 @@ pub struct SumRules {
 }
 
 // Whether no call of the problem takes anything off.
-fn none_takes_off(problem: &Problem<AnyObject>) -> bool {
-    for call in problem.calls() {
-        if part_of(false, &call.op) > 0 {
+pub(crate) fn none_takes_off(problem: &Problem<AnyObject>) -> bool
+    ensures { IsTrue result → NoneTakesOff (any_problem problem.now) }
+{
+    for call in 0..problem.len() {
+        if part_of(false, &problem.call(call).op) > 0 {
             return false;
         }
     }

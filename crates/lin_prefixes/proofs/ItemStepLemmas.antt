@@ -2,7 +2,7 @@
 use Rattle.std.proofs.Common.{◌≡◌, ℕ, Bool, true, false, cond, Option, Some, None, List, [], ◌∷◌, ◌++◌, ◌⊎◌, inl, inr, refl, sym, ◌∙◌, ap, subst, append_assoc, append-nil}
 use Rattle.std.specs.Prelude.{ℤ, slice_get}
 use Rattle.lin_object.specs.declared.op.Op.{Op}
-use Rattle.lin_object.specs.declared.op.Op.TheVariants.{Write, Read, Cas, Add, Get, Enqueue, Dequeue, Push, Pop, Insert, Remove, Contains, Lock, Unlock, TryLock, Put, Lookup, Delete}
+use Rattle.lin_object.specs.declared.op.Op.TheVariants.{Enqueue, Dequeue, Push, Pop}
 use Rattle.lin_object.specs.declared.reply.Reply.{Reply}
 use Rattle.lin_object.specs.declared.reply.Reply.TheVariants.{Okay, Int}
 use Rattle.lin_object.specs.declared.state.ObjState.{ObjState}
@@ -13,9 +13,9 @@ use Rattle.lin_object.specs.Kinds.Stack.{stack_step}
 use Rattle.lin_history.specs.declared.problems.problem.ProblemCall.{ProblemCall}
 use Rattle.lin_history.specs.Problems.Problem.{Problem}
 use Rattle.lin_history.specs.Problems.LegalLists.{fits, state_if_fits, after_call, next}
-use Rattle.lin_ahead.specs.Impossible.{AddsItem}
-use Rattle.lin_ahead.proofs.AnswerLemmas.{Is, state_of, reply_of, fits_some}
-use Rattle.lin_ahead.proofs.StackLemmas.{IsExact}
+use Rattle.lin_ahead.specs.Items.Impossible.{AddsItem}
+use Rattle.lin_ahead.specs.AnswerLemmas.{Is, state_of, reply_of, fits_some}
+use Rattle.lin_ahead.specs.Exact.{IsExact}
 use Rattle.lin_prefixes.specs.Freed.{HasReturned, TookOut}
 
 -- The states of the problem are lists of items. A step leaves a list; an item that it leaves was there before, and the step is one
@@ -85,44 +85,14 @@ stays items (Enqueue v) m r front w rest e f =
 stays [] Dequeue m r front w rest e f = absurd (empty_not front w rest (same_in_queue [] (front ++ w ∷ rest) (state_of e ∙ f)))
 stays (u ∷ items) Dequeue m r front w rest e f =
     inl (u ∷ front, rest, ap (λ (l : List ℤ). u ∷ l) (same_in_queue items (front ++ w ∷ rest) (state_of e ∙ f)), both_same (Queue (front ++ rest)) (Queue (front ++ rest)) (Int u) r refl (reply_of e))
-stays items (Write v) m r front w rest e f = absurd (cc)
-stays items Read m r front w rest e f = absurd (cc)
-stays items (Cas x y) m r front w rest e f = absurd (cc)
-stays items (Add d) m r front w rest e f = absurd (cc)
-stays items Get m r front w rest e f = absurd (cc)
-stays items (Push v) m r front w rest e f = absurd (cc)
-stays items Pop m r front w rest e f = absurd (cc)
-stays items (Insert v) m r front w rest e f = absurd (cc)
-stays items (Remove v) m r front w rest e f = absurd (cc)
-stays items (Contains v) m r front w rest e f = absurd (cc)
-stays items Lock m r front w rest e f = absurd (cc)
-stays items Unlock m r front w rest e f = absurd (cc)
-stays items TryLock m r front w rest e f = absurd (cc)
-stays items (Put k v) m r front w rest e f = absurd (cc)
-stays items (Lookup k) m r front w rest e f = absurd (cc)
-stays items (Delete k) m r front w rest e f = absurd (cc)
+stays items op m r front w rest e f = absurd (cc)
 
 -- a step leaves a queue
 queue_left : (items : List ℤ) (op : Op) (m : ObjState) (r : Reply) → Is (queue_step items op) m r → (rest : List ℤ) × (m ≡ Queue rest)
 queue_left items (Enqueue v) m r e = (items ++ v ∷ [], sym (state_of e))
 queue_left [] Dequeue m r e = ([], sym (state_of e))
 queue_left (u ∷ items) Dequeue m r e = (items, sym (state_of e))
-queue_left items (Write v) m r e = absurd (cc)
-queue_left items Read m r e = absurd (cc)
-queue_left items (Cas x y) m r e = absurd (cc)
-queue_left items (Add d) m r e = absurd (cc)
-queue_left items Get m r e = absurd (cc)
-queue_left items (Push v) m r e = absurd (cc)
-queue_left items Pop m r e = absurd (cc)
-queue_left items (Insert v) m r e = absurd (cc)
-queue_left items (Remove v) m r e = absurd (cc)
-queue_left items (Contains v) m r e = absurd (cc)
-queue_left items Lock m r e = absurd (cc)
-queue_left items Unlock m r e = absurd (cc)
-queue_left items TryLock m r e = absurd (cc)
-queue_left items (Put k v) m r e = absurd (cc)
-queue_left items (Lookup k) m r e = absurd (cc)
-queue_left items (Delete k) m r e = absurd (cc)
+queue_left items op m r e = absurd (cc)
 
 -- ---- one step of a stack
 
@@ -141,44 +111,14 @@ lies items (Push v) m r front w rest e f =
 lies [] Pop m r front w rest e f = absurd (empty_not front w rest (same_on_stack [] (front ++ w ∷ rest) (state_of e ∙ f)))
 lies (u ∷ items) Pop m r front w rest e f =
     inl (u ∷ front, rest, ap (λ (l : List ℤ). u ∷ l) (same_on_stack items (front ++ w ∷ rest) (state_of e ∙ f)), both_same (Stack (front ++ rest)) (Stack (front ++ rest)) (Int u) r refl (reply_of e))
-lies items (Write v) m r front w rest e f = absurd (cc)
-lies items Read m r front w rest e f = absurd (cc)
-lies items (Cas x y) m r front w rest e f = absurd (cc)
-lies items (Add d) m r front w rest e f = absurd (cc)
-lies items Get m r front w rest e f = absurd (cc)
-lies items (Enqueue v) m r front w rest e f = absurd (cc)
-lies items Dequeue m r front w rest e f = absurd (cc)
-lies items (Insert v) m r front w rest e f = absurd (cc)
-lies items (Remove v) m r front w rest e f = absurd (cc)
-lies items (Contains v) m r front w rest e f = absurd (cc)
-lies items Lock m r front w rest e f = absurd (cc)
-lies items Unlock m r front w rest e f = absurd (cc)
-lies items TryLock m r front w rest e f = absurd (cc)
-lies items (Put k v) m r front w rest e f = absurd (cc)
-lies items (Lookup k) m r front w rest e f = absurd (cc)
-lies items (Delete k) m r front w rest e f = absurd (cc)
+lies items op m r front w rest e f = absurd (cc)
 
 -- a step leaves a stack
 stack_left : (items : List ℤ) (op : Op) (m : ObjState) (r : Reply) → Is (stack_step items op) m r → (rest : List ℤ) × (m ≡ Stack rest)
 stack_left items (Push v) m r e = (v ∷ items, sym (state_of e))
 stack_left [] Pop m r e = ([], sym (state_of e))
 stack_left (u ∷ items) Pop m r e = (items, sym (state_of e))
-stack_left items (Write v) m r e = absurd (cc)
-stack_left items Read m r e = absurd (cc)
-stack_left items (Cas x y) m r e = absurd (cc)
-stack_left items (Add d) m r e = absurd (cc)
-stack_left items Get m r e = absurd (cc)
-stack_left items (Enqueue v) m r e = absurd (cc)
-stack_left items Dequeue m r e = absurd (cc)
-stack_left items (Insert v) m r e = absurd (cc)
-stack_left items (Remove v) m r e = absurd (cc)
-stack_left items (Contains v) m r e = absurd (cc)
-stack_left items Lock m r e = absurd (cc)
-stack_left items Unlock m r e = absurd (cc)
-stack_left items TryLock m r e = absurd (cc)
-stack_left items (Put k v) m r e = absurd (cc)
-stack_left items (Lookup k) m r e = absurd (cc)
-stack_left items (Delete k) m r e = absurd (cc)
+stack_left items op m r e = absurd (cc)
 
 -- ---- a call's step
 

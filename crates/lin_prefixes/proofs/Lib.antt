@@ -9,3 +9,4 @@ pub mod FreedLemmas
 pub mod LooseLemmas
 pub mod CrossedLemmas
 pub mod AnewLemmas
+pub mod OnlyReplyLemmas

@@ -16,12 +16,11 @@ use crate::part_search::PartSearch;
 use crate::parts_anew::{Loosened, Wanted, is_loose_prefix, made_anew};
 use crate::untold_groups::UntoldGroups;
 use lin_ahead::{
-    KnownAhead, known_ahead, search_first, some_came_too_early, some_push_crosses,
-    some_was_taken_twice,
+    KnownAhead, are_in_vain, known_ahead, search_first, some_came_too_early, some_was_taken_twice,
 };
-use lin_fewer::{SumRules, has_many_pending, least_linearization};
+use lin_fewer::{SumRules, has_many_pending, is_refuted_with_any_adds, least_linearization};
 use lin_history::{Problem, ProblemEvent};
-use lin_object::{AnyObject, ObjState};
+use lin_object::{AnyObject, ObjState, Op};
 use lin_parts::{is_part, search_by_key};
 use lin_search::{AtTimes, Stop, Told, search_for_order};
 use std::alloc::{AllocError, Global};
@@ -77,6 +76,14 @@ fn rounds_for(wish: Wish, known: &Option<KnownAhead>) -> usize {
         (Wish::Order, _) => ROUNDS,
         (Wish::Group, Some(_)) => ROUNDS_FOR_A_GROUP,
         (Wish::Bound, _) | (Wish::Group, None) => ROUNDS_FOR_A_BOUND,
+    }
+}
+
+// Whether it is asked of a group of calls.
+fn is_group(wish: Wish) -> bool {
+    match wish {
+        Wish::Group => true,
+        Wish::Order | Wish::Bound => false,
     }
 }
 
@@ -155,21 +162,35 @@ fn told_in_steps<S: Stop>(
     least_linearization(alloc, part, &rules, steps, &mut AtTimes::new(stop))
 }
 
-// Whether what is known ahead shows that there is no linearization: some calls were in vain, or they cross, of a queue by what they
-// need, and of a stack by what lies on it.
-fn are_in_vain(
+// Whether a counter has no linearization whatever its pending calls add.
+fn shows_none_with_any_adds<S: Stop>(
+    alloc: Global,
+    part: &Problem<AnyObject>,
+    stop: &mut S,
+) -> Result<bool, AllocError>
+    ensures { IfOk result (λ shown. IsTrue shown
+        → (l : List ℕ) → IsLinearization (any_problem part.now) l → ⊥) }
+{
+    is_refuted_with_any_adds(alloc, part, &mut AtTimes::new(stop))
+}
+
+// Whether what is known ahead shows that there is no linearization: some calls were in vain, or they cross by what they need.
+fn are_crossed_or_in_vain(
     alloc: Global,
     part: &Problem<AnyObject>,
     ahead: &KnownAhead,
 ) -> Result<bool, AllocError>
     requires { IsRightAhead (any_problem part.now) ahead.now }
-    ensures { IfOk result (λ crossed. IsTrue crossed
+    ensures { IfOk result (λ shown. IsTrue shown
         → (l : List ℕ) → IsLinearization (any_problem part.now) l → ⊥) }
 {
-    if ahead.in_vain || some_push_crosses(alloc, part, ahead)? {
+    if are_in_vain(alloc, part, ahead)? {
         return Ok(true);
     }
-    some_cross(alloc, part, &ahead.needs)
+    match ahead.needs() {
+        Some(needs) => some_cross(alloc, part, needs),
+        None => Ok(false),
+    }
 }
 
 // Whether what is known ahead shows that there is no linearization, without a search.
@@ -189,8 +210,16 @@ fn shows_none(
         return Ok(true);
     }
     match known {
-        Some(ahead) => are_in_vain(alloc, part, ahead),
+        Some(ahead) => are_crossed_or_in_vain(alloc, part, ahead),
         None => Ok(false),
+    }
+}
+
+// Whether the call is a `lock`. Of two of these that are open at a cut a run has one at most: their processes call no unlock in time.
+fn is_lock(problem: &Problem<AnyObject>, call: usize) -> bool {
+    match problem.calls().get(call) {
+        Some(made) => made.op == Op::Lock,
+        None => false,
     }
 }
 
@@ -228,6 +257,11 @@ impl<'a, S: Stop> AnewSearch<'a, S> {
             untold: UntoldGroups::new(alloc),
             stop,
         })
+    }
+
+    // How many lifts are left.
+    pub(crate) fn left(&self) -> u64 {
+        self.lifts
     }
 
     // Takes so many lifts, or as many as are left.
@@ -326,6 +360,23 @@ impl<'a, S: Stop> AnewSearch<'a, S> {
         Ok(Told::Nothing)
     }
 
+    // Whether the part is of a counter with many pending calls and has no linearization whatever these add. Of a group of calls that is
+    // not asked: mostly they have a run then.
+    fn is_refuted_with_any_adds(
+        &mut self,
+        alloc: Global,
+        part: &Problem<AnyObject>,
+        wish: Wish,
+    ) -> Result<bool, AllocError>
+        ensures { IfOk result (λ refuted. IsTrue refuted
+            → (l : List ℕ) → IsLinearization (any_problem part.now) l → ⊥) }
+    {
+        if !self.has_many_pending || is_group(wish) || !is_counter(part) {
+            return Ok(false);
+        }
+        shows_none_with_any_adds(alloc, part, self.stop)
+    }
+
     // What is told of the problem that is searched for this.
     fn answer_to_wish(
         &mut self,
@@ -341,6 +392,9 @@ impl<'a, S: Stop> AnewSearch<'a, S> {
         }
         let known = known_ahead(alloc, part)?;
         if shows_none(alloc, part, &known)? {
+            return Ok(Told::Refuted);
+        }
+        if self.is_refuted_with_any_adds(alloc, part, wish)? {
             return Ok(Told::Refuted);
         }
         self.answer_in_rounds(alloc, part, &known, wish)
@@ -455,6 +509,11 @@ impl<'a, S: Stop> PartSearch<AnyObject> for AnewSearch<'a, S> {
             self.untold.add(alloc, call, calls)?;
         }
         Ok(none)
+    }
+
+    fn likely_pair(&self, problem: &Problem<AnyObject>, calls: &[usize]) -> Option<[usize; 2]> {
+        let mut locks = calls.iter().filter(|call| is_lock(problem, **call));
+        Some([*locks.next()?, *locks.next()?])
     }
 
     fn may_go_on(&mut self, looks: u64) -> bool {

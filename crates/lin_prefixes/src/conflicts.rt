@@ -160,8 +160,30 @@ fn few_in_conflict<O: SeqObject, S: PartSearch<O>>(
     Ok(few)
 }
 
-/// Adds a conflict among these calls, where one is known: as few of them as still are one. Of no calls it is not asked: a try of
-/// what is left without the open calls tells as much.
+// Adds the two of the calls that perhaps are a conflict, where they are known to be one.
+fn add_likely_pair<O: SeqObject, S: PartSearch<O>>(
+    alloc: Global,
+    problem: &Problem<O>,
+    search: &mut S,
+    call: usize,
+    calls: &[usize],
+    conflicts: &mut Vec<Conflict>,
+) -> Result<(), AllocError>
+    requires call { call < length problem.now.calls }
+    requires conflicts { All (IsConflict (problem_of O.after O.State.eq O.Reply.eq problem.now) call)
+        conflicts.old.items }
+    ensures { IfOk result (λ done. All
+        (IsConflict (problem_of O.after O.State.eq O.Reply.eq problem.now) call)
+        conflicts.new.items) }
+{
+    let Some(pair) = search.likely_pair(problem, calls) else {
+        return Ok(());
+    };
+    add_known(alloc, problem, search, call, &pair, conflicts)
+}
+
+/// Adds a conflict among these calls, where one is known: two of them that perhaps are one, or else as few of them as still are one. Of
+/// no calls it is not asked: a try of what is left without the open calls tells as much.
 pub(crate) fn add_conflict<O: SeqObject, S: PartSearch<O>>(
     alloc: Global,
     problem: &Problem<O>,
@@ -177,6 +199,11 @@ pub(crate) fn add_conflict<O: SeqObject, S: PartSearch<O>>(
         (IsConflict (problem_of O.after O.State.eq O.Reply.eq problem.now) call)
         conflicts.new.items) }
 {
+    let known = conflicts.len();
+    add_likely_pair(alloc, problem, search, call, calls, conflicts)?;
+    if conflicts.len() > known {
+        return Ok(());
+    }
     if calls.is_empty() || !search.has_no_run_with(alloc, problem, call, calls)? {
         return Ok(());
     }
@@ -249,8 +276,25 @@ fn not_single(
     Ok(left)
 }
 
+// The calls of the list without the second of each two that perhaps are a conflict.
+fn without_likely_pairs<O: SeqObject, S: PartSearch<O>>(
+    alloc: Global,
+    problem: &Problem<O>,
+    search: &S,
+    calls: &[usize],
+) -> Result<Vec<usize>, AllocError> {
+    let mut left = Vec::new(alloc);
+    for c in calls {
+        left.push(*c)?;
+        if search.likely_pair(problem, left.as_slice()).is_some() {
+            left.pop();
+        }
+    }
+    Ok(left)
+}
+
 /// The conflicts of the cut to begin with: those that are given as hints, of another one, and are conflicts here too; and the
-/// open calls that no run has, as far as that is known.
+/// open calls that no run has, as far as that is known. Of two that perhaps are a conflict only one is asked about by itself.
 pub(crate) fn first_conflicts<O: SeqObject, S: PartSearch<O>>(
     alloc: Global,
     problem: &Problem<O>,
@@ -264,7 +308,8 @@ pub(crate) fn first_conflicts<O: SeqObject, S: PartSearch<O>>(
         conflicts.items) }
 {
     let mut conflicts = conflicts_again(alloc, problem, search, cut.call, hints)?;
-    let left = not_single(alloc, cut.open_calls, conflicts.as_slice())?;
+    let others = not_single(alloc, cut.open_calls, conflicts.as_slice())?;
+    let left = without_likely_pairs(alloc, problem, search, others.as_slice())?;
     add_single_conflicts(
         alloc,
         problem,

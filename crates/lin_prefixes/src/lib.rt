@@ -13,6 +13,7 @@
 //! - `conflicts`: groups of calls of which each run lacks one; `choices`: which calls are left out, by conflicts.
 //! - `untold_groups`: groups of calls that are not asked of again.
 //! - `open_takers`: open dequeues and pops that may stay out of a run of a queue or a stack.
+//! - `only_replies`: pending calls that can have one reply only.
 //! - `crossed_calls`: two calls of which each would have to come before the other.
 //! - `whole_search`: the search of a whole problem by its prefixes; `whole_answer`: what it answers.
 #![tactic(auto)]
@@ -24,6 +25,7 @@ mod candidate;
 mod choices;
 mod conflicts;
 mod crossed_calls;
+mod only_replies;
 mod open_takers;
 mod part_search;
 mod parts_anew;

@@ -3,7 +3,7 @@
 ghost use Rattle.std.specs.Prelude.{◌≡◌, ◌↔◌, ◌<◌, ℕ, ℤ, Some, [], IsTrue, length};
 ghost use Rattle.lin_history.specs.Problems.Lists.{In};
 ghost use Rattle.lin_history.specs.Problems.AnyProblem.{any_problem};
-ghost use Rattle.lin_ahead.specs.Impossible.{AddsItem};
+ghost use Rattle.lin_ahead.specs.Items.Impossible.{AddsItem};
 ghost use Rattle.lin_prefixes.specs.Freed.{AreTakers, HasReturned, IsFreed, TookOut};
 
 use crate::call_lists::has_call;

@@ -44,6 +44,9 @@ pub trait PartSearch<O: SeqObject> {
         ensures { IfOk result (λ none. IsTrue none → HasNoRunWith
             (problem_of O.after O.State.eq O.Reply.eq problem.now) call calls.now) };
 
+    /// Two of the calls that perhaps no run has both of: a hint.
+    fn likely_pair(&self, problem: &Problem<O>, calls: &[usize]) -> Option<[usize; 2]>;
+
     /// Whether the search may go on, after so many looks at a call that were made between two questions.
     fn may_go_on(&mut self, looks: u64) -> bool;
 }

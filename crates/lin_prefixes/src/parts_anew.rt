@@ -12,7 +12,7 @@ use lin_parts::same_call;
 use std::alloc::{AllocError, Global};
 
 // Whether both calls are the same but for their returns.
-fn same_start(a: &ProblemCall<Op, Reply>, b: &ProblemCall<Op, Reply>) -> bool
+pub(crate) fn same_start(a: &ProblemCall<Op, Reply>, b: &ProblemCall<Op, Reply>) -> bool
     ensures process { IsTrue result → a.now.process ≡ b.now.process }
     ensures op { IsTrue result → a.now.op ≡ b.now.op }
     ensures called { IsTrue result → a.now.called ≡ b.now.called }

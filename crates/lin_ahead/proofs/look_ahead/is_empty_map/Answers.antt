@@ -1,4 +1,4 @@
-use Rattle.lin_ahead.proofs.KeyLemmas.{empty_map}
+use Rattle.lin_ahead.proofs.values.KeyLemmas.{empty_map}
 use Rattle.lin_ahead.proofs.look_ahead.is_empty_map.Goals as goal
 
 pub returns : goal.returns

@@ -15,6 +15,7 @@ loop-init g c =
     let node : Node g.row.O-State.Denot = record { config = c.args.config; first = c.in-Open.first; from = 0; by = 0; alone = false; base = 0 } in
     record {
       search = refl;
+      stop = g.met.S.Stop.unchanged _;
       is = rw (c.in_ok-push.ensures.items, c.new-nodes.ensures.items, c.new.ensures) (search_first (problem_of g.O.SeqObject.after g.O.State.PartialEq.eq g.O.Reply.PartialEq.eq c.args.search.now) node c.requires.reachable (rw c.in-Open.is at c.in_ok-known_of.ensures) refl);
       first = (node, rw (c.in_ok-push.ensures.items, c.new-nodes.ensures.items, c.new.ensures) (refl {a = Some node}), refl);
     }
@@ -30,6 +31,22 @@ loop-preserved g c =
     let first = c.loop.invariant.first in
     record {
       search = c.in_ok-verdict.ensures.same ∙ c.takes_step.ensures ∙ c.loop.invariant.search;
+      stop = g.met.S.Stop.chained _ _ _ c.loop.invariant.stop c.ask.ensures.follows;
       is = rw (c.takes_step.ensures, c.loop.invariant.search) at (rw c.in_default.is at c.in_ok-verdict.ensures.goes_on);
       first = (first.0, (rw c.in_default.is at c.in_ok-verdict.ensures.first) ∙ first.1, first.2);
     }
+
+pub returns-in_err-push-clause-stop : goal.returns-in_err-push-clause-stop
+returns-in_err-push-clause-stop g c = g.met.S.Stop.unchanged _
+
+pub returns-then-not-takes_step-clause-stop : goal.returns-then-not-takes_step-clause-stop
+returns-then-not-takes_step-clause-stop g c = c.loop.invariant.stop
+
+pub returns-in_err-verdict-clause-stop : goal.returns-in_err-verdict-clause-stop
+returns-in_err-verdict-clause-stop g c = g.met.S.Stop.chained _ _ _ c.loop.invariant.stop c.ask.ensures.follows
+
+pub returns-in-Some-clause-stop : goal.returns-in-Some-clause-stop
+returns-in-Some-clause-stop g c = g.met.S.Stop.chained _ _ _ c.loop.invariant.stop c.ask.ensures.follows
+
+pub returns-then-is_some-clause-stop : goal.returns-then-is_some-clause-stop
+returns-then-is_some-clause-stop g c = g.met.S.Stop.chained _ _ _ c.loop.invariant.stop c.ask.ensures.follows

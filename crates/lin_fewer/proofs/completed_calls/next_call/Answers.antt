@@ -1,7 +1,6 @@
 use Rattle.std.proofs.Common.{ℕ, inl, inr, arith}
 use Rattle.lin_history.specs.Problems.Problem.{problem_of}
 use Rattle.lin_history.specs.Problems.Precedence.{IsCompleted}
-use Rattle.lin_search.specs.Entries.{IsMinimal}
 use Rattle.lin_fewer.specs.Nodes.{Node, NoneBegins, NoneBeginsBelow}
 use Rattle.lin_fewer.proofs.ReadLemmas.{below_more}
 use Rattle.lin_fewer.proofs.FrontLemmas.{least_or, minimal_by, lifted_begins, late_begins, completed_within}

@@ -1,4 +1,4 @@
-use Rattle.std.proofs.Common.{◌≡◌, ℕ, sym, ◌∙◌, ap, arith, not, ◌+◌}
+use Rattle.std.proofs.Common.{ℕ, sym, ◌∙◌, ap, arith, not, ◌+◌}
 use Rattle.lin_fewer.specs.Adds.{part_of_call}
 use Rattle.lin_fewer.proofs.AddLemmas.{add_same, add_more, before_got}
 use Rattle.lin_fewer.proofs.sums.with_part.Goals as goal

@@ -1,4 +1,4 @@
-use Rattle.std.proofs.Common.{ℕ, ◌+◌, ◌-◌, ◌<◌, ◌≤◌, length}
+use Rattle.std.proofs.Common.{◌+◌, ◌-◌, ◌<◌, ◌≤◌, length}
 use Rattle.lin_history.specs.Problems.Problem.{problem_of}
 use Rattle.lin_fewer.specs.Fronts.{AreNextPending}
 use Rattle.lin_fewer.proofs.waiting.add_next.Given as goal

@@ -1,4 +1,4 @@
-use Rattle.std.proofs.Common.{ℕ, List, length, ◌∙◌, ◌-◌, arith, inl, inr, subst}
+use Rattle.std.proofs.Common.{ℕ, length, ◌-◌, arith, inl, inr, subst}
 use Rattle.lin_history.specs.Problems.Problem.{problem_of}
 use Rattle.lin_search.proofs.PathLemmas.{ok_map}
 use Rattle.lin_prefixes.specs.Prefixes.{IsRunLacking}

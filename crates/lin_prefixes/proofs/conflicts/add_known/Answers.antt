@@ -1,4 +1,3 @@
-use Rattle.std.proofs.Common.{List, ℕ}
 use Rattle.std.proofs.lemmas.List.Elements.{All-push, All-same}
 use Rattle.lin_history.specs.Problems.Problem.{problem_of}
 use Rattle.lin_prefixes.specs.Prefixes.{IsConflict}

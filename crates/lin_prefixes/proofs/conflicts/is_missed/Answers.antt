@@ -1,4 +1,4 @@
-use Rattle.std.proofs.Common.{◌≡◌, ℕ, List, get_or, refl, sym, ◌∙◌, true≢false, subst, arith}
+use Rattle.std.proofs.Common.{ℕ, List, get_or, refl, sym, ◌∙◌, true≢false, subst, arith}
 use Rattle.lin_history.specs.Problems.Lists.{In}
 use Rattle.lin_prefixes.proofs.ListLemmas.{each_next, each_end}
 use Rattle.lin_prefixes.proofs.conflicts.is_missed.Goals as goal

@@ -1,4 +1,4 @@
-use Rattle.std.proofs.Common.{◌≡◌, ℕ, List, [], subst}
+use Rattle.std.proofs.Common.{ℕ, List, subst}
 use Rattle.lin_history.specs.Problems.Lists.{In}
 use Rattle.lin_prefixes.proofs.ListLemmas.{list_at}
 use Rattle.lin_prefixes.proofs.conflicts.some_missed.Goals as goal

@@ -1,11 +1,11 @@
-use Rattle.std.proofs.Common.{◌≡◌, ◌+◌, Some, length, sym, ap, subst, ◌∙◌, arith}
+use Rattle.std.proofs.Common.{◌≡◌, ◌+◌, Some, length, sym, ap, ◌∙◌, arith}
 use Rattle.std.specs.List.{slice_get}
 use Rattle.std.proofs.lemmas.Bool.{true≢false}
 use Rattle.std.proofs.lemmas.Option.{slice_get_read}
 use Rattle.lin_history.specs.declared.problems.timeline.ProblemEvent.{ProblemEvent}
-use Rattle.lin_history.specs.declared.problems.timeline.ProblemEvent.TheVariants.{Call, Return}
+use Rattle.lin_history.specs.declared.problems.timeline.ProblemEvent.TheVariants.{Call}
 use Rattle.lin_history.specs.Problems.AnyProblem.{any_problem}
-use Rattle.lin_prefixes.proofs.CrossedLemmas.{Looked, crossed_none, crossing, no_crossing, looked_at_call, looked_at_return}
+use Rattle.lin_prefixes.proofs.CrossedLemmas.{crossed_none, crossing, no_crossing, looked_at_call, looked_at_return}
 use Rattle.lin_prefixes.proofs.crossed_calls.some_cross.Goals as goal
 use Rattle.lin_prefixes.proofs.crossed_calls.some_cross.Goals.{in-Call+else-is_needed_before, in-Return}
 

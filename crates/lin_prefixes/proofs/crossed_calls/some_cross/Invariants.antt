@@ -1,4 +1,3 @@
-use Rattle.std.proofs.Common.{◌≡◌}
 use Rattle.lin_history.specs.Problems.AnyProblem.{any_problem}
 use Rattle.lin_history.specs.Problems.Timeline.{IsTimeline}
 use Rattle.lin_prefixes.proofs.CrossedLemmas.{Looked}

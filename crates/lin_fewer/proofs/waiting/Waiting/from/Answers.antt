@@ -1,4 +1,4 @@
-use Rattle.std.proofs.Common.{sym, arith}
+use Rattle.std.proofs.Common.{arith}
 use Rattle.lin_fewer.proofs.waiting.Waiting.from.Goals as goal
 
 pub returns-in-Some-clause-up : goal.returns-in-Some-clause-up

@@ -1,0 +1,160 @@
+#!/usr/bin/env python3
+"""Compares what the first search of a mutex, or of a queue whose items repeat, tells with all orders.
+
+    bench/first.py [--kind KIND] [--program PROGRAM] [--count COUNT] [--seed SEED] [--lifts LIFTS] [--keep FOLDER]
+
+Builds `bench/first.program` by `bin/build_unproved.py` (two minutes), unless it is given, and asks it of each history at once, with at
+most LIFTS lifts for each call (1,000,000). The histories are random, small, and on one mutex (or on one queue, if KIND is `queue`). In
+two thirds of them some calls are pending; some unlocks are of processes that hold nothing, a queue has two or three different items,
+and of most histories one to three replies of `try_lock` or `deq` are wrong. The least linearization, or that there is none, is found by
+all orders. Prints how many histories had an order and how many had none, of how many
+nothing was told, and each that differs. With --keep the histories that differ are kept.
+"""
+import argparse
+import collections
+import json
+import random
+import subprocess
+import sys
+import tempfile
+from pathlib import Path
+
+BENCH = Path(__file__).resolve().parent
+sys.path[:0] = [str(BENCH), str(BENCH.parent / "bin")]
+from explanations import read, step
+from prefixes import AT_ONCE, orders
+
+MOST_CALLS = 13
+
+
+def events_of(chance):
+    """The events of simulated calls, each a process, an operation and perhaps a reply; and which processes end with `info`."""
+    count, clients = chance.randrange(3, MOST_CALLS), list(range(chance.randrange(2, 6)))
+    lost, stray = chance.choice([0, 0.2, 0.3, 0.4]), chance.choice([0, 0, 0.1])
+    holder, called, done, events, fresh, made = None, {}, {}, [], 10, 0
+    for _ in range(40 * MOST_CALLS):
+        place = chance.randrange(len(clients))
+        process = clients[place]
+        if process in done:
+            events.append((process, *done.pop(process)))
+        elif process in called:
+            op = called[process]
+            after = step("mutex", holder, process, op, [])
+            if chance.random() < lost or after is None and (op == "unlock" or made == count):
+                if after is not None and chance.random() < 0.5:
+                    holder = after[0]
+                if op == "unlock" and after is None and chance.random() < 0.5:
+                    done[process] = op, "ok"
+                else:
+                    clients[place], fresh = fresh, fresh + 1
+                del called[process]
+            elif after is not None:
+                holder, done[process] = after[0], (op, after[1])
+                del called[process]
+        elif made < count:
+            made += 1
+            called[process] = "unlock" if holder == process or chance.random() < stray else chance.choice(["lock", "try_lock"])
+            events.append((process, called[process], None))
+        elif not called and not done:
+            break
+    return events
+
+
+def queue_events_of(chance):
+    """The same of a queue, each event with the operation's arguments before the reply."""
+    count, clients = chance.randrange(3, MOST_CALLS), list(range(chance.randrange(2, 6)))
+    lost, values = chance.choice([0, 0.2, 0.3]), chance.randrange(2, 4)
+    items, called, done, events, fresh = (), {}, {}, [], 10
+    while count or called or done:
+        place = chance.randrange(len(clients))
+        process = clients[place]
+        if process in done:
+            events.append((process, *done.pop(process)))
+        elif process in called:
+            op, args = called.pop(process)
+            after, reply = step("queue", items, process, op, args)
+            if chance.random() < lost:
+                items = chance.choice([items, after])
+                clients[place], fresh = fresh, fresh + 1
+            else:
+                items, done[process] = after, (op, args, reply)
+        elif count:
+            count -= 1
+            called[process] = ("enq", [chance.randrange(values)]) if chance.random() < 0.5 else ("deq", [])
+            events.append((process, *called[process], None))
+    return events
+
+
+def wrong(chance, reply):
+    """Another reply of a `try_lock` or a `deq`."""
+    return not reply if isinstance(reply, bool) else chance.choice([value for value in (0, 1, 2, "empty") if value != reply])
+
+
+def history(chance, kind):
+    """A history's text, with some wrong replies."""
+    events = queue_events_of(chance) if kind == "queue" else [(*event[:2], [], event[2]) for event in events_of(chance)]
+    told = [place for place, (_, op, _, reply) in enumerate(events) if op in ("try_lock", "deq") and reply is not None]
+    turned = set(chance.sample(told, min(len(told), chance.choice([0, 0, 1, 2, 3]))))
+    lines = ['{"format":2}', json.dumps({"event": "object", "object": "x", "kind": kind})]
+    for place, (process, op, args, reply) in enumerate(events):
+        if reply is None:
+            lines.append(json.dumps({"event": "call", "process": process, "object": "x", "op": op, "args": args}))
+        else:
+            result = wrong(chance, reply) if place in turned else reply
+            result = None if result == "empty" else result
+            lines.append(json.dumps({"event": "return", "process": process, "object": "x", "result": result}))
+    return "\n".join(lines) + "\n"
+
+
+def compare(program, lifts, texts, folder, tally):
+    """Compares what is told of these histories."""
+    files = []
+    for number, text in texts:
+        files.append(Path(folder) / f"{number}.jsonl")
+        files[-1].write_text(text)
+    said = subprocess.run([program, str(lifts), *files], capture_output=True, text=True, check=True).stdout.splitlines()
+    if len(said) != len(files):
+        sys.exit(f"{len(said)} answers to {len(files)} histories")
+    for file, (_, text), answer in zip(files, texts, said):
+        ((_, kind, start, calls),) = read(text)
+        order, _ = orders(kind, start, calls)
+        wanted = "none" if order is None else " ".join(["order", *map(str, order)])
+        tally[wanted == "none"] += 1
+        tally["pending"] += any(call["returned"] is None for call in calls)
+        if answer == "nothing":
+            tally["nothing"] += 1
+            tally["nothing of none"] += wanted == "none"
+        elif answer != wanted:
+            tally["differ"] += 1
+            print(f"{file}: {answer}, and by all orders {wanted}")
+            continue
+        file.unlink()
+
+
+def main():
+    words = argparse.ArgumentParser(description=__doc__, formatter_class=argparse.RawDescriptionHelpFormatter)
+    words.add_argument("--kind", choices=["mutex", "queue"], default="mutex")
+    words.add_argument("--program")
+    words.add_argument("--count", type=int, default=20_000)
+    words.add_argument("--seed", type=int, default=1)
+    words.add_argument("--lifts", type=int, default=1_000_000)
+    words.add_argument("--keep")
+    asked = words.parse_args()
+    chance, tally = random.Random(asked.seed), collections.Counter()
+    with tempfile.TemporaryDirectory() as folder:
+        program = asked.program
+        if program is None:
+            import build_unproved
+
+            program = Path(folder) / "first"
+            build_unproved.build(program, BENCH / "first.program")
+        for first in range(0, asked.count, AT_ONCE):
+            texts = [(number, history(chance, asked.kind)) for number in range(first, min(first + AT_ONCE, asked.count))]
+            compare(program, asked.lifts, texts, asked.keep or folder, tally)
+    print(f"{asked.kind}: {tally[False]} with an order, {tally[True]} without, {tally['pending']} with pending calls")
+    print(f"nothing told of {tally['nothing']}, of which {tally['nothing of none']} have no order; {tally['differ']} differ")
+    return 1 if tally["differ"] else 0
+
+
+if __name__ == "__main__":
+    sys.exit(main())

@@ -1,0 +1,5 @@
+pub mod OverLemmas
+pub mod SumLemmas
+pub mod SumLoadLemmas
+pub mod SumRowLemmas
+pub mod CounterLemmas

@@ -1,0 +1,3 @@
+pub mod NeedsLemmas
+pub mod FirstLemmas
+pub mod PlaceLemmas

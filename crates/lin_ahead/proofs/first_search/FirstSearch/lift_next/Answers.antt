@@ -1,4 +1,0 @@
-use Rattle.lin_ahead.proofs.first_search.FirstSearch.lift_next.Goals as goal
-
-pub step-requires-clause-right : goal.step-requires-clause-right
-step-requires-clause-right g c = rw c.loop-at.invariant.problem (c.loop-at.invariant.right _ c.requires.right)

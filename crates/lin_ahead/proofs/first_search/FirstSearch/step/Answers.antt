@@ -1,5 +1,0 @@
-use Rattle.std.proofs.Common.{rules}
-use Rattle.lin_ahead.proofs.first_search.FirstSearch.step.Goals as goal
-
-pub go_back-requires : goal.go_back-requires
-go_back-requires g c = search rules depth 3

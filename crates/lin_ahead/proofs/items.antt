@@ -1,0 +1,10 @@
+pub mod ToldLemmas
+pub mod RowLemmas
+pub mod ExactLemmas
+pub mod ChainLemmas
+pub mod OnceLemmas
+pub mod LateLemmas
+pub mod TakerLemmas
+pub mod ImpossibleLemmas
+pub mod TwiceLemmas
+pub mod ItemsOutLemmas

@@ -1,9 +1,0 @@
-use Rattle.std.proofs.Common.{sym, ◌∙◌}
-use Rattle.lin_history.specs.Problems.AnyProblem.{any_problem}
-use Rattle.lin_search.specs.SameLemmas.{alike_itself}
-use Rattle.lin_ahead.proofs.NeedsLemmas.{begins_left_out}
-use Rattle.lin_ahead.proofs.known_rules.KnownRulesRulesAnyObject.begins_none.Goals as goal
-
-pub returns-then-is_some : goal.returns-then-is_some
-returns-then-is_some c = λ known.
-    begins_left_out (any_problem c.args.problem.now) (alike_itself c.lawful.ensures _) _ _ c.requires.reachable c.left_out.result _ c.left_out.ensures (sym c.is_some.ensures ∙ c.if-is_some.true)

@@ -1,0 +1,6 @@
+pub mod QueueLemmas
+pub mod QueueLateLemmas
+pub mod NumberLemmas
+pub mod AnyLemmas
+pub mod AheadLemmas
+pub mod SlotLemmas

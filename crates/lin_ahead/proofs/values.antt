@@ -1,0 +1,5 @@
+pub mod RegisterLemmas
+pub mod ValueLemmas
+pub mod PairLemmas
+pub mod VainLemmas
+pub mod KeyLemmas

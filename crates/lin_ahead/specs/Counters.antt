@@ -1,0 +1,3 @@
+-- Counters.
+pub mod Sums
+pub mod ToldOfCounter

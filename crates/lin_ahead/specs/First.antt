@@ -1,0 +1,2 @@
+-- First searches.
+pub mod FirstProgress

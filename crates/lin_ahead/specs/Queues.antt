@@ -1,0 +1,4 @@
+-- Queues.
+pub mod Queue
+pub mod ToldOfQueue
+pub mod Slots

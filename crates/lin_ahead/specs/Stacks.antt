@@ -1,0 +1,4 @@
+-- Stacks.
+pub mod Stack
+pub mod ToldOfStack
+pub mod StackTakers

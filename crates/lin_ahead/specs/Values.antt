@@ -1,0 +1,7 @@
+-- Registers, and maps of one key.
+pub mod Register
+pub mod Held
+pub mod NeededPairs
+pub mod ValueCalls
+pub mod ToldOfRegister
+pub mod KeyValue

@@ -1,0 +1,14 @@
+//! Queues that start empty.
+//!
+//! - `rows`: what is known ahead; `late_enqueues`: by what enqueues are too late.
+//! - `item_rows`: the calls on each item that repeats; `slots`: which enqueues to ask of; `early_enqueues`: those that would come out too early.
+//! - `rules`: the rules of a first search; `needs`: which calls a call needs; `takers`: calls that leave too few dequeues.
+
+pub(crate) mod early_enqueues;
+pub(crate) mod item_rows;
+pub(crate) mod late_enqueues;
+pub(crate) mod needs;
+pub(crate) mod rows;
+pub(crate) mod rules;
+pub(crate) mod slots;
+pub(crate) mod takers;
