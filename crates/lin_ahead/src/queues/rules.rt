@@ -22,7 +22,7 @@ use crate::queues::item_rows::{ItemRow, item_rows};
 use crate::queues::lacking_enqueues::lacks_enqueues;
 use crate::queues::needs::left_out;
 use crate::queues::rows::QueueAhead;
-use crate::queues::slots::{SlotHints, items_of_rows};
+use crate::queues::slots::{SlotHints, items_in_rows};
 use crate::queues::takers::lacks_takers;
 use lin_history::Problem;
 use lin_object::{AnyObject, ObjState, lawful};
@@ -55,7 +55,7 @@ impl<'a> QueueRules<'a> {
         ensures rows { IfOk result (λ rules. AreItemRows problem.now.calls rules.rows.items) }
     {
         let calls = problem.calls();
-        let items = items_of_rows(alloc, calls, &ahead.items)?;
+        let items = items_in_rows(alloc, calls.len(), &ahead.items)?;
         let rows = item_rows(alloc, calls, items.as_slice())?;
         let slots = SlotHints::new(alloc, calls, rows.as_slice())?;
         Ok(QueueRules {

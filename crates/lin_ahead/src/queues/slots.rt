@@ -2,12 +2,10 @@
 //! that. All of it is hints.
 
 use crate::items::calls::{item_put, item_taken};
-use crate::items::each_item::told_of;
 use crate::items::item_calls::BEYOND;
 use crate::items::late_hints::HALVES;
 use crate::items::rows::ItemsAhead;
 use crate::queues::item_rows::ItemRow;
-use indexmap::IndexMap;
 use lin_history::ProblemCall;
 use lin_object::{AnyObject, Op, Reply};
 use lin_search::Config;
@@ -17,8 +15,8 @@ use std::alloc::{AllocError, Global};
 // a second, before each first search, and is enough for 1,000 items of 16,384 calls.
 const MOST_STEPS: usize = 1 << 24;
 
-// The same where rows are made of items that go in once too: little beside reading the history, and enough for 500 items of 2,048 calls.
-const MOST_STEPS_OF_ALL: usize = 1 << 20;
+// At most so many, where rows are made of items too that go in once: it takes some milliseconds, and is enough for 256 items of 4,096 calls.
+const FEW_STEPS: usize = 1 << 20;
 
 // So many calls of a row that return after a slot are looked at for such as are lifted already.
 const LATER_IN_SIGHT: usize = 2;
@@ -79,47 +77,26 @@ pub(crate) struct SlotHints {
     lack: Option<Lack>,
 }
 
-// The items that are put in, each once; only those that go in more than once, if that is asked.
-fn items_put(
+/// The items of which rows are made. Where some go in more than once these are all items, or those alone if rows of all would take
+/// long; and none if rows of those would take too long, or if each goes in once.
+pub(crate) fn items_in_rows(
     alloc: Global,
-    calls: &[ProblemCall<Op, Reply>],
+    calls: usize,
     ahead: &ItemsAhead,
-    only_repeated: bool,
 ) -> Result<Vec<i64>, AllocError> {
-    let mut items = Vec::new(alloc);
-    let mut seen: IndexMap<i64, bool> = IndexMap::new(alloc);
-    for call in 0..calls.len() {
-        let Some(item) = item_put(calls, call) else {
-            continue;
-        };
-        if only_repeated && told_of(&ahead.told, item).goes_in_once() || seen.get(&item).is_some() {
-            continue;
-        }
-        seen.insert(item, true)?;
-        items.push(item)?;
+    let repeated: Vec<i64> = ahead
+        .told
+        .iter()
+        .filter(|(_, told)| told.goes_in_again())
+        .map(|(item, _)| *item)
+        .collect(alloc)?;
+    if repeated.is_empty() || repeated.len().saturating_mul(calls) > MOST_STEPS {
+        return Ok(Vec::new(alloc));
     }
-    Ok(items)
-}
-
-/// The items of which rows are made, each once: all, if some go in more than once; only those, where rows of all would take too long;
-/// none, where rows of these would too.
-pub(crate) fn items_of_rows(
-    alloc: Global,
-    calls: &[ProblemCall<Op, Reply>],
-    ahead: &ItemsAhead,
-) -> Result<Vec<i64>, AllocError> {
-    let mut repeated = items_put(alloc, calls, ahead, true)?;
-    if repeated.is_empty() {
+    if ahead.told.len().saturating_mul(calls) > FEW_STEPS {
         return Ok(repeated);
     }
-    let all = items_put(alloc, calls, ahead, false)?;
-    if all.len().saturating_mul(calls.len()) <= MOST_STEPS_OF_ALL {
-        return Ok(all);
-    }
-    if repeated.len().saturating_mul(calls.len()) > MOST_STEPS {
-        repeated.clear();
-    }
-    Ok(repeated)
+    ahead.told.keys().copied().collect(alloc)
 }
 
 // When those of the row were called that may take its item.
