@@ -3,5 +3,6 @@ pub mod QueueLateLemmas
 pub mod NumberLemmas
 pub mod AnyLemmas
 pub mod AheadLemmas
+pub mod ItemRowLemmas
 pub mod SlotLemmas
 pub mod HurriedLemmas

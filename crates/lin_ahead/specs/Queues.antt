@@ -1,5 +1,6 @@
 -- Queues.
 pub mod Queue
 pub mod ToldOfQueue
+pub mod ItemRows
 pub mod Slots
 pub mod Hurried

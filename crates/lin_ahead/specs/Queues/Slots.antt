@@ -31,6 +31,16 @@ concerns v Dequeue None = true
 concerns v Dequeue (Some (number, Int w)) = int_eq v w
 concerns v op returned = false
 
+-- The same of a call, if there is one.
+abbrev pub concerns_at : ℤ → Option (ProblemCall Op Reply) → Bool
+concerns_at v None = false
+concerns_at v (Some c) = concerns v c.op c.returned
+
+-- It is a dequeue that is pending.
+abbrev pub is_open_taker : Op → Option (ℕ × Reply) → Bool
+is_open_taker Dequeue None = true
+is_open_taker op returned = false
+
 -- The numbers of the calls that do, where the first has the number n.
 abbrev pub calls_on : ℤ → ℕ → List (ProblemCall Op Reply) → List ℕ
 calls_on v n [] = []
