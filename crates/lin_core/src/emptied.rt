@@ -12,8 +12,8 @@ ghost use Rattle.lin_core.specs.Laws.{IsOff};
 ghost use Rattle.lin_core.specs.Emptied.{puts, is_item, gave, took, puts_at, took_at, count_puts, count_takes, is_even};
 
 use crate::call_flags::has_flag;
-use crate::rounds::precedes;
 use crate::value_tables::may_go;
+use lin_ahead::precedes;
 use lin_history::{Problem, ProblemCall};
 use lin_object::{AnyObject, Op, Reply};
 use std::alloc::{AllocError, Global};

@@ -9,7 +9,7 @@ use Rattle.lin_core.proofs.emptied.all_precede.Goals as goal
 pub loop-c-preserved : goal.loop-c-preserved
 loop-c-preserved c = λ k h. elim (in_either k (take c.loop-c.c-index c.args.calls.now) (get_or c.args.calls.now c.loop-c.c-index 0 ∷ []) (subst (λ (x : List ℕ). In k x) (take_one c.args.calls.now c.loop-c.c-index c.loop-c-test.true) h)) [
   | inl early ↦ c.loop-c.invariant k early
-  | inr (inl same) ↦ subst (λ (n : ℕ). Before (any_problem c.args.problem.now) n c.args.first) (sym same) (c.precedes.ensures c.if-not-precedes.false)
+  | inr (inl same) ↦ subst (λ (n : ℕ). Before (any_problem c.args.problem.now) n c.args.first) (sym same) (c.precedes.ensures.0 c.if-not-precedes.false)
   | inr (inr none) ↦ absurd none
 ]
 
