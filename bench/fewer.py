@@ -9,19 +9,13 @@ return, or their processes end. Many calls are identical, and some fail. Of most
 linearization, or that there is none, is found by all orders. Prints how many histories of each kind had an order and how many had
 none; and each that differs. With --keep the histories that differ are kept.
 """
-import argparse
 import collections
 import json
-import random
-import subprocess
 import sys
-import tempfile
-from pathlib import Path
 
-BENCH = Path(__file__).resolve().parent
-sys.path[:0] = [str(BENCH), str(BENCH.parent / "bin")]
-from explanations import START, read, step
-from prefixes import AT_ONCE, orders, wrong
+from all_orders import compare, order_line, orders, words
+from explanations import PENDING, START, step
+from prefixes import wrong
 
 KINDS = ["register", "counter", "queue", "stack", "set", "mutex", "map"]
 MOST_CALLS = 12
@@ -95,56 +89,21 @@ def history(chance, kind):
     return "".join(lines)
 
 
-def line(kind, start, calls):
-    """What the program is to print."""
-    order, _ = orders(kind, start, calls)
-    return "none" if order is None else " ".join(["order", *map(str, order)])
-
-
-def compare(program, texts, folder, tally):
-    """Compares what is told of these histories."""
-    files = []
-    for number, text in texts:
-        files.append(Path(folder) / f"{number}.jsonl")
-        files[-1].write_text(text)
-    said = subprocess.run([program, *files], capture_output=True, text=True, check=True).stdout.splitlines()
-    if len(said) != len(files):
-        sys.exit(f"{len(said)} answers to {len(files)} histories")
-    for file, (_, text), answer in zip(files, texts, said):
-        ((_, kind, start, calls),) = read(text)
-        wanted = line(kind, start, calls)
-        tally[kind, wanted == "none"] += 1
-        tally["pending"] += any(call["returned"] is None for call in calls)
-        if answer == wanted:
-            file.unlink()
-        else:
-            tally["differ"] += 1
-            print(f"{file}: {answer}, and by all orders {wanted}")
-
-
 def main():
-    words = argparse.ArgumentParser(description=__doc__, formatter_class=argparse.RawDescriptionHelpFormatter)
-    words.add_argument("--program")
-    words.add_argument("--count", type=int, default=10_000)
-    words.add_argument("--seed", type=int, default=1)
-    words.add_argument("--keep")
-    asked = words.parse_args()
-    chance, tally = random.Random(asked.seed), collections.Counter()
-    with tempfile.TemporaryDirectory() as folder:
-        program = asked.program
-        if program is None:
-            import build_unproved
+    asked = words(__doc__, 10_000).parse_args()
+    tally = collections.Counter()
 
-            program = Path(folder) / "fewer"
-            build_unproved.build(program, BENCH / "fewer.program")
-        for first in range(0, asked.count, AT_ONCE):
-            numbers = range(first, min(first + AT_ONCE, asked.count))
-            texts = [(number, history(chance, KINDS[number % len(KINDS)])) for number in numbers]
-            compare(program, texts, asked.keep or folder, tally)
+    def wanted(kind, start, calls, said):
+        order, _ = orders(kind, start, calls)
+        tally[kind, order is None] += 1
+        tally["pending"] += any(call["returned"] is PENDING for call in calls)
+        return order_line(order)
+
+    differ = compare(asked, "fewer", lambda chance, number: history(chance, KINDS[number % len(KINDS)]), wanted)
     for kind in KINDS:
         print(f"{kind}: {tally[kind, False]} with an order, {tally[kind, True]} without")
-    print(f"{asked.count} histories, {tally['pending']} with pending calls, {tally['differ']} differ")
-    return 1 if tally["differ"] else 0
+    print(f"{asked.count} histories, {tally['pending']} with pending calls, {differ} differ")
+    return 1 if differ else 0
 
 
 if __name__ == "__main__":

@@ -10,19 +10,12 @@ and of most histories one to three replies of `try_lock` or `deq` are wrong. The
 all orders. Prints how many histories had an order and how many had none, of how many
 nothing was told, and each that differs. With --keep the histories that differ are kept.
 """
-import argparse
 import collections
 import json
-import random
-import subprocess
 import sys
-import tempfile
-from pathlib import Path
 
-BENCH = Path(__file__).resolve().parent
-sys.path[:0] = [str(BENCH), str(BENCH.parent / "bin")]
-from explanations import read, step
-from prefixes import AT_ONCE, orders
+from all_orders import compare, order_line, orders, words
+from explanations import PENDING, step
 
 MOST_CALLS = 13
 
@@ -106,54 +99,27 @@ def history(chance, kind):
     return "\n".join(lines) + "\n"
 
 
-def compare(program, lifts, texts, folder, tally):
-    """Compares what is told of these histories."""
-    files = []
-    for number, text in texts:
-        files.append(Path(folder) / f"{number}.jsonl")
-        files[-1].write_text(text)
-    said = subprocess.run([program, str(lifts), *files], capture_output=True, text=True, check=True).stdout.splitlines()
-    if len(said) != len(files):
-        sys.exit(f"{len(said)} answers to {len(files)} histories")
-    for file, (_, text), answer in zip(files, texts, said):
-        ((_, kind, start, calls),) = read(text)
-        order, _ = orders(kind, start, calls)
-        wanted = "none" if order is None else " ".join(["order", *map(str, order)])
-        tally[wanted == "none"] += 1
-        tally["pending"] += any(call["returned"] is None for call in calls)
-        if answer == "nothing":
-            tally["nothing"] += 1
-            tally["nothing of none"] += wanted == "none"
-        elif answer != wanted:
-            tally["differ"] += 1
-            print(f"{file}: {answer}, and by all orders {wanted}")
-            continue
-        file.unlink()
-
-
 def main():
-    words = argparse.ArgumentParser(description=__doc__, formatter_class=argparse.RawDescriptionHelpFormatter)
-    words.add_argument("--kind", choices=["mutex", "queue"], default="mutex")
-    words.add_argument("--program")
-    words.add_argument("--count", type=int, default=20_000)
-    words.add_argument("--seed", type=int, default=1)
-    words.add_argument("--lifts", type=int, default=1_000_000)
-    words.add_argument("--keep")
-    asked = words.parse_args()
-    chance, tally = random.Random(asked.seed), collections.Counter()
-    with tempfile.TemporaryDirectory() as folder:
-        program = asked.program
-        if program is None:
-            import build_unproved
+    parser = words(__doc__, 20_000)
+    parser.add_argument("--kind", choices=["mutex", "queue"], default="mutex")
+    parser.add_argument("--lifts", type=int, default=1_000_000)
+    asked = parser.parse_args()
+    tally = collections.Counter()
 
-            program = Path(folder) / "first"
-            build_unproved.build(program, BENCH / "first.program")
-        for first in range(0, asked.count, AT_ONCE):
-            texts = [(number, history(chance, asked.kind)) for number in range(first, min(first + AT_ONCE, asked.count))]
-            compare(program, asked.lifts, texts, asked.keep or folder, tally)
+    def wanted(kind, start, calls, said):
+        order, _ = orders(kind, start, calls)
+        tally[order is None] += 1
+        tally["pending"] += any(call["returned"] is PENDING for call in calls)
+        if said != "nothing":
+            return order_line(order)
+        tally["nothing"] += 1
+        tally["nothing of none"] += order is None
+        return said
+
+    differ = compare(asked, "first", lambda chance, number: history(chance, asked.kind), wanted, [str(asked.lifts)])
     print(f"{asked.kind}: {tally[False]} with an order, {tally[True]} without, {tally['pending']} with pending calls")
-    print(f"nothing told of {tally['nothing']}, of which {tally['nothing of none']} have no order; {tally['differ']} differ")
-    return 1 if tally["differ"] else 0
+    print(f"nothing told of {tally['nothing']}, of which {tally['nothing of none']} have no order; {differ} differ")
+    return 1 if differ else 0
 
 
 if __name__ == "__main__":

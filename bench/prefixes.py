@@ -10,58 +10,15 @@ at which a run may end, and between those that it may leave out. The least linea
 by all orders. Prints how many histories of each kind had none, by how many of its completed calls the longest run lacks; and each that
 differs. With --keep the histories that differ are kept.
 """
-import argparse
 import collections
-import functools
-import random
-import subprocess
 import sys
-import tempfile
-from pathlib import Path
 
-BENCH = Path(__file__).resolve().parent
-sys.path[:0] = [str(BENCH), str(BENCH.parent / "bin")]
-from explanations import PENDING, START, precedes, read, same, step
+from all_orders import compare, orders, words
+from explanations import PENDING, START, same, step
 
 KINDS = ["register", "queue", "stack", "set", "map", "mutex"]
-AT_ONCE = 500  # files of one run of the program
 MOST_TURNS = 500  # of the clients of one history; calls that wait for a mutex then are pending
 OKAY = {"ok": '"ok"', "empty": "null", True: "true", False: "false"}
-
-
-def orders(kind, start, calls):
-    """The least linearization, or None; and the first longest run. Both by all orders, with what was seen kept."""
-    before = [{b for b, other in enumerate(calls) if precedes(other, call)} for call in calls]
-    completed = {c for c, call in enumerate(calls) if call["returned"] is not PENDING}
-
-    def nexts(lifted, state):
-        for c, call in enumerate(calls):
-            if c not in lifted and before[c] <= lifted:
-                answer = step(kind, state, call["process"], call["op"], call["args"])
-                if answer is not None and (c not in completed or same(answer[1], call["returned"][1])):
-                    yield c, lifted | {c}, answer[0]
-
-    @functools.cache
-    def least(lifted, state):
-        if completed <= lifted:
-            return ()
-        for c, after, new in nexts(lifted, state):
-            rest = least(after, new)
-            if rest is not None:
-                return (c, *rest)
-        return None
-
-    @functools.cache
-    def longest(lifted, state):
-        best = ()
-        for c, after, new in nexts(lifted, state):
-            rest = longest(after, new)
-            if len(rest) + 1 > len(best):
-                best = (c, *rest)
-        return best
-
-    order = least(frozenset(), start)
-    return order, longest(frozenset(), start) if order is None else None
 
 
 def draw(chance, kind, keys, values, number, held=False):
@@ -141,60 +98,26 @@ def history(chance, kind):
     return "".join(lines)
 
 
-def line(kind, start, calls):
-    """What the program is to print, and how many completed calls the run lacks."""
-    order, run = orders(kind, start, calls)
-    if order is not None:
-        return " ".join(["order", *map(str, order)]), None
-    lacking = sum(call["returned"] is not PENDING for c, call in enumerate(calls) if c <= max(run, default=-1) and c not in run)
-    return " ".join(["run", *map(str, run)]), lacking
-
-
-def compare(program, texts, folder, tally):
-    """Compares what is told of these histories."""
-    files = []
-    for number, text in texts:
-        files.append(Path(folder) / f"{number}.jsonl")
-        files[-1].write_text(text)
-    said = subprocess.run([program, *files], capture_output=True, text=True, check=True).stdout.splitlines()
-    if len(said) != len(files):
-        sys.exit(f"{len(said)} answers to {len(files)} histories")
-    for file, (_, text), answer in zip(files, texts, said):
-        ((_, kind, start, calls),) = read(text)
-        wanted, lacking = line(kind, start, calls)
-        tally[kind, lacking] += 1
-        if answer == wanted:
-            file.unlink()
-        else:
-            tally["differ"] += 1
-            print(f"{file}: {answer}, and by all orders {wanted}")
-
-
 def main():
-    words = argparse.ArgumentParser(description=__doc__, formatter_class=argparse.RawDescriptionHelpFormatter)
-    words.add_argument("--program")
-    words.add_argument("--count", type=int, default=10_000)
-    words.add_argument("--seed", type=int, default=1)
-    words.add_argument("--keep")
-    asked = words.parse_args()
-    chance, tally = random.Random(asked.seed), collections.Counter()
-    with tempfile.TemporaryDirectory() as folder:
-        program = asked.program
-        if program is None:
-            import build_unproved
+    asked = words(__doc__, 10_000).parse_args()
+    tally = collections.Counter()
 
-            program = Path(folder) / "prefixes"
-            build_unproved.build(program, BENCH / "prefixes.program")
-        for first in range(0, asked.count, AT_ONCE):
-            numbers = range(first, min(first + AT_ONCE, asked.count))
-            texts = [(number, history(chance, KINDS[number % len(KINDS)])) for number in numbers]
-            compare(program, texts, asked.keep or folder, tally)
+    def wanted(kind, start, calls, said):
+        order, run = orders(kind, start, calls)
+        if order is not None:
+            tally[kind, None] += 1
+            return " ".join(["order", *map(str, order)])
+        last = max(run, default=-1)
+        tally[kind, sum(call["returned"] is not PENDING for c, call in enumerate(calls) if c <= last and c not in run)] += 1
+        return " ".join(["run", *map(str, run)])
+
+    differ = compare(asked, "prefixes", lambda chance, number: history(chance, KINDS[number % len(KINDS)]), wanted)
     for kind in KINDS:
         lacking = {d: tally[kind, d] for d in range(20) if tally[kind, d]}
         print(f"{kind}: {tally[kind, None]} with an order; runs by how many completed calls they lack: {lacking}")
-    refuted = sum(count for key, count in tally.items() if key != "differ" and key[1] is not None)
-    print(f"{asked.count} histories, {refuted} without an order, {tally['differ']} differ")
-    return 1 if tally["differ"] else 0
+    refuted = sum(count for (_, lacking), count in tally.items() if lacking is not None)
+    print(f"{asked.count} histories, {refuted} without an order, {differ} differ")
+    return 1 if differ else 0
 
 
 if __name__ == "__main__":

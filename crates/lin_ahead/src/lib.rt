@@ -34,7 +34,7 @@ mod stacks;
 mod sum_tree;
 mod values;
 
-pub use counters::rows::{SumLimit, SumRows};
+pub use counters::rows::{SumLimit, SumRows, share_of};
 pub use in_vain::are_in_vain;
 pub use items::impossible_items::some_came_too_early;
 pub use items::late_pushes::LateRows;
@@ -44,6 +44,7 @@ pub use look_ahead::{KnownAhead, known_ahead};
 pub use mutexes::holders::held_until;
 pub use mutexes::rows::MutexAhead;
 pub use mutexes::sections::Section;
+pub use mutexes::turns::{are_in_turn, precedes};
 pub use queues::rows::QueueAhead;
 pub use search_by_kind::search_first;
 pub use stacks::rows::StackAhead;

@@ -15,20 +15,20 @@ pub(crate) const MOST: usize = 4;
 // How many pending calls may take an item where it is asked whether they are too few.
 const MOST_TAKERS: usize = 8;
 
-// The items put once, in the order of the returns of their puts.
-fn singles_of(alloc: Global, all: &[ItemTimes]) -> Result<Vec<ItemTimes>, AllocError> {
-    let mut singles: Vec<ItemTimes> = all
+// The items whose puts returned, in the order of these returns.
+fn put_in_turn(alloc: Global, all: &[ItemTimes]) -> Result<Vec<ItemTimes>, AllocError> {
+    let mut put: Vec<ItemTimes> = all
         .iter()
-        .filter(|times| times.is_single())
+        .filter(|times| times.put_returned < NEVER)
         .copied()
         .collect(alloc)?;
-    singles.sort_by_key(|times| times.put_returned)?;
-    Ok(singles)
+    put.sort_by_key(|times| times.put_returned)?;
+    Ok(put)
 }
 
-// When each of the items was surely there.
-fn spans_of(alloc: Global, singles: &[ItemTimes]) -> Result<Spans, AllocError> {
-    let spans = singles.iter().map(|times| Span {
+// When each of the items was surely there: at these times more of it were put than could be taken.
+fn spans_of(alloc: Global, put: &[ItemTimes]) -> Result<Spans, AllocError> {
+    let spans = put.iter().map(|times| Span {
         from: times.put_returned,
         until: times.take_called,
         name: times.item,
@@ -41,7 +41,7 @@ pub(crate) fn list_of(alloc: Global, values: &[i64]) -> Result<Vec<i64>, AllocEr
     Vec::from_slice(alloc, values)
 }
 
-// Items with more takes than puts, or taken before they were put.
+// Items of which at some time more were taken than put.
 fn taken_in_vain(
     alloc: Global,
     all: &[ItemTimes],
@@ -85,7 +85,7 @@ fn crossed(
             break;
         }
         match spans.last_before(times.put_called) {
-            Some(early) if times.puts == 1 && times.take_returned < early.until => {
+            Some(early) if times.take_returned < early.until => {
                 found.push(list_of(alloc, &[early.name, times.item])?)?;
             }
             _ => {}
@@ -94,13 +94,18 @@ fn crossed(
     Ok(())
 }
 
-// Two items of a stack of which the lower one was popped first.
+// Two items of a stack, each put once, of which the lower one was popped first.
 fn popped_from_under(
     alloc: Global,
-    singles: &[ItemTimes],
+    put: &[ItemTimes],
     found: &mut Vec<Vec<i64>>,
 ) -> Result<(), AllocError> {
     let most = found.len().saturating_add(MOST);
+    let singles: Vec<ItemTimes> = put
+        .iter()
+        .filter(|times| times.is_single())
+        .copied()
+        .collect(alloc)?;
     let mut lower: Vec<ItemTimes> = singles
         .iter()
         .filter(|times| times.take_returned < NEVER)
@@ -135,7 +140,7 @@ fn popped_from_under(
 // queue behind them and taken, or into a stack below them.
 fn lost(
     alloc: Global,
-    singles: &[ItemTimes],
+    put: &[ItemTimes],
     takers: usize,
     is_queue: bool,
     found: &mut Vec<Vec<i64>>,
@@ -143,9 +148,9 @@ fn lost(
     if takers == 0 || takers > MOST_TAKERS {
         return Ok(());
     }
-    let left: Vec<ItemTimes> = singles
+    let left: Vec<ItemTimes> = put
         .iter()
-        .filter(|times| times.takes == 0)
+        .filter(|times| times.take_returned == NEVER)
         .take(takers.saturating_add(1))
         .copied()
         .collect(alloc)?;
@@ -163,7 +168,7 @@ fn lost(
         .map(|times| times.put_called)
         .min()
         .unwrap_or(NEVER);
-    let other = singles.iter().find(|times| {
+    let other = put.iter().find(|times| {
         if is_queue {
             last < times.put_called && times.take_returned < NEVER
         } else {
@@ -198,18 +203,18 @@ pub(crate) fn item_faults(
     let mut found = Vec::new(alloc);
     let all = times_of_items(alloc, problem, index)?;
     let empties = times_of_empties(alloc, problem, index)?;
-    let singles = singles_of(alloc, all.as_slice())?;
-    let spans = spans_of(alloc, singles.as_slice())?;
+    let put = put_in_turn(alloc, all.as_slice())?;
+    let spans = spans_of(alloc, put.as_slice())?;
     taken_in_vain(alloc, all.as_slice(), &mut found)?;
     there_when_empty(alloc, &spans, empties.as_slice(), &mut found)?;
     if is_queue {
         crossed(alloc, &spans, all.as_slice(), &mut found)?;
     } else {
-        popped_from_under(alloc, singles.as_slice(), &mut found)?;
+        popped_from_under(alloc, put.as_slice(), &mut found)?;
     }
     lost(
         alloc,
-        singles.as_slice(),
+        put.as_slice(),
         count_takers(problem, index),
         is_queue,
         &mut found,

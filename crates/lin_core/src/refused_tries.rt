@@ -10,9 +10,9 @@ ghost use Rattle.lin_history.specs.Problems.Precedence.{Before};
 ghost use Rattle.lin_history.specs.Problems.AnyProblem.{any_problem};
 ghost use Rattle.lin_core.specs.Rounds.{may_take, AreAllTakers, IsTryApart};
 
-use crate::rounds::precedes;
 use crate::selection::Selection;
 use crate::value_tables::has_process;
+use lin_ahead::precedes;
 use lin_history::{Problem, ProblemCall};
 use lin_object::{AnyObject, ObjState, Op, Reply};
 

@@ -4,10 +4,11 @@
 ghost use Rattle.std.specs.Prelude.{◌≡◌, ◌+◌, ◌*◌, ◌<◌, ◌≤◌, ◌^◌, Some, None, length, IfSome, IsTrue, if◌then◌else◌};
 ghost use Rattle.lin_object.specs.declared.state.ObjState.TheVariants.{Counter};
 ghost use Rattle.lin_history.specs.Problems.AnyProblem.{any_problem};
-ghost use Rattle.lin_ahead.specs.Counters.Sums.{share_in, share_of};
+ghost use Rattle.lin_ahead.specs.Counters.Sums.{share_of};
 ghost use Rattle.lin_core.specs.Cores.{HasNone};
 ghost use Rattle.lin_core.specs.Sums.{is_back_before, is_after, is_over, must_come, may_come, sum_of, IsGet, IsCountedFrom, bound_of, IsBeyond, IsSumFault, SumLaw};
 
+use lin_ahead::share_of;
 use lin_history::{Problem, ProblemCall};
 use lin_object::{AnyObject, ObjState, Op, Reply};
 
@@ -49,30 +50,7 @@ pub struct SumFault {
     pub bound: i128,
 }
 
-// What the number adds, or else takes off.
-fn share_in(up: bool, value: i64) -> u64
-    ensures share { result ≡ share_in up value }
-    ensures few { result ≤ 2 ^ 63 }
-{
-    if (value >= 0) == up {
-        value.unsigned_abs()
-    } else {
-        0
-    }
-}
-
-// What the operation adds, or else takes off.
-fn share_of(up: bool, op: &Op) -> u64
-    ensures share { result ≡ share_of up op.now }
-    ensures few { result ≤ 2 ^ 63 }
-{
-    match op {
-        Op::Add(difference) => share_in(up, *difference),
-        _ => 0,
-    }
-}
-
-// The same, or nothing where it is not looked at.
+// What the operation adds, or else takes off; nothing where it is not looked at.
 fn share_if(counts: bool, up: bool, op: &Op) -> u64
     ensures share { result ≡ if counts then share_of up op.now else 0 }
     ensures few { result ≤ 2 ^ 63 }

@@ -43,8 +43,8 @@ fn share_in(up: bool, value: i64) -> u64
     }
 }
 
-// What the operation adds in the direction.
-fn share_of(up: bool, op: &Op) -> u64
+/// What the operation adds upwards, or else downwards: at most 2^63.
+pub fn share_of(up: bool, op: &Op) -> u64
     ensures share { result ≡ share_of up op.now }
     ensures few { result ≤ 2 ^ 63 }
 {

@@ -109,6 +109,11 @@ impl ItemCalls {
         }
     }
 
+    /// Whether several calls put the item in.
+    pub(crate) fn goes_in_again(&self) -> bool {
+        matches!(self.putters, Callers::Several)
+    }
+
     /// Whether one call puts the item in, and no other.
     pub(crate) fn goes_in_once(&self) -> bool
         ensures { result ≡ goes_in_once self.now.putters }

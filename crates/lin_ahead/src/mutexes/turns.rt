@@ -11,8 +11,8 @@ use lin_history::Problem;
 use lin_object::AnyObject;
 use std::alloc::{AllocError, Global};
 
-// Whether the call returned before the other one was called.
-fn precedes(problem: &Problem<AnyObject>, call: usize, other: usize) -> bool
+/// Whether the call returned before the other one was called; not where there is no such call.
+pub fn precedes(problem: &Problem<AnyObject>, call: usize, other: usize) -> bool
     ensures { IsTrue result ↔ Before (any_problem problem.now) call other }
 {
     let (Some(one), Some(next)) = (problem.calls().get(call), problem.calls().get(other)) else {
@@ -50,8 +50,8 @@ fn comes_after(problem: &Problem<AnyObject>, earlier: Option<usize>, call: usize
     }
 }
 
-/// Whether the calls of each process come one after another. It takes O(n) for n calls.
-pub(crate) fn are_in_turn(alloc: Global, problem: &Problem<AnyObject>) -> Result<bool, AllocError>
+/// Whether the calls of each process come one after another. It takes O(n) for n calls. `AllocError` where memory was refused.
+pub fn are_in_turn(alloc: Global, problem: &Problem<AnyObject>) -> Result<bool, AllocError>
     ensures { IfOk result (λ yes. IsTrue yes ↔ AreInTurn (any_problem problem.now)) }
 {
     let _timed = problem.calls();

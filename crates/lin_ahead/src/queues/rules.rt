@@ -18,7 +18,7 @@ use crate::queues::early_enqueues::comes_too_early;
 use crate::queues::item_rows::{ItemRow, item_rows};
 use crate::queues::needs::left_out;
 use crate::queues::rows::QueueAhead;
-use crate::queues::slots::{SlotHints, repeated_items};
+use crate::queues::slots::{SlotHints, items_in_rows};
 use crate::queues::takers::lacks_takers;
 use lin_history::Problem;
 use lin_object::{AnyObject, ObjState, lawful};
@@ -50,7 +50,7 @@ impl<'a> QueueRules<'a> {
         ensures rows { IfOk result (λ rules. AreItemRows problem.now.calls rules.rows.items) }
     {
         let calls = problem.calls();
-        let items = repeated_items(alloc, calls, &ahead.items)?;
+        let items = items_in_rows(alloc, calls.len(), &ahead.items)?;
         let rows = item_rows(alloc, calls, items.as_slice())?;
         Ok(QueueRules {
             ahead,

@@ -2,11 +2,9 @@
 //! that. All of it is hints.
 
 use crate::items::calls::{item_put, item_taken};
-use crate::items::each_item::told_of;
 use crate::items::item_calls::BEYOND;
 use crate::items::rows::ItemsAhead;
 use crate::queues::item_rows::ItemRow;
-use indexmap::IndexMap;
 use lin_history::ProblemCall;
 use lin_object::{Op, Reply};
 use std::alloc::{AllocError, Global};
@@ -14,6 +12,9 @@ use std::alloc::{AllocError, Global};
 // At most so many calls are walked over in all, as the row of each item is made by a walk over all of them: it takes less than a tenth of
 // a second, before each first search, and is enough for 1,000 items of 16,384 calls.
 const MOST_STEPS: usize = 1 << 24;
+
+// At most so many, where rows are made of items too that go in once: it takes some milliseconds, and is enough for 256 items of 4,096 calls.
+const FEW_STEPS: usize = 1 << 20;
 
 // By the event more calls returned with the row's item than the rank says.
 #[derive(Clone, Copy)]
@@ -49,28 +50,26 @@ pub(crate) struct SlotHints {
     first: usize,
 }
 
-/// The items that go in more than once, each once; none where rows of them would take too long.
-pub(crate) fn repeated_items(
+/// The items of which rows are made. Where some go in more than once these are all items, or those alone if rows of all would take
+/// long; and none if rows of those would take too long, or if each goes in once.
+pub(crate) fn items_in_rows(
     alloc: Global,
-    calls: &[ProblemCall<Op, Reply>],
+    calls: usize,
     ahead: &ItemsAhead,
 ) -> Result<Vec<i64>, AllocError> {
-    let mut items = Vec::new(alloc);
-    let mut seen: IndexMap<i64, bool> = IndexMap::new(alloc);
-    for call in 0..calls.len() {
-        let Some(item) = item_put(calls, call) else {
-            continue;
-        };
-        if told_of(&ahead.told, item).goes_in_once() || seen.get(&item).is_some() {
-            continue;
-        }
-        seen.insert(item, true)?;
-        items.push(item)?;
+    let repeated: Vec<i64> = ahead
+        .told
+        .iter()
+        .filter(|(_, told)| told.goes_in_again())
+        .map(|(item, _)| *item)
+        .collect(alloc)?;
+    if repeated.is_empty() || repeated.len().saturating_mul(calls) > MOST_STEPS {
+        return Ok(Vec::new(alloc));
     }
-    if items.len().saturating_mul(calls.len()) > MOST_STEPS {
-        items.clear();
+    if ahead.told.len().saturating_mul(calls) > FEW_STEPS {
+        return Ok(repeated);
     }
-    Ok(items)
+    ahead.told.keys().copied().collect(alloc)
 }
 
 // When those of the row were called that may take its item.
