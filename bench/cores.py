@@ -2,16 +2,18 @@
 """Checks the cores that `core_of` finds, and the gets of counters that `sum_fault_of` finds, by the definitions alone.
 
     bench/cores.py [--program PROGRAM] FILE..
-    bench/cores.py [--program PROGRAM] --random COUNT [--seed N] [--counters]
+    bench/cores.py [--program PROGRAM] --random COUNT [--seed N] [--counters] [--items]
 
-Builds `bench/cores.program` by `bin/build_unproved.py` (two minutes), unless it is given, and runs it on each history. All orders of
-a core's calls are tried: there may be none. The calls left out may not be needed: each is none of the core's values, or changes
-nothing, or precedes the first, which begins anew. A core can't be smaller: cut at an earlier return, without one of its values or without one call that changes nothing, its
-calls have an order. Of small histories all orders of the whole are tried too: one with an order may have no core. The sums of a
-get for whose reply the adds leave no room are made anew; one has to be found exactly where some get has such a reply, counted from
-the start or from an earlier get. Prints how
-many cores have how many calls, and each object without an order of which no core was found. With --counters all random
-histories are of counters that add different numbers.
+Builds `bench/cores.program` by `bin/build_unproved.py` (two minutes), unless it is given, and runs it on each history. All orders
+of a core's calls are tried: there may be none. The calls left out may not be needed: each is none of the core's values, or
+changes nothing, or precedes the first, which begins anew; or it is one of some that precede them all and put each of the items
+into a queue or a stack as often as they took it out. A core can't be smaller: cut at an earlier return, without one of its
+values, without one call that changes nothing or, where it has many, without those before a moment at which each of its items was
+out, its calls have an order. Of small histories all orders of the whole are tried too: one with an order may have no core. The
+sums of a get for whose reply the adds leave no room are made anew; one has to be found exactly where some get has such a reply,
+counted from the start or from an earlier get. Prints how many cores have how many calls, and each object without an order of
+which no core was found. With --counters all random histories are of counters that add different numbers; with --items they are of
+queues and stacks of a few items that are emptied time and again.
 """
 import argparse
 import collections
@@ -26,8 +28,11 @@ sys.path[:0] = [str(BENCH), str(BENCH.parent / "bin")]
 from explanations import PENDING, precedes, read, same
 from explanations import step as step_of_any_size
 
-# Histories of which all orders are tried, and cores: those with more calls are counted only.
-SMALL, MOST = 14, 20
+# Histories of which all orders are tried, and cores: those with more calls are counted only. Of items that few calls put and take at
+# one moment so many calls are tried.
+SMALL, MOST, MOST_IN_TURN = 14, 20, 60
+# A core of more calls begins at the last moment at which each of its items was out.
+FEW = 8
 BITS = 63
 CHANGE_NOTHING = {"read", "get", "contains"}
 
@@ -126,6 +131,21 @@ def begins_anew(kind, start, calls, kept, values, before):
     return anew and all(precedes(c, first) for c in before) and all(precedes(first, calls[k]) for k in kept[1:])
 
 
+def item_count(call, item):
+    """What a call adds to how often an item is in a queue or a stack."""
+    if call["op"] in ("enq", "push"):
+        return int(call["args"][0] == item)
+    return -int(call["op"] in ("deq", "pop") and call["returned"] is not PENDING and call["returned"][1] == item)
+
+
+def once_out(kind, start, calls, kept, values, before):
+    """Whether each of the items was out behind these calls, all of which precede all that are kept."""
+    if kind not in ("queue", "stack") or start or not kept:
+        return False
+    are_even = all(sum(item_count(call, item) for call in before) == 0 for item in values)
+    return are_even and all(precedes(call, calls[k]) for call in before for k in kept)
+
+
 def smaller(kind, calls, kept, event, values, at):
     """The selections next smaller than this one: calls and an event."""
     returns = sorted(c["returned"][0] for c in (calls[k] for k in kept) if c["returned"] is not PENDING)
@@ -136,6 +156,9 @@ def smaller(kind, calls, kept, event, values, at):
         on = [k for k in kept if is_on(kind, calls[k], fewer, at)]
         if all(may_go(kind, calls[k], fewer, at) for k in kept if k not in on):
             yield on, event
+    for place in range(1, len(kept)) if len(kept) > FEW else []:
+        if once_out(kind, (), calls, kept[place:], values, [calls[k] for k in kept[:place]]):
+            yield kept[place:], event
     for k in kept:
         if is_idle(kind, calls[k]):
             yield [other for other in kept if other != k], event
@@ -157,7 +180,8 @@ def check(kind, start, calls, core):
     needs_all = kind == "register" and any(is_refused_cas(calls[k]) for k in kept)
     needed = [c for c in others if not (is_idle(kind, c) if needs_all else may_go(kind, c, values, at))]
     if kind != "mutex" and needed and not begins_anew(kind, start, calls, kept, values, needed):
-        return "a call that it needs is left out"
+        if not once_out(kind, start, calls, kept, values, needed):
+            return "a call that it needs is left out"
     for less, earlier in smaller(kind, calls, kept, event, values, at):
         if not has_order(kind, start, [cut(calls[k], earlier) for k in less]):
             return f"{len(less)} calls are enough"
@@ -215,12 +239,19 @@ def answers(program, files):
     return told
 
 
+def has_earlier(calls, core):
+    """Whether a call that precedes all of a core is on its items."""
+    kept = [k for k, _ in core["calls"]]
+    return any(any(item_count(call, item) for item in core["values"]) and all(precedes(call, calls[k]) for k in kept) for call in calls)
+
+
 class Tally:
     """What was found of all objects."""
 
     def __init__(self):
         self.sizes, self.wrong, self.missed, self.orders = collections.Counter(), [], [], 0
         self.sums, self.pairs, self.refuted_counters, self.not_by_sums = 0, 0, 0, 0
+        self.once_out, self.small = 0, SMALL
 
     def add_sums(self, name, kind, start, calls, fault):
         """Of a counter whether a get is found exactly where there is one, and whether its sums are right."""
@@ -229,7 +260,7 @@ class Tally:
             self.wrong.append(f"{name}: sums: {fault}: {faults[:5]}")
         self.sums += fault is not None
         self.pairs += fault is not None and fault[0] is not None
-        if kind == "counter" and len(calls) <= SMALL:
+        if kind == "counter" and len(calls) <= self.small:
             has_one = has_order(kind, start, calls)
             self.refuted_counters += not has_one
             self.not_by_sums += not has_one and fault is None
@@ -238,7 +269,7 @@ class Tally:
 
     def add(self, name, kind, start, calls, core, fault):
         self.add_sums(name, kind, start, calls, fault)
-        small = len(calls) <= SMALL
+        small = len(calls) <= self.small
         if core is None:
             if small and has_order(kind, start, calls):
                 self.orders += 1
@@ -246,6 +277,7 @@ class Tally:
                 self.missed.append(f"{name} ({kind}, {len(calls)} calls)")
             return
         self.sizes[len(core["calls"])] += 1
+        self.once_out += kind in ("queue", "stack") and has_earlier(calls, core)
         fault = check(kind, start, calls, core)
         if small and has_order(kind, start, calls):
             fault = "the whole has an order"
@@ -254,6 +286,7 @@ class Tally:
 
     def print(self):
         print("cores by their calls:", dict(sorted(self.sizes.items())))
+        print("cores from a moment on at which each item was out:", self.once_out)
         print("objects with an order, without a core:", self.orders)
         print("objects without an order, without a core:", len(self.missed), *self.missed[:20], sep="\n  ")
         print("gets for whose reply the adds leave no room:", self.sums, "of which counted from an earlier get:", self.pairs)
@@ -308,6 +341,33 @@ def random_counter(chance):
     return "".join(lines)
 
 
+def random_items(chance):
+    """The text of a history of a queue or a stack of a few items that is filled and emptied in turn by a few processes, with a few
+    replies replaced or exchanged."""
+    kind, put, take = chance.choice([("queue", "enq", "deq"), ("stack", "push", "pop")])
+    lines, open_calls, state = [f'{{"event":"object","object":"x","kind":"{kind}"}}\n'], {}, ()
+    items, processes, most, errs = chance.choice([1, 2, 3]), chance.choice([1, 2, 3]), chance.choice([1, 2, 4]), chance.choice([0.02, 0.05])
+    fills, faulty = True, chance.randrange(8, 60)
+    for number in range(chance.randrange(30, 2 * MOST_IN_TURN)):
+        process = chance.randrange(processes)
+        call = open_calls.get(process)
+        if call is None:
+            fills = not state or fills and len(state) < most
+            op, args = (put, [chance.randrange(items)]) if fills or chance.random() < 0.1 else (take, [])
+            open_calls[process] = {"op": op, "args": args, "reply": None}
+            shown = f',"args":{args}' if args else ""
+            lines.append(f'{{"event":"call","process":{process},"object":"x","op":"{op}"{shown}}}\n')
+        elif call["reply"] is None:
+            state, call["reply"] = step(kind, state, process, call["op"], call["args"])
+        elif chance.random() < 0.99:
+            del open_calls[process]
+            reply = {"ok": '"ok"', "empty": "null"}.get(call["reply"], str(call["reply"]))
+            if call["op"] == take and number > faulty and chance.random() < errs:
+                reply = chance.choice([*map(str, range(items)), "null"])
+            lines.append(f'{{"event":"return","process":{process},"object":"x","result":{reply}}}\n')
+    return "".join(lines)
+
+
 def random_history(chance, kind):
     """The text of a small history whose calls take effect in turn, with a few replies replaced."""
     lines, open_calls, events = [f'{{"event":"object","object":"x","kind":"{kind}"}}\n'], {}, chance.randrange(8, 2 * SMALL)
@@ -343,7 +403,10 @@ def histories(words, folder):
     kinds = ["register", "counter", "queue", "stack", "set", "mutex", "map"]
     for number in range(words.random):
         file = Path(folder) / f"{number}.jsonl"
-        file.write_text(random_counter(chance) if words.counters else random_history(chance, kinds[number % len(kinds)]))
+        if words.counters or words.items:
+            file.write_text(random_counter(chance) if words.counters else random_items(chance))
+        else:
+            file.write_text(random_history(chance, kinds[number % len(kinds)]))
         files.append(str(file))
     return files
 
@@ -354,6 +417,7 @@ def main():
     words.add_argument("--random", type=int)
     words.add_argument("--seed", type=int, default=1)
     words.add_argument("--counters", action="store_true")
+    words.add_argument("--items", action="store_true")
     words.add_argument("files", nargs="*")
     asked = words.parse_args()
     with tempfile.TemporaryDirectory() as folder:
@@ -364,6 +428,7 @@ def main():
             program = Path(folder) / "cores"
             build_unproved.build(program, BENCH / "cores.program")
         tally = Tally()
+        tally.small = MOST_IN_TURN if asked.items else SMALL
         for file in histories(asked, folder):
             objects = read(Path(file).read_text())
             for (name, kind, start, calls), (core, fault) in zip(objects, answers(program, [file])):

@@ -282,6 +282,20 @@ def values_of(call):
     return set(written + [value for value in got if type(value) is int])
 
 
+def is_of(call, item):
+    """How often a call put an item into a queue or a stack: -1 where it took it out."""
+    if call["op"] in ("enq", "push"):
+        return int(call["args"][0] == item)
+    return -int(call["op"] in ("deq", "pop") and call["returned"] is not PENDING and call["returned"][1] == item)
+
+
+def earlier_calls(kind, core, calls):
+    """The calls on the items of a core that returned before the first of it was called, of a queue or a stack."""
+    values, line = set().union(*map(values_of, core)), core[0]["lines"][0]
+    back = [call for call in calls if call["returned"] is not PENDING and call["lines"][1] < line]
+    return [call for call in back if kind in ("queue", "stack") and values_of(call) & values]
+
+
 def begin(kind, core):
     """The line from which on the other calls matter: 0, or that of a first call which gives anew and returned before the second."""
     first, *more = core
@@ -373,9 +387,13 @@ def is_core(name, kind, start, calls, lines):
     key = str(*keys) if len(keys) == 1 else None
     is_told_so = text == lines[1:] and (head[1], head[3]) == ((None, "has") if len(core) == 1 else (str(len(core)), "have")) and head[2] == key
     last = max(max(call["lines"][0], call["lines"][-1] if call["returned"] is not PENDING else 0) for call in core)
-    since = begin(kind, core)
+    since, ending = begin(kind, core), ""
+    if earlier := earlier_calls(kind, core, calls):
+        since = core[0]["lines"][0]
+        ending = f", and before line {since} each was taken as often as it was put"
+        is_told_so &= all(sum(is_of(call, item) for call in earlier) == 0 for item in set().union(*map(values_of, core)))
     lines_told = f"from line {since} to line {last}" if since else f"up to line {last}"
-    is_told_so = is_told_so and end == f"no other call {lines_told} {others(kind, core, calls, since, last)}"
+    is_told_so = is_told_so and end == f"no other call {lines_told} {others(kind, core, calls, since, last)}{ending}"
     is_in_order = [call["called"] for call in core] == sorted({call["called"] for call in core})
     return is_told_so and is_in_order and all(until < returned for returned in after) and not has_order(kind, start, core)
 

@@ -42,6 +42,7 @@ pub use items::late_pushes::LateRows;
 pub use items::rows::ItemsAhead;
 pub use items::taken_twice::some_was_taken_twice;
 pub use look_ahead::{KnownAhead, known_ahead};
+pub use mutexes::holders::held_until;
 pub use mutexes::rows::MutexAhead;
 pub use mutexes::sections::Section;
 pub use mutexes::turns::{are_in_turn, precedes};

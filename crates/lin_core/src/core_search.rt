@@ -5,6 +5,7 @@ ghost use Rattle.lin_history.specs.Problems.AnyProblem.{any_problem};
 ghost use Rattle.lin_core.specs.Cores.{IsCoreOf, HasNone};
 
 use crate::call_index::{CallIndex, selection_of, with_sources};
+use crate::fronts::from_front;
 use crate::item_faults::{item_faults, list_of};
 use crate::item_times::return_of;
 use crate::judge::{Judge, lifts_for};
@@ -12,7 +13,7 @@ use crate::key_faults::forgotten;
 use crate::lock_faults::{around_try, tries_in_vain, two_holders};
 use crate::refuted_part::{Core, core_of_calls};
 use crate::selection::{MapKey, Selection};
-use crate::smaller::{from_anew, make_smaller, needs_all, rounds_but_for, without_rounds};
+use crate::smaller::{make_smaller, needs_all, rounds_but_for, without_rounds};
 use crate::value_faults::value_faults;
 use lin_history::Problem;
 use lin_object::{AnyObject, ObjState};
@@ -288,11 +289,15 @@ impl<'a> Finder<'a> {
         }
     }
 
-    // The selection from its last call on that begins anew, and first the same made as small as can be; nothing where no such call
-    // leaves calls that are refuted.
-    fn anew(&mut self, alloc: Global, selection: &Selection) -> Result<Vec<Selection>, AllocError> {
+    // The selection from a place on before which nothing shows, and first the same made as small as can be; nothing where no such
+    // place leaves calls that are refuted.
+    fn from_front(
+        &mut self,
+        alloc: Global,
+        selection: &Selection,
+    ) -> Result<Vec<Selection>, AllocError> {
         let mut found = Vec::new(alloc);
-        let Some(less) = from_anew(alloc, self.problem, &mut self.judge, selection)? else {
+        let Some(less) = from_front(alloc, self.problem, &mut self.judge, selection)? else {
             return Ok(found);
         };
         let mut least = less.copied(alloc)?;
@@ -302,14 +307,14 @@ impl<'a> Finder<'a> {
         Ok(found)
     }
 
-    // The same, made as small as can be: where it has many calls also from a call on that begins anew, which comes first.
+    // The same, made as small as can be: where it has many calls also from a place on before which nothing shows, which comes first.
     fn smallest(&mut self, alloc: Global) -> Result<Vec<Selection>, AllocError> {
         let Some(mut selection) = self.refuted(alloc)? else {
             return Ok(Vec::new(alloc));
         };
         make_smaller(alloc, self.problem, &mut self.judge, &mut selection)?;
         let mut found = if selection.key.is_none() && selection.calls.len() > FEW_CALLS {
-            self.anew(alloc, &selection)?
+            self.from_front(alloc, &selection)?
         } else {
             Vec::new(alloc)
         };

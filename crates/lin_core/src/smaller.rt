@@ -1,10 +1,8 @@
 //! Selections with fewer calls, as long as a search shows that they have no linearization: without some values, without calls
 //! that change nothing, without rounds of a mutex, and cut at an earlier event.
 
-use crate::begins_anew::begins_anew;
 use crate::call_index::CallIndex;
 use crate::call_places::{Place, is_idle, place_of, source_of};
-use crate::item_times::return_of;
 use crate::judge::Judge;
 use crate::refused_tries::is_refused;
 use crate::rounds::round_from;
@@ -17,9 +15,6 @@ use std::alloc::{AllocError, Global};
 const TURNS: usize = 4;
 
 const HALVINGS: usize = 32;
-
-// How many calls of a selection are looked at, from its last one on, for one that begins anew.
-const MOST_FRONTS: usize = 256;
 
 // What is left out of a selection.
 #[derive(Clone, Copy)]
@@ -394,55 +389,6 @@ pub(crate) fn make_smaller(
         }
     }
     Ok(())
-}
-
-// Whether all of the calls before this place returned before the call there was called, and it returned before the next one was
-// called.
-fn parts_at(problem: &Problem<AnyObject>, calls: &[usize], place: usize) -> bool {
-    let Some(first) = calls
-        .get(place)
-        .and_then(|index| problem.calls().get(*index))
-    else {
-        return false;
-    };
-    let is_before = |index: &usize| match problem.calls().get(*index) {
-        Some(call) => return_of(call) < first.called,
-        None => false,
-    };
-    let next = calls.get(place.saturating_add(1));
-    let is_alone = match next.and_then(|index| problem.calls().get(*index)) {
-        Some(next) => return_of(first) < next.called,
-        None => true,
-    };
-    is_alone && calls.iter().take(place).all(is_before)
-}
-
-/// The selection from its last call on that begins anew and leaves calls that have no linearization, if there is one.
-pub(crate) fn from_anew(
-    alloc: Global,
-    problem: &Problem<AnyObject>,
-    judge: &mut Judge<'_>,
-    selection: &Selection,
-) -> Result<Option<Selection>, AllocError> {
-    let calls = selection.calls.as_slice();
-    for place in (1..calls.len()).rev().take(MOST_FRONTS) {
-        let begins = match calls
-            .get(place)
-            .and_then(|index| problem.calls().get(*index))
-        {
-            Some(call) => begins_anew(problem, selection.values.as_slice(), call),
-            None => false,
-        };
-        if !begins || !parts_at(problem, calls, place) {
-            continue;
-        }
-        let mut less = selection.copied(alloc)?;
-        less.calls = calls.iter().skip(place).copied().collect(alloc)?;
-        if judge.refutes_selection(alloc, &less)? {
-            return Ok(Some(less));
-        }
-    }
-    Ok(None)
 }
 
 /// The first calls of the rounds of a selection but for these calls.

@@ -3,3 +3,4 @@ pub mod NextLemmas
 pub mod StateLemmas
 pub mod TextLemmas
 pub mod RunLemmas
+pub mod LateLemmas

@@ -9,6 +9,10 @@ behind_both old mid new a b first second = second ∙ ap (λ (l : List ℕ). l +
 pub three_behind : (old a b c one two new : List ℕ) → one ≡ old ++ a → two ≡ one ++ b → new ≡ two ++ c → new ≡ old ++ (a ++ b ++ c)
 three_behind old a b c one two new first second third = rw (third, second, first) (simp append_assoc refl)
 
+-- four of them
+pub four_behind : (old a b c d one two three new : List ℕ) → one ≡ old ++ a → two ≡ one ++ b → three ≡ two ++ c → new ≡ three ++ d → new ≡ old ++ (a ++ b ++ c ++ d)
+four_behind old a b c d one two three new first second third fourth = rw (fourth, third, second, first) (simp append_assoc refl)
+
 -- six of them, of which the middle ones are pairs
 pub six_behind : (old a b c d e f one two three four five new : List ℕ) → one ≡ old ++ a → two ≡ one ++ b → three ≡ two ++ c → four ≡ three ++ d → five ≡ four ++ e → new ≡ five ++ f
     → new ≡ old ++ (a ++ (b ++ c) ++ (d ++ e) ++ f)

@@ -1,5 +1,5 @@
 -- How calls are shown that alone have no order (this project's own).
-use Rattle.std.specs.Prelude.{ℕ, ℤ, ◌==◌, ◌++◌, ◌&&◌, nat_lt, Bool, true, false, Option, Some, None, List, [], ◌∷◌, codes, length, slice_get, if◌then◌else◌}
+use Rattle.std.specs.Prelude.{ℕ, ℤ, ◌==◌, ◌++◌, ◌&&◌, ◌||◌, nat_lt, Bool, true, false, Option, Some, None, List, [], ◌∷◌, codes, length, slice_get, if◌then◌else◌}
 use Rattle.std.specs.List.{list_all, list_any}
 use Rattle.std.specs.Option.{option_and_then, option_map}
 use Rattle.std.specs.Ordering.{int_eq}
@@ -7,7 +7,7 @@ use Rattle.std.specs.Fmt.{decimal, signed_decimal}
 use Rattle.lin_object.specs.declared.op.Op.{Op}
 use Rattle.lin_object.specs.declared.op.Op.TheVariants as ops
 use Rattle.lin_object.specs.declared.reply.Reply.{Reply}
-use Rattle.lin_object.specs.declared.reply.Reply.TheVariants.{Flag}
+use Rattle.lin_object.specs.declared.reply.Reply.TheVariants.{Int, Flag}
 use Rattle.lin_object.specs.PrintedForms.{op_text}
 use Rattle.lin_history.specs.declared.problems.problem.ProblemCall.{ProblemCall}
 use Rattle.lin_explain.specs.declared.core_text.CoreCall.{CoreCall}
@@ -148,22 +148,65 @@ begins_anew (Some first) None = false
 abbrev pub call_at : List (ProblemCall Op Reply) → List CoreCall → ℕ → Option (ProblemCall Op Reply)
 call_at calls core place = option_and_then (λ shown. slice_get calls shown.call) (slice_get core place)
 
+-- The item that a reply gives.
+abbrev pub given : Reply → Option ℤ
+given (Int v) = Some v
+given reply = None
+
+-- The item that a call put into a queue or a stack or took out of it, where that is recorded.
+abbrev pub item_of : Op → Option (ℕ × Reply) → Option ℤ
+item_of (ops.Enqueue v) returned = Some v
+item_of (ops.Push v) returned = Some v
+item_of ops.Dequeue returned = option_and_then (λ r. given r.1) returned
+item_of ops.Pop returned = option_and_then (λ r. given r.1) returned
+item_of op returned = None
+
+-- The same of a call of a core, as it is shown.
+abbrev pub shown_item : List (ProblemCall Op Reply) → CoreCall → Option ℤ
+shown_item calls shown = option_and_then (λ call. item_of call.op (unless_pending shown.is_pending call.returned)) (slice_get calls shown.call)
+
+-- The item is that of a call of the core.
+abbrev pub is_of_core : List (ProblemCall Op Reply) → List CoreCall → Option ℤ → Bool
+is_of_core calls core None = false
+is_of_core calls core (Some item) = list_any (λ shown. is_key item (shown_item calls shown)) core
+
+-- The call put such an item in or took it out, and returned before this event.
+abbrev pub came_before : List (ProblemCall Op Reply) → List CoreCall → ℕ → ProblemCall Op Reply → Bool
+came_before calls core event call = is_back_before event call.returned && is_of_core calls core (item_of call.op call.returned)
+
+-- Some call did so before the first of the core was called. Then as many such calls put each of the core's items in as took it out.
+abbrev pub has_earlier : List (ProblemCall Op Reply) → List CoreCall → Option (ProblemCall Op Reply) → Bool
+has_earlier calls core None = false
+has_earlier calls core (Some first) = list_any (came_before calls core first.called) calls
+
+-- What came before the first call of a core does not matter.
+abbrev pub starts_late : List (ProblemCall Op Reply) → List CoreCall → Bool
+starts_late calls core = begins_anew (call_at calls core 0) (call_at calls core 1) || has_earlier calls core (call_at calls core 0)
+
 -- From which line on calls matter, where not all do.
 abbrev pub from_text : List ℕ → Bool → Option (ProblemCall Op Reply) → List ℕ
 from_text lines true (Some first) = codes "from line " ++ decimal (line_of lines first.called) ++ codes " to line "
-from_text lines begins first = codes "up to line "
+from_text lines is_late first = codes "up to line "
 
 abbrev pub from_text_of : List (ProblemCall Op Reply) → List ℕ → List CoreCall → List ℕ
-from_text_of calls lines core = from_text lines (begins_anew (call_at calls core 0) (call_at calls core 1)) (call_at calls core 0)
+from_text_of calls lines core = from_text lines (starts_late calls core) (call_at calls core 0)
 
 -- Up to which line, and what no other call does.
 abbrev pub until_text : List (ProblemCall Op Reply) → List ℕ → List CoreCall → List ℕ
-until_text calls lines core = decimal (line_of lines (last_event calls 0 core)) ++ codes " " ++ not_done_by_others calls core ++ codes "\n"
+until_text calls lines core = decimal (line_of lines (last_event calls 0 core)) ++ codes " " ++ not_done_by_others calls core
+
+-- That the items were out at the first call of the core, where some were in before.
+abbrev pub before_text : List ℕ → Bool → Option (ProblemCall Op Reply) → List ℕ
+before_text lines true (Some first) = codes ", and before line " ++ decimal (line_of lines first.called) ++ codes " each was taken as often as it was put\n"
+before_text lines were_in first = codes "\n"
+
+abbrev pub before_text_of : List (ProblemCall Op Reply) → List ℕ → List CoreCall → List ℕ
+before_text_of calls lines core = before_text lines (has_earlier calls core (call_at calls core 0)) (call_at calls core 0)
 
 -- The line below the calls: between which lines of the input no other call helps.
 abbrev pub others_line : List (ProblemCall Op Reply) → List ℕ → List CoreCall → List ℕ
 others_line calls lines core =
-    codes "no other call " ++ from_text_of calls lines core ++ until_text calls lines core
+    codes "no other call " ++ from_text_of calls lines core ++ until_text calls lines core ++ before_text_of calls lines core
 
 -- The calls with the lines above and below them; nothing where there are none.
 abbrev pub core_text : List ℕ → List (ProblemCall Op Reply) → List ℕ → List CoreCall → List ℕ

@@ -2,7 +2,7 @@
 ghost use Rattle.std.specs.Prelude.{◌≡◌, ◌++◌, string_bytes, slice_get, OnOk, IfNone, IfSome, None, Some};
 ghost use Rattle.std.specs.List.{list_all, list_any};
 ghost use Rattle.std.specs.Option.{option_and_then};
-ghost use Rattle.lin_explain.specs.CoreText.{key_on, key_at, is_key, is_on_key, core_key, on_key_text, core_head, unless_pending, core_line, core_line_of, core_lines, event_of, last_event_of, later, last_event, is_cas, op_at, not_done, not_done_of, not_done_by_others, is_yes, gives_anew, is_back_before, begins_anew, call_at, from_text_of, until_text, others_line, core_text};
+ghost use Rattle.lin_explain.specs.CoreText.{key_on, key_at, is_key, is_on_key, core_key, on_key_text, core_head, unless_pending, core_line, core_line_of, core_lines, event_of, last_event_of, later, last_event, is_cas, op_at, not_done, not_done_of, not_done_by_others, is_yes, gives_anew, is_back_before, begins_anew, call_at, given, item_of, shown_item, is_of_core, came_before, has_earlier, starts_late, from_text_of, until_text, before_text_of, others_line, core_text};
 
 use crate::explanation_text::key_of;
 use crate::touching_text::{line_of, write_recorded};
@@ -317,6 +317,113 @@ fn begins_anew(first: &ProblemCall<Op, Reply>, second: &ProblemCall<Op, Reply>) 
     gives_anew(&first.op, &first.returned) && is_back_before(second.called, &first.returned)
 }
 
+// Whether the first call of a core gives anew, and returned before the second was called.
+fn gives_first(calls: &[ProblemCall<Op, Reply>], core: &[CoreCall]) -> bool
+    ensures { result ≡ begins_anew (call_at calls.now core.now 0) (call_at calls.now core.now 1) }
+{
+    match (call_at(calls, core, 0), call_at(calls, core, 1)) {
+        (Some(first), Some(second)) => begins_anew(first, second),
+        _ => false,
+    }
+}
+
+// The item that a reply gives.
+fn given(reply: &Reply) -> Option<i64>
+    ensures { result ≡ given reply.now }
+{
+    match reply {
+        Reply::Int(item) => Some(*item),
+        _ => None,
+    }
+}
+
+// The item that a return gave, where there is one.
+fn given_by(returned: &Option<(u32, Reply)>) -> Option<i64>
+    ensures { result ≡ option_and_then (λ r. given r.1) returned.now }
+{
+    match returned {
+        Some((_, reply)) => given(reply),
+        None => None,
+    }
+}
+
+// The item that a call put into a queue or a stack or took out of it, where that is recorded.
+fn item_of(op: &Op, returned: &Option<(u32, Reply)>) -> Option<i64>
+    ensures { result ≡ item_of op.now returned.now }
+{
+    match op {
+        Op::Enqueue(item) | Op::Push(item) => Some(*item),
+        Op::Dequeue | Op::Pop => given_by(returned),
+        _ => None,
+    }
+}
+
+// The same of a call of a core, as it is shown.
+fn shown_item(calls: &[ProblemCall<Op, Reply>], one: &CoreCall) -> Option<i64>
+    ensures { result ≡ shown_item calls.now one.now }
+{
+    match calls.get(one.call) {
+        Some(call) => item_of(&call.op, &unless_pending(one.is_pending, &call.returned)),
+        None => None,
+    }
+}
+
+// Whether this item is that of a call of the core.
+fn has_item(calls: &[ProblemCall<Op, Reply>], core: &[CoreCall], item: i64) -> bool
+    ensures { result ≡ list_any (λ shown. is_key item (shown_item calls.now shown)) core.now }
+{
+    core.iter().any(|one| is_key(item, shown_item(calls, one)))
+}
+
+// The same of an item, where there is one.
+fn is_of_core(calls: &[ProblemCall<Op, Reply>], core: &[CoreCall], item: Option<i64>) -> bool
+    ensures { result ≡ is_of_core calls.now core.now item }
+{
+    match item {
+        Some(item) => has_item(calls, core, item),
+        None => false,
+    }
+}
+
+// Whether the call put such an item in or took it out, and returned before this event.
+fn came_before(
+    calls: &[ProblemCall<Op, Reply>],
+    core: &[CoreCall],
+    event: u32,
+    call: &ProblemCall<Op, Reply>,
+) -> bool
+    ensures { result ≡ came_before calls.now core.now event call.now }
+{
+    is_back_before(event, &call.returned)
+        && is_of_core(calls, core, item_of(&call.op, &call.returned))
+}
+
+// Whether some call did so before this event.
+fn has_earlier(calls: &[ProblemCall<Op, Reply>], core: &[CoreCall], event: u32) -> bool
+    ensures { result ≡ list_any (came_before calls.now core.now event) calls.now }
+{
+    calls
+        .iter()
+        .any(|call| came_before(calls, core, event, call))
+}
+
+// Whether items of the core were in and out again before its first call.
+fn were_in(calls: &[ProblemCall<Op, Reply>], core: &[CoreCall]) -> bool
+    ensures { result ≡ has_earlier calls.now core.now (call_at calls.now core.now 0) }
+{
+    match call_at(calls, core, 0) {
+        Some(first) => has_earlier(calls, core, first.called),
+        None => false,
+    }
+}
+
+// Whether what came before the first call of a core does not matter.
+fn starts_late(calls: &[ProblemCall<Op, Reply>], core: &[CoreCall]) -> bool
+    ensures { result ≡ starts_late calls.now core.now }
+{
+    gives_first(calls, core) || were_in(calls, core)
+}
+
 // Appends from which line on calls matter, where not all do.
 fn write_from(
     out: &mut String,
@@ -327,8 +434,8 @@ fn write_from(
     ensures { OnOk result (string_bytes out.new
         ≡ string_bytes out.old ++ from_text_of calls.now lines.now core.now) }
 {
-    if let (Some(first), Some(second)) = (call_at(calls, core, 0), call_at(calls, core, 1)) {
-        if begins_anew(first, second) {
+    if starts_late(calls, core) {
+        if let Some(first) = call_at(calls, core, 0) {
             let line = line_of(lines, first.called);
             return write!(out, "from line {line} to line ");
         }
@@ -348,7 +455,29 @@ fn write_until(
 {
     let line = line_of(lines, last_event(calls, core));
     let words = not_done_by_others(calls, core);
-    write!(out, "{line} {words}\n")
+    write!(out, "{line} {words}")
+}
+
+// Appends that the items were out at the first call of the core, where some were in before; and ends the line.
+fn write_before(
+    out: &mut String,
+    calls: &[ProblemCall<Op, Reply>],
+    lines: &[u64],
+    core: &[CoreCall],
+) -> Result<(), AllocError>
+    ensures { OnOk result (string_bytes out.new
+        ≡ string_bytes out.old ++ before_text_of calls.now lines.now core.now) }
+{
+    if were_in(calls, core) {
+        if let Some(first) = call_at(calls, core, 0) {
+            let line = line_of(lines, first.called);
+            return write!(
+                out,
+                ", and before line {line} each was taken as often as it was put\n"
+            );
+        }
+    }
+    out.push_str("\n")
 }
 
 // Appends the line below the calls: between which lines of the input no other call helps.
@@ -363,7 +492,8 @@ fn write_others(
 {
     out.push_str("no other call ")?;
     write_from(out, calls, lines, core)?;
-    write_until(out, calls, lines, core)
+    write_until(out, calls, lines, core)?;
+    write_before(out, calls, lines, core)
 }
 
 /// Appends the lines of a core of these calls on the object of this name: how many calls it has, and of a map or a set which key they

@@ -72,7 +72,7 @@ fn count_within(
                 return count;
             }
             if called <= from && to <= returned {
-                count += 1;
+                count = count.saturating_add(1);
             }
         }
     }

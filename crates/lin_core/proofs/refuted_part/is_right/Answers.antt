@@ -1,11 +1,9 @@
-use Rattle.std.proofs.Common.{◌≡◌, ◌⊎◌, Bool, Option, sym, subst}
+use Rattle.std.proofs.Common.{◌≡◌, Bool, Option, sym, subst}
 use Rattle.std.specs.Prelude.{IsTrue}
 use Rattle.lin_history.specs.Problems.AnyProblem.{any_problem}
 use Rattle.lin_core.specs.declared.selection.MapKey.{MapKey}
 use Rattle.lin_core.specs.Values.{StartsEmpty}
-use Rattle.lin_core.specs.Rounds.{AreEnoughButRounds}
-use Rattle.lin_core.specs.OnValues.{AreEnoughSince, AreAllThatChange}
-use Rattle.lin_core.specs.Cores.{IsCoreOf, StartsAs, HasNone}
+use Rattle.lin_core.specs.Cores.{AreEnoughAlone, IsCoreOf, StartsAs, HasNone}
 use Rattle.lin_core.proofs.CheckLemmas.{ok_more, ok_two}
 use Rattle.lin_core.proofs.CoreLemmas.{core, key_core}
 use Rattle.lin_core.proofs.refuted_part.is_right.Goals as goal
@@ -19,7 +17,7 @@ returns-in-None-clause-starts c = ok_more c.is_enough.result
 pub returns-in-None-clause-core : goal.returns-in-None-clause-core
 returns-in-None-clause-core c = ok_two c.is_enough.result
     (λ (b : Bool). IsTrue b → c.args.part.now.start ≡ c.args.problem.now.start)
-    (λ (b : Bool). IsTrue b → AreEnoughButRounds (any_problem c.args.problem.now) c.args.selection.now.event c.args.selection.now.calls.items c.args.part.now.calls c.args.selection.now.values.items c.args.selection.now.firsts.items ⊎ (AreEnoughSince (any_problem c.args.problem.now) c.args.selection.now.event c.args.selection.now.calls.items c.args.part.now.calls c.args.selection.now.values.items ⊎ AreAllThatChange (any_problem c.args.problem.now) c.args.selection.now.event c.args.selection.now.calls.items c.args.part.now.calls))
+    (λ (b : Bool). IsTrue b → AreEnoughAlone (any_problem c.args.problem.now) c.args.selection.now.event c.args.selection.now.calls.items c.args.part.now.calls c.args.selection.now.values.items c.args.selection.now.firsts.items)
     (λ (b : Bool). IsTrue b → HasNone (any_problem c.args.part.now) → IsCoreOf (any_problem c.args.problem.now) c.args.selection.now.event c.args.selection.now.key c.args.selection.now.values.items c.args.selection.now.calls.items c.args.selection.now.firsts.items)
     (λ b start enough yes none. subst (λ (k : Option MapKey). IsCoreOf (any_problem c.args.problem.now) c.args.selection.now.event k c.args.selection.now.values.items c.args.selection.now.calls.items c.args.selection.now.firsts.items) (sym c.in-None.is)
     (core c.args.problem.now c.args.part.now (start yes) c.args.selection.now.event c.args.selection.now.values.items c.args.selection.now.calls.items c.args.selection.now.firsts.items (enough yes) none))
