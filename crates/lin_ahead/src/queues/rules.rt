@@ -55,7 +55,7 @@ impl<'a> QueueRules<'a> {
         ensures rows { IfOk result (λ rules. AreItemRows problem.now.calls rules.rows.items) }
     {
         let calls = problem.calls();
-        let items = items_in_rows(alloc, calls.len(), &ahead.items)?;
+        let items = items_in_rows(alloc, &ahead.items)?;
         let rows = item_rows(alloc, calls, items.as_slice())?;
         let slots = SlotHints::new(alloc, calls, rows.as_slice())?;
         Ok(QueueRules {

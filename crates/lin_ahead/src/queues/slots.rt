@@ -11,12 +11,8 @@ use lin_object::{AnyObject, Op, Reply};
 use lin_search::Config;
 use std::alloc::{AllocError, Global};
 
-// At most so many calls are walked over in all, as the row of each item is made by a walk over all of them: it takes less than a tenth of
-// a second, before each first search, and is enough for 1,000 items of 16,384 calls.
-const MOST_STEPS: usize = 1 << 24;
-
-// At most so many, where rows are made of items too that go in once: it takes some milliseconds, and is enough for 256 items of 4,096 calls.
-const FEW_STEPS: usize = 1 << 20;
+// Dequeues that are pending stand in each row: at most so many places are taken by them, which is eight megabytes.
+const MOST_PENDING: usize = 1 << 20;
 
 // So many calls of a row that return after a slot are looked at for such as are lifted already.
 const LATER_IN_SIGHT: usize = 2;
@@ -77,24 +73,11 @@ pub(crate) struct SlotHints {
     lack: Option<Lack>,
 }
 
-/// The items of which rows are made. Where some go in more than once these are all items, or those alone if rows of all would take
-/// long; and none if rows of those would take too long, or if each goes in once.
-pub(crate) fn items_in_rows(
-    alloc: Global,
-    calls: usize,
-    ahead: &ItemsAhead,
-) -> Result<Vec<i64>, AllocError> {
-    let repeated: Vec<i64> = ahead
-        .told
-        .iter()
-        .filter(|(_, told)| told.goes_in_again())
-        .map(|(item, _)| *item)
-        .collect(alloc)?;
-    if repeated.is_empty() || repeated.len().saturating_mul(calls) > MOST_STEPS {
+/// The items of which rows are made: all, where some go in more than once and the dequeues that are pending are not too many; else none.
+pub(crate) fn items_in_rows(alloc: Global, ahead: &ItemsAhead) -> Result<Vec<i64>, AllocError> {
+    let some_repeat = ahead.told.values().any(|told| told.goes_in_again());
+    if !some_repeat || ahead.told.len().saturating_mul(ahead.takers.len()) > MOST_PENDING {
         return Ok(Vec::new(alloc));
-    }
-    if ahead.told.len().saturating_mul(calls) > FEW_STEPS {
-        return Ok(repeated);
     }
     ahead.told.keys().copied().collect(alloc)
 }

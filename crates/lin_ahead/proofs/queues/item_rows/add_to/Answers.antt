@@ -16,7 +16,7 @@ returns-then-place-len c = unconcerned c.args.call (λ v. int_eq v c.args.item) 
     let out = c.if-place-len.true in
     let n = c.len.ensures in
     omega (arith, w, k, out, n)
-)))
+    )))
 
 pub returns-then-not-is_of : goal.returns-then-not-is_of
 returns-then-not-is_of c = unconcerned c.args.call (λ v. int_eq v c.args.item) c.args.rows.now.items (not_at c.args.rows.now.items (get int_eq c.args.places.now) c.args.item c.requires (λ i row at e same. (
@@ -27,7 +27,7 @@ returns-then-not-is_of c = unconcerned c.args.call (λ v. int_eq v c.args.item) 
     let so : int_eq c.index.result.now.item c.args.item ≡ true = (signed_Decides c.index.result.now.item c.args.item).1 (subst (λ (r : ItemRow). r.item ≡ c.args.item) is same) in
     let not : int_eq c.index.result.now.item c.args.item ≡ false = search rules in
     true≢false (sym so ∙ not)
-)))
+    )))
 
 pub returns : goal.returns
 returns c =
