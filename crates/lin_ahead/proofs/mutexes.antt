@@ -5,3 +5,4 @@ pub mod RowLemmas
 pub mod TurnLemmas
 pub mod StrayLemmas
 pub mod HeldLemmas
+pub mod HolderLemmas

@@ -4,3 +4,4 @@ pub mod NumberLemmas
 pub mod AnyLemmas
 pub mod AheadLemmas
 pub mod SlotLemmas
+pub mod HurriedLemmas

@@ -3,3 +3,4 @@ pub mod Acquires
 pub mod Sections
 pub mod MutexAhead
 pub mod Strays
+pub mod HeldUntil

@@ -2,3 +2,4 @@
 pub mod Queue
 pub mod ToldOfQueue
 pub mod Slots
+pub mod Hurried

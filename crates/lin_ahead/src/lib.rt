@@ -18,6 +18,7 @@
 //! - *held*: while a completed call could follow which found a value that one call alone wrote, no other call changes the state.
 //! - *lost*: an item that a call put in and no completed call returned with. A *taker* is a pending call that may have taken it.
 //! - *late*: a call that puts an item in is too late if the item would still be there when a call finds it gone.
+//! - *hurried*: an enqueue is hurried if its item would have to be out by an event by which too few calls that may take it were called.
 //! - *section*: what an acquire of a mutex begins, and the unlock of its process ends.
 //! - *in vain*: by what is told alone, there is no linearization.
 #![tactic(auto)]
@@ -41,6 +42,7 @@ pub use items::late_pushes::LateRows;
 pub use items::rows::ItemsAhead;
 pub use items::taken_twice::some_was_taken_twice;
 pub use look_ahead::{KnownAhead, known_ahead};
+pub use mutexes::holders::held_until;
 pub use mutexes::rows::MutexAhead;
 pub use mutexes::sections::Section;
 pub use mutexes::turns::{are_in_turn, precedes};

@@ -43,6 +43,9 @@ pub fn search_first<S: Stop>(
     match ahead {
         KnownAhead::Queue(queue) => {
             let rules = QueueRules::new(alloc, problem, queue)?;
+            if rules.are_in_vain(problem) {
+                return Ok(Told::Refuted);
+            }
             search_by_rules(alloc, problem, rules, lifts, stop)
         }
         KnownAhead::Stack(stack) => {

@@ -2,6 +2,7 @@ pub mod RunLemmas
 pub mod FullLemmas
 pub mod ListLemmas
 pub mod BeatenLemmas
+pub mod SplitLemmas
 pub mod LackLemmas
 pub mod WalkLemmas
 pub mod ItemStepLemmas

@@ -16,11 +16,12 @@ use crate::part_search::PartSearch;
 use crate::parts_anew::{Loosened, Wanted, is_loose_prefix, made_anew};
 use crate::untold_groups::UntoldGroups;
 use lin_ahead::{
-    KnownAhead, are_in_vain, known_ahead, search_first, some_came_too_early, some_was_taken_twice,
+    KnownAhead, are_in_vain, held_until, known_ahead, search_first, some_came_too_early,
+    some_was_taken_twice,
 };
 use lin_fewer::{SumRules, has_many_pending, is_refuted_with_any_adds, least_linearization};
 use lin_history::{Problem, ProblemEvent};
-use lin_object::{AnyObject, ObjState, Op};
+use lin_object::{AnyObject, ObjState};
 use lin_parts::{is_part, search_by_key};
 use lin_search::{AtTimes, Stop, Told, search_for_order};
 use std::alloc::{AllocError, Global};
@@ -215,11 +216,11 @@ fn shows_none(
     }
 }
 
-// Whether the call is a `lock`. Of two of these that are open at a cut a run has one at most: their processes call no unlock in time.
-fn is_lock(problem: &Problem<AnyObject>, call: usize) -> bool {
-    match problem.calls().get(call) {
-        Some(made) => made.op == Op::Lock,
-        None => false,
+// Whether the object is a mutex.
+fn is_mutex(problem: &Problem<AnyObject>) -> bool {
+    match problem.start() {
+        ObjState::Mutex(_) => true,
+        _ => false,
     }
 }
 
@@ -511,9 +512,18 @@ impl<'a, S: Stop> PartSearch<AnyObject> for AnewSearch<'a, S> {
         Ok(none)
     }
 
-    fn likely_pair(&self, problem: &Problem<AnyObject>, calls: &[usize]) -> Option<[usize; 2]> {
-        let mut locks = calls.iter().filter(|call| is_lock(problem, **call));
-        Some([*locks.next()?, *locks.next()?])
+    fn stand_ins(
+        &self,
+        alloc: Global,
+        problem: &Problem<AnyObject>,
+    ) -> Result<Vec<usize>, AllocError> {
+        if !is_mutex(problem) {
+            return Ok(Vec::new(alloc));
+        }
+        match held_until(alloc, problem)? {
+            Some(until) => Ok(until),
+            None => Ok(Vec::new(alloc)),
+        }
     }
 
     fn may_go_on(&mut self, looks: u64) -> bool {

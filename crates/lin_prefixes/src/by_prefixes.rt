@@ -1,12 +1,13 @@
 //! The longest run of a problem, from the last calls that a run may have downwards, and for each from few open calls left
 //! out to many.
-ghost use Rattle.std.specs.Prelude.{◌≡◌, ◌⊎◌, ◌+◌, ◌<◌, ◌≤◌, ◌^◌, [], ℕ, List, All, IfOk, IfSome, IsTrue, IsFalse, length};
+ghost use Rattle.std.specs.Prelude.{◌≡◌, ◌⊎◌, ◌+◌, ◌<◌, ◌≤◌, ◌^◌, [], ℕ, List, All, IfOk, IfSome, IsTrue, IsFalse, filter, length, nat_lt, not, slice_index_or};
+ghost use Rattle.lin_ahead.specs.Mutexes.HeldUntil.{AreStandIns};
 ghost use Rattle.lin_history.specs.Problems.Lists.{In};
 ghost use Rattle.lin_history.specs.Problems.Problem.{problem_of};
 ghost use Rattle.lin_history.specs.Problems.Precedence.{Before, IsCompleted};
 ghost use Rattle.lin_history.specs.Problems.Linearizations.{IsRun};
 ghost use Rattle.lin_search.specs.LongestRun.{IsFirstLongest};
-ghost use Rattle.lin_prefixes.specs.Prefixes.{IsBeaten, IsConflict, IsRunOf, IsRunLacking, AreOpen, HasNoRunOf};
+ghost use Rattle.lin_prefixes.specs.Prefixes.{IsBeaten, IsConflict, IsRunOf, AreOpen, AreSplit, HasNoRunOf, is_spared};
 
 use crate::choices::{Choice, try_open};
 use crate::conflicts::{Conflict, Cut, first_conflicts, least_lacking};
@@ -15,16 +16,25 @@ use lin_history::{Order, Problem};
 use lin_object::SeqObject;
 use std::alloc::{AllocError, Global};
 
-// How many open calls a run may lack at most. Each is a step deeper in the recursion.
+// How many open calls that are not spared a run may lack at most. Each is a step deeper in the recursion.
 const MOST_LACKING: usize = 256;
+
+// The last call of runs, and the search's numbers of the calls that may stand in for others.
+#[derive(Clone, Copy)]
+struct LastCall<'a> {
+    call: usize,
+    until: &'a [usize],
+}
 
 // Whether the call has returned, and not before the other one was called.
 fn is_open<O: SeqObject>(problem: &Problem<O>, call: usize, other: usize) -> bool
     requires call { call < length problem.now.calls }
     requires other { other < length problem.now.calls }
-    ensures { IsFalse result
+    ensures no { IsFalse result
         → IsCompleted (problem_of O.after O.State.eq O.Reply.eq problem.now) call
         → Before (problem_of O.after O.State.eq O.Reply.eq problem.now) call other }
+    ensures yes { IsTrue result
+        → Before (problem_of O.after O.State.eq O.Reply.eq problem.now) call other → ⊥ }
 {
     match &problem.call(call).returned {
         Some((returned, _)) => problem.call(other).called <= *returned,
@@ -61,8 +71,66 @@ fn may_be_best(best: &Order, call: usize, lacking: usize) -> bool
     lacking <= call + 1 && best.calls().len() <= call + 1 - lacking
 }
 
-// Tries all runs of the call, of which these are the open calls: whether they are known. The best run is then no worse than each
-// of them.
+// Whether the call's number is greater than the last call.
+fn goes_beyond(last: LastCall<'_>, call: usize) -> bool
+    ensures { result ≡ nat_lt last.entry.call (slice_index_or last.entry.until.now call 0) }
+{
+    match last.until.get(call) {
+        Some(until) => last.call < *until,
+        None => false,
+    }
+}
+
+// The first of the calls whose number is greater than the last call; where there is none, the last call.
+fn first_beyond(calls: &[usize], last: LastCall<'_>) -> usize {
+    for c in calls {
+        if goes_beyond(last, *c) {
+            return *c;
+        }
+    }
+    last.call
+}
+
+// Whether the first call may stand in for this one.
+fn is_spared(last: LastCall<'_>, first: usize, call: usize) -> bool
+    ensures { result ≡ is_spared last.entry.call last.entry.until.now first call }
+{
+    first < call && goes_beyond(last, first) && goes_beyond(last, call)
+}
+
+// Those of the calls for which the first one may stand in.
+fn spared_calls(
+    alloc: Global,
+    calls: &[usize],
+    last: LastCall<'_>,
+    first: usize,
+) -> Result<Vec<usize>, AllocError>
+    ensures { IfOk result (λ spared. spared.items ≡ filter (is_spared last.entry.call last.entry.until.now first) calls.now) }
+{
+    calls
+        .iter()
+        .copied()
+        .filter(|c| is_spared(last, first, *c))
+        .collect(alloc)
+}
+
+// The other ones of the calls.
+fn other_calls(
+    alloc: Global,
+    calls: &[usize],
+    last: LastCall<'_>,
+    first: usize,
+) -> Result<Vec<usize>, AllocError>
+    ensures { IfOk result (λ others. others.items ≡ filter (λ c. not (is_spared last.entry.call last.entry.until.now first c)) calls.now) }
+{
+    calls
+        .iter()
+        .copied()
+        .filter(|c| !is_spared(last, first, *c))
+        .collect(alloc)
+}
+
+// Tries all runs of the cut's call: whether they are known. The best run is then no worse than each of them.
 fn try_levels<O: SeqObject, S: PartSearch<O>>(
     alloc: Global,
     problem: &Problem<O>,
@@ -73,8 +141,8 @@ fn try_levels<O: SeqObject, S: PartSearch<O>>(
 ) -> Result<bool, AllocError>
     requires call { cut.call < length problem.now.calls }
     requires few { cut.call + 1 < 2 ^ 64 }
-    requires open { AreOpen (problem_of O.after O.State.eq O.Reply.eq problem.now) cut.call
-        (cut.call + 1) cut.open_calls.now }
+    requires split { AreSplit (problem_of O.after O.State.eq O.Reply.eq problem.now) cut.call
+        cut.spared.now cut.others.now }
     requires run { IsRun (problem_of O.after O.State.eq O.Reply.eq problem.now) best.old }
     requires conflicts { All (IsConflict (problem_of O.after O.State.eq O.Reply.eq problem.now)
         cut.call) conflicts.old.items }
@@ -85,8 +153,8 @@ fn try_levels<O: SeqObject, S: PartSearch<O>>(
         → IsBeaten best.new r) }
 {
     let least = least_lacking(problem, cut, conflicts.as_slice());
-    for lacking in least..cut.open_calls.len() + 1 {
-        if !may_be_best(best, cut.call, lacking) {
+    for lacking in least..cut.others.len() + 1 {
+        if !may_be_best(best, cut.call, cut.spared.len() + lacking) {
             return Ok(true);
         }
         if lacking > MOST_LACKING {
@@ -94,8 +162,8 @@ fn try_levels<O: SeqObject, S: PartSearch<O>>(
         }
         let choice = Choice {
             cut,
-            dropped: &[],
-            late: cut.open_calls,
+            dropped: cut.spared,
+            late: cut.others,
             lacking,
         };
         if !try_open(alloc, problem, search, choice, conflicts, best)? {
@@ -105,34 +173,65 @@ fn try_levels<O: SeqObject, S: PartSearch<O>>(
     Ok(true)
 }
 
-// Tries all runs of the call: whether they are known. The best run is then no worse than each of them. The conflicts of a call
+// Tries all runs of the cut's call: whether they are known. The best run is then no worse than each of them. The conflicts of a call
 // that was tried before are asked of first, and left are those of this one: that is a hint.
-fn try_call<O: SeqObject, S: PartSearch<O>>(
+fn try_cut<O: SeqObject, S: PartSearch<O>>(
     alloc: Global,
     problem: &Problem<O>,
     search: &mut S,
-    call: usize,
+    cut: Cut<'_>,
     hints: &mut Vec<Conflict>,
     best: &mut Order,
 ) -> Result<bool, AllocError>
-    requires call { call < length problem.now.calls }
-    requires few { call + 1 < 2 ^ 64 }
+    requires call { cut.call < length problem.now.calls }
+    requires few { cut.call + 1 < 2 ^ 64 }
+    requires split { AreSplit (problem_of O.after O.State.eq O.Reply.eq problem.now) cut.call
+        cut.spared.now cut.others.now }
     requires run { IsRun (problem_of O.after O.State.eq O.Reply.eq problem.now) best.old }
     ensures run { IsRun (problem_of O.after O.State.eq O.Reply.eq problem.now) best.new }
     ensures better { IfOk result (λ known. IsBeaten best.new best.old) }
     ensures known { IfOk result (λ known. IsTrue known → (r : List ℕ)
-        → IsRunOf (problem_of O.after O.State.eq O.Reply.eq problem.now) call r
+        → IsRunOf (problem_of O.after O.State.eq O.Reply.eq problem.now) cut.entry.call r
         → IsBeaten best.new r) }
 {
-    let open = open_calls(alloc, problem, call)?;
-    let cut = Cut {
-        call,
-        open_calls: open.as_slice(),
-    };
+    if !may_be_best(best, cut.call, cut.spared.len()) {
+        return Ok(true);
+    }
     let mut conflicts = first_conflicts(alloc, problem, search, cut, hints.as_slice())?;
     let known = try_levels(alloc, problem, search, cut, &mut conflicts, best)?;
     *hints = conflicts;
     Ok(known)
+}
+
+// Tries all runs of the call: whether they are known. The best run is then no worse than each of them.
+fn try_call<O: SeqObject, S: PartSearch<O>>(
+    alloc: Global,
+    problem: &Problem<O>,
+    search: &mut S,
+    last: LastCall<'_>,
+    hints: &mut Vec<Conflict>,
+    best: &mut Order,
+) -> Result<bool, AllocError>
+    requires call { last.call < length problem.now.calls }
+    requires few { last.call + 1 < 2 ^ 64 }
+    requires stand_ins { AreStandIns (problem_of O.after O.State.eq O.Reply.eq problem.now) last.until.now }
+    requires run { IsRun (problem_of O.after O.State.eq O.Reply.eq problem.now) best.old }
+    ensures run { IsRun (problem_of O.after O.State.eq O.Reply.eq problem.now) best.new }
+    ensures better { IfOk result (λ known. IsBeaten best.new best.old) }
+    ensures known { IfOk result (λ known. IsTrue known → (r : List ℕ)
+        → IsRunOf (problem_of O.after O.State.eq O.Reply.eq problem.now) last.entry.call r
+        → IsBeaten best.new r) }
+{
+    let open = open_calls(alloc, problem, last.call)?;
+    let first = first_beyond(open.as_slice(), last);
+    let spared = spared_calls(alloc, open.as_slice(), last, first)?;
+    let others = other_calls(alloc, open.as_slice(), last, first)?;
+    let cut = Cut {
+        call: last.call,
+        spared: spared.as_slice(),
+        others: others.as_slice(),
+    };
+    try_cut(alloc, problem, search, cut, hints, best)
 }
 
 // A number of calls from which on no call has a run.
@@ -173,10 +272,15 @@ pub(crate) fn longest_by_prefixes<O: SeqObject, S: PartSearch<O>>(
     let _calls = problem.calls();
     let mut best = Order::new(Vec::new(alloc));
     let mut hints = Vec::new(alloc);
+    let until = search.stand_ins(alloc, problem)?;
     let mut left = calls_with_runs(alloc, problem, search)?;
     while left > 0 && best.calls().len() <= left {
         left -= 1;
-        if !try_call(alloc, problem, search, left, &mut hints, &mut best)? {
+        let last = LastCall {
+            call: left,
+            until: until.as_slice(),
+        };
+        if !try_call(alloc, problem, search, last, &mut hints, &mut best)? {
             return Ok(None);
         }
     }

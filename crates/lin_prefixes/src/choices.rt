@@ -48,7 +48,7 @@ fn try_dropped<O: SeqObject, S: PartSearch<O>>(
     if some_missed(conflicts.as_slice(), choice.dropped, &[]) {
         return Ok(true);
     }
-    let kept = without(alloc, choice.cut.open_calls, choice.dropped)?;
+    let kept = without(alloc, choice.cut.others, choice.dropped)?;
     add_conflict(
         alloc,
         problem,

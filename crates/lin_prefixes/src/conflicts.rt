@@ -13,11 +13,13 @@ use lin_object::SeqObject;
 use std::alloc::{AllocError, Global};
 use std::marker::Model;
 
-/// A call of which runs are tried, and its open calls: the completed ones up to it that do not precede it.
+/// A call of which runs are tried, and its open calls, the completed ones up to it that do not precede it: those that are spared,
+/// without which its best runs are found too, and the others.
 #[derive(Clone, Copy)]
 pub(crate) struct Cut<'a> {
     pub(crate) call: usize,
-    pub(crate) open_calls: &'a [usize],
+    pub(crate) spared: &'a [usize],
+    pub(crate) others: &'a [usize],
 }
 
 /// Calls, by their numbers. What they are in conflict with is said where they are made.
@@ -160,30 +162,8 @@ fn few_in_conflict<O: SeqObject, S: PartSearch<O>>(
     Ok(few)
 }
 
-// Adds the two of the calls that perhaps are a conflict, where they are known to be one.
-fn add_likely_pair<O: SeqObject, S: PartSearch<O>>(
-    alloc: Global,
-    problem: &Problem<O>,
-    search: &mut S,
-    call: usize,
-    calls: &[usize],
-    conflicts: &mut Vec<Conflict>,
-) -> Result<(), AllocError>
-    requires call { call < length problem.now.calls }
-    requires conflicts { All (IsConflict (problem_of O.after O.State.eq O.Reply.eq problem.now) call)
-        conflicts.old.items }
-    ensures { IfOk result (λ done. All
-        (IsConflict (problem_of O.after O.State.eq O.Reply.eq problem.now) call)
-        conflicts.new.items) }
-{
-    let Some(pair) = search.likely_pair(problem, calls) else {
-        return Ok(());
-    };
-    add_known(alloc, problem, search, call, &pair, conflicts)
-}
-
-/// Adds a conflict among these calls, where one is known: two of them that perhaps are one, or else as few of them as still are one. Of
-/// no calls it is not asked: a try of what is left without the open calls tells as much.
+/// Adds a conflict among these calls, where one is known: as few of them as still are one. Of no calls it is not asked: a try of what is
+/// left without the open calls tells as much.
 pub(crate) fn add_conflict<O: SeqObject, S: PartSearch<O>>(
     alloc: Global,
     problem: &Problem<O>,
@@ -199,11 +179,6 @@ pub(crate) fn add_conflict<O: SeqObject, S: PartSearch<O>>(
         (IsConflict (problem_of O.after O.State.eq O.Reply.eq problem.now) call)
         conflicts.new.items) }
 {
-    let known = conflicts.len();
-    add_likely_pair(alloc, problem, search, call, calls, conflicts)?;
-    if conflicts.len() > known {
-        return Ok(());
-    }
     if calls.is_empty() || !search.has_no_run_with(alloc, problem, call, calls)? {
         return Ok(());
     }
@@ -276,25 +251,8 @@ fn not_single(
     Ok(left)
 }
 
-// The calls of the list without the second of each two that perhaps are a conflict.
-fn without_likely_pairs<O: SeqObject, S: PartSearch<O>>(
-    alloc: Global,
-    problem: &Problem<O>,
-    search: &S,
-    calls: &[usize],
-) -> Result<Vec<usize>, AllocError> {
-    let mut left = Vec::new(alloc);
-    for c in calls {
-        left.push(*c)?;
-        if search.likely_pair(problem, left.as_slice()).is_some() {
-            left.pop();
-        }
-    }
-    Ok(left)
-}
-
-/// The conflicts of the cut to begin with: those that are given as hints, of another one, and are conflicts here too; and the
-/// open calls that no run has, as far as that is known. Of two that perhaps are a conflict only one is asked about by itself.
+/// The conflicts of the cut to begin with: those that are given as hints, of another one, and are conflicts here too; and those of the
+/// open calls, but for the spared ones, that no run has, as far as that is known.
 pub(crate) fn first_conflicts<O: SeqObject, S: PartSearch<O>>(
     alloc: Global,
     problem: &Problem<O>,
@@ -308,8 +266,7 @@ pub(crate) fn first_conflicts<O: SeqObject, S: PartSearch<O>>(
         conflicts.items) }
 {
     let mut conflicts = conflicts_again(alloc, problem, search, cut.call, hints)?;
-    let others = not_single(alloc, cut.open_calls, conflicts.as_slice())?;
-    let left = without_likely_pairs(alloc, problem, search, others.as_slice())?;
+    let left = not_single(alloc, cut.others, conflicts.as_slice())?;
     add_single_conflicts(
         alloc,
         problem,
@@ -346,7 +303,7 @@ fn is_in_no_run(conflicts: &[Conflict], call: usize) -> bool
     false
 }
 
-/// How many of the open calls each run lacks at least: those that are conflicts of their own.
+/// How many of the open calls that are not spared each run lacks at least: those that are conflicts of their own.
 pub(crate) fn least_lacking<O: SeqObject>(
     problem: &Problem<O>,
     cut: Cut<'_>,
@@ -356,10 +313,10 @@ pub(crate) fn least_lacking<O: SeqObject>(
         conflicts.now }
     ensures { (r : List ℕ) (d : ℕ)
         → IsRunOf (problem_of O.after O.State.eq O.Reply.eq problem.now) cut.entry.call r
-        → Lacks r cut.entry.open_calls.now d → result ≤ d }
+        → Lacks r cut.entry.others.now d → result ≤ d }
 {
     let mut least = 0;
-    for c in cut.open_calls {
+    for c in cut.others {
         if is_in_no_run(conflicts, *c) {
             least += 1;
         }

@@ -2,6 +2,7 @@
 ghost use Rattle.std.specs.Prelude.{◌≡◌, ◌<◌, ◌≤◌, ℕ, length, IfOk, IsTrue};
 ghost use Rattle.lin_history.specs.Problems.Lists.{In};
 ghost use Rattle.lin_history.specs.Problems.Problem.{problem_of};
+ghost use Rattle.lin_ahead.specs.Mutexes.HeldUntil.{AreStandIns};
 ghost use Rattle.lin_parts.specs.Parts.{IsRising};
 ghost use Rattle.lin_prefixes.specs.Prefixes.{HasNoRunWith};
 ghost use Rattle.lin_prefixes.specs.PartAnswer.{IsPartAnswer};
@@ -44,8 +45,12 @@ pub trait PartSearch<O: SeqObject> {
         ensures { IfOk result (λ none. IsTrue none → HasNoRunWith
             (problem_of O.after O.State.eq O.Reply.eq problem.now) call calls.now) };
 
-    /// Two of the calls that perhaps no run has both of: a hint.
-    fn likely_pair(&self, problem: &Problem<O>, calls: &[usize]) -> Option<[usize; 2]>;
+    /// A number for each of the first calls, and 0 for the others: a run with calls up to `k` alone that has an open call whose number
+    /// is greater than `k` may have each earlier call whose number is greater in its place, and has none beside it. `AllocError` where
+    /// memory was refused.
+    fn stand_ins(&self, alloc: Global, problem: &Problem<O>) -> Result<Vec<usize>, AllocError>
+        ensures { IfOk result (λ until. AreStandIns
+            (problem_of O.after O.State.eq O.Reply.eq problem.now) until.items) };
 
     /// Whether the search may go on, after so many looks at a call that were made between two questions.
     fn may_go_on(&mut self, looks: u64) -> bool;

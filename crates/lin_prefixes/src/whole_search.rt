@@ -82,7 +82,7 @@ pub fn longest_run_by_prefixes<S: Stop>(
 /// The least linearization of the problem; or, where it has none, the first of its longest runs, from searches of smaller
 /// problems for their least linearizations. `None` where all these searches together would have made more lifts than so
 /// many, where the stop answered, or where that is not known: where a pending call of the longest run has no step, as an `add` beyond
-/// 64 bits, or where that run lacks more than 256 of the calls that are open at its end. Work that makes no lifts counts as some. The
+/// 64 bits, or where that run lacks more than 256 of the calls that are open at its end, beside those that an earlier one may stand in for. Work that makes no lifts counts as some. The
 /// stop is asked before each search and in the work between two, and at each 256th lift or step of one. No configuration is kept from
 /// one search to the next. `AllocError` where memory was refused.
 ///

@@ -2,6 +2,8 @@
 -- pending call takes the mutex before one.
 use Rattle.std.proofs.Common.{◌≡◌, ◌≢◌, ℕ, ◌<◌, ◌≤◌, Bool, true, false, Option, Some, None, List, [], ◌∷◌, ◌++◌, length, ◌⊎◌, inl, inr, refl, sym, ◌∙◌, ap, subst, append_assoc, arith}
 use Rattle.std.specs.List.{slice_get}
+use Rattle.std.specs.Prelude.{slice_index_or}
+use Rattle.std.proofs.lemmas.Option.{slice_get_within, slice_get-get_or}
 use Rattle.lin_object.specs.declared.op.Op.{Op}
 use Rattle.lin_object.specs.declared.op.Op.TheVariants.{Unlock, TryLock}
 use Rattle.lin_object.specs.declared.reply.Reply.{Reply}
@@ -15,16 +17,18 @@ use Rattle.lin_history.specs.OptionLemmas.{some_and, and_some, some_is}
 use Rattle.lin_history.specs.Problems.Lists.{In, IsDistinct}
 use Rattle.lin_history.specs.Problems.ListLemmas.{in_early, in_late, in_either, in_place, apart, has_none}
 use Rattle.lin_history.specs.Problems.Problem.{Problem}
-use Rattle.lin_history.specs.Problems.ProblemParts.{ProblemParts}
+use Rattle.lin_history.specs.Problems.ProblemParts.{ProblemParts, AreTimed}
 use Rattle.lin_history.specs.Problems.LegalLists.{after_call, fits, state_if_fits, next, Legal}
 use Rattle.lin_history.specs.Problems.Precedence.{Before, IsCompleted}
 use Rattle.lin_history.specs.Problems.Continuations.{has, no_calls, IsContinuation}
-use Rattle.lin_history.specs.Problems.Linearizations.{IsLinearization}
+use Rattle.lin_history.specs.Problems.Linearizations.{IsLinearization, IsRun}
 use Rattle.lin_history.specs.Problems.AnyProblem.{any_problem}
 use Rattle.lin_ahead.specs.First.FirstProgress.{BeginsNone}
 use Rattle.lin_ahead.specs.Mutexes.Acquires.{AreInTurn, acquired, IsAcquire, takes_if_free, ReturnsFrom, UnlocksBetween}
 use Rattle.lin_ahead.specs.Mutexes.Sections.{SomeHoldTogether}
-use Rattle.lin_ahead.proofs.mutexes.StepLemmas.{none_some, not_refused, no_unlock, no_taker, acquired_then, acquired_free, takes, taken, held_step}
+use Rattle.lin_ahead.specs.Mutexes.Strays.{UnlocksFor}
+use Rattle.lin_ahead.specs.Mutexes.HeldUntil.{TookFor, IsNextUnlock, IsHeldUntil, AreHeldUntil, AreStandIns, took}
+use Rattle.lin_ahead.proofs.mutexes.StepLemmas.{none_some, not_refused, no_unlock, no_taker, acquired_then, acquired_finds, acquired_free, takes, taken, held_step, took_acquires, took_takes, try_fails}
 
 three : (i j : ℕ) → (i < j) ⊎ ((i ≡ j) ⊎ (j < i))
 three i j = grind arith
@@ -35,9 +39,55 @@ one x y e = cc
 true_false : {A : Type 0} {b : Bool} → b ≡ true → b ≡ false → A
 true_false e f = absurd (cc)
 
+-- where a list has a call at a place, and another one at another
+placed : (front rest early late : List ℕ) (a c : ℕ) → front ++ a ∷ rest ≡ early ++ c ∷ late → ((mid : List ℕ) × (front ≡ early ++ c ∷ mid)) ⊎ (((c ≡ a) × (early ≡ front)) ⊎ ((mid : List ℕ) × (early ≡ front ++ a ∷ mid) × (rest ≡ mid ++ c ∷ late)))
+placed [] rest [] late a c e = inr (inl ((cc), refl))
+placed [] rest (d ∷ early) late a c e = inr (inr (early, ap (λ (z : ℕ). z ∷ early) (let h : d ≡ a = cc in h), (cc)))
+placed (f ∷ front) rest [] late a c e = inl (front, ap (λ (z : ℕ). z ∷ front) (let h : f ≡ c = cc in h))
+placed (f ∷ front) rest (d ∷ early) late a c e = (
+    let h : d ≡ f = cc in
+    let more : front ++ a ∷ rest ≡ early ++ c ∷ late = cc in
+    elim (placed front rest early late a c more) [
+      | inl r ↦ inl (r.0, (let g = r.1 in cc))
+      | inr (inl r) ↦ inr (inl (r.0, (let g = r.1 in cc)))
+      | inr (inr r) ↦ inr (inr (r.0, (let g = r.1 in cc), r.2))
+    ]
+    )
+
+-- a list of distinct calls with another call in the place of one
+distinct_with : (front : List ℕ) (a b : ℕ) (rest : List ℕ) → IsDistinct (front ++ b ∷ rest) → (In a (front ++ b ∷ rest) → ⊥) → IsDistinct (front ++ a ∷ rest)
+distinct_with [] a b rest d out = ((λ h. out (inr h)), d.1)
+distinct_with (c ∷ front) a b rest d out = (
+  (λ h. elim (in_either c front (a ∷ rest) h) [
+    | inl f ↦ d.0 (in_early c front (b ∷ rest) f)
+    | inr (inl e) ↦ out (inl (sym e))
+    | inr (inr more) ↦ d.0 (in_late c front (b ∷ rest) (inr more))
+  ]),
+  distinct_with front a b rest d.1 (λ h. out (inr h)),
+)
+
 module _ {Object : Type 0} (parts : ProblemParts Object ObjState Op Reply) where
   abbrev A : Problem ObjState Op Reply
   A = any_problem parts
+
+  -- a legal list in front of a call, the call's step, and what is behind it
+  legal_parts : (front : List ℕ) (c : ℕ) (rest : List ℕ) (s u : ObjState) → Legal A s (front ++ c ∷ rest) u → (e : ObjState) × (m : ObjState) × Legal A s front e × (next A e c ≡ Some m) × Legal A m rest u
+  legal_parts [] c rest s u k = (s, k.0, refl, k.1, k.2)
+  legal_parts (d ∷ front) c rest s u k = (let r = legal_parts front c rest k.0 u k.2 in (r.0, r.1, (k.0, k.1, r.2), r.3, r.4))
+
+  legal_together : (front : List ℕ) (c : ℕ) (rest : List ℕ) (s e m u : ObjState) → Legal A s front e → next A e c ≡ Some m → Legal A m rest u → Legal A s (front ++ c ∷ rest) u
+  legal_together [] c rest s e m u k step more = (m, subst (λ (z : ObjState). next A z c ≡ Some m) (sym k) step, more)
+  legal_together (d ∷ front) c rest s e m u k step more = (k.0, k.1, legal_together front c rest k.0 e m u k.2 step more)
+
+  -- what precedes a call precedes the later ones
+  before_later : AreTimed parts.calls → (c a b : ℕ) (y : ProblemCall Op Reply) → a < b → slice_get parts.calls b ≡ Some y → Before A c a → Before A c b
+  before_later timed c a b y less here before =
+      let x = some_and (slice_get parts.calls c) _ before in
+      let r = some_and x.0.returned _ x.2 in
+      let z = some_and (slice_get parts.calls a) _ r.2 in
+      let first : r.0.0 < z.0.called = z.2 in
+      let second = timed.called a b z.0 y less z.1 here in
+      and_some (slice_get parts.calls c) _ x.0 x.1 (and_some x.0.returned _ r.0 r.1 (and_some (slice_get parts.calls b) _ y here (omega (arith, first, second))))
 
   -- the call of a step, and what it does
   stepped : (o : Option (ProblemCall Op Reply)) (s t : ObjState) → after_call A s o ≡ Some t → (x : ProblemCall Op Reply) × (o ≡ Some x) × (state_if_fits reply_eq.it x.returned (after s x.process x.op) ≡ Some t)
@@ -83,6 +133,19 @@ module _ {Object : Type 0} (parts : ProblemParts Object ObjState Op Reply) where
         | inr more ↦ (
             let g = on more in
             record { early = d ∷ g.early; w = g.w; late = g.late; x = g.x; is = ap (λ (l : List ℕ). d ∷ l) g.is; call = g.call; op = g.op; process = g.process; behind = g.behind }
+            )
+      ]
+
+  -- while a mutex is held by a process that does not give it back, it does not matter by whom
+  held_rest : (h g : ℕ) (l : List ℕ) (u : ObjState) → Legal A (Mutex (Some h)) l u → ((w : ℕ) → In w l → UnlocksFor A h w → ⊥) → (v : ObjState) × Legal A (Mutex (Some g)) l v
+  held_rest h g [] u legal none = (Mutex (Some g), refl)
+  held_rest h g (d ∷ ds) u (m, step, rest) none =
+      let s = stepped (slice_get parts.calls d) (Mutex (Some h)) m step in
+      elim (held_step s.0.process s.0.returned m h s.0.op s.2) [
+        | inl k ↦ absurd (none d (inl refl) (s.0, s.1, k.0, k.1))
+        | inr k ↦ (
+            let more = held_rest h g ds u (subst (λ (z : ObjState). Legal A z ds u) k.1 rest) (λ w there. none w (inr there)) in
+            (more.0, (Mutex (Some g), ap (after_call A (Mutex (Some g))) s.1 ∙ try_fails g s.0.process s.0.op s.0.returned k.0 k.2, more.1))
             )
       ]
 
@@ -226,3 +289,127 @@ module _ {Object : Type 0} (parts : ProblemParts Object ObjState Op Reply) where
     pub none_together : SomeHoldTogether A → (l : List ℕ) → IsLinearization A l → ⊥
     none_together (s, v, first, second, (other, less, none)) l whole =
         none_between s.acquire v.acquire s.from v.from (first.0, first.1, first.2) (second.0, second.1, second.2) other less (λ h. none (subst (λ (q : ℕ). UnlocksBetween A q s.from v.from) first.3 h)) l whole
+
+    -- a run with calls up to k alone
+    module _ (k : ℕ) (l : List ℕ) (run : IsRun A l) (up_to : (c : ℕ) → In c l → c ≤ k) where
+      -- behind a call that took the mutex for longer there is no unlock of its process
+      none_behind : (front : List ℕ) (c : ℕ) (rest : List ℕ) → l ≡ front ++ c ∷ rest → (q n : ℕ) → TookFor A q c → IsNextUnlock A q c n → k < n → (w : ℕ) → In w rest → UnlocksFor A q w → ⊥
+      none_behind front c rest is q n (y, here, took_it, own) next_unlock above w there unlocks = at (three c w)
+        where
+          in_run : In w l
+          in_run = subst (In w) (sym is) (in_late w front (c ∷ rest) (inr there))
+
+          at : (c < w) ⊎ ((c ≡ w) ⊎ (w < c)) → ⊥
+          at (inl less) = (let last = up_to w in_run in let far = next_unlock.0 w unlocks less in omega (arith, last, far, above))
+          at (inr (inl e)) =
+              let acquires = took_acquires y.op y.returned took_it in
+              no_unlock y.op y.returned acquires.0 acquires.1 (ap (λ (z : ProblemCall Op Reply). z.op) (one_call c y unlocks.0 here (subst (λ (i : ℕ). slice_get parts.calls i ≡ Some unlocks.0) (sym e) unlocks.1)) ∙ unlocks.2)
+          at (inr (inr more)) = elim (run.ordered front c rest is w (turn w c unlocks.0 y more unlocks.1 here (unlocks.3 ∙ sym own))) [
+            | inl z ↦ true_false z (has_none (length parts.calls) w)
+            | inr z ↦ apart w front (c ∷ rest) (subst IsDistinct is run.distinct) z (inr there)
+          ]
+
+      -- so there is no other acquire behind it
+      gives_up : (front : List ℕ) (c : ℕ) (rest : List ℕ) → l ≡ front ++ c ∷ rest → (q n : ℕ) → TookFor A q c → IsNextUnlock A q c n → k < n → (a event : ℕ) → IsAcquire A a event → In a rest → ⊥
+      gives_up front c rest is q n (y, here, took_it, own) next_unlock above a event acquire there =
+          let acquires = took_acquires y.op y.returned took_it in
+          let u = run.legal.0 in
+          let m = legal_at front c rest parts.start u (subst (λ (z : List ℕ). Legal A parts.start z u) is run.legal.1) in
+          let s = stepped (slice_get parts.calls c) m.0 m.1 m.2 in
+          let same : y ≡ s.0 = one_call c y s.0 here s.1 in
+          let step : state_if_fits reply_eq.it y.returned (after m.0 y.process y.op) ≡ Some m.1 = subst (λ (x : ProblemCall Op Reply). state_if_fits reply_eq.it x.returned (after m.0 x.process x.op) ≡ Some m.1) (sym same) s.2 in
+          let held : m.1 ≡ Mutex (Some y.process) = acquired_free y.process y.returned m.1 m.0 y.op acquires.0 acquires.1 step in
+          let g = gives_back y.process rest u (subst (λ (z : ObjState). Legal A z rest u) held m.3) a event acquire there in
+          none_behind front c rest is q n (y, here, took_it, own) next_unlock above g.w (subst (In g.w) (sym g.is) (in_late g.w g.early (g.w ∷ g.late) (inl refl))) (g.x, g.call, g.op, g.process ∙ own)
+
+      took_is : (q a : ℕ) → TookFor A q a → (event : ℕ) × IsAcquire A a event
+      took_is q a (x, is, took_it, own) = (let acquires = took_acquires x.op x.returned took_it in (acquires.0, (x, is, acquires.1)))
+
+      -- two calls that are held beyond k do not both stand in it
+      not_both : (a b n m : ℕ) → a ≢ b → IsHeldUntil A a n → IsHeldUntil A b m → k < n → k < m → In a l → In b l → ⊥
+      not_both a b n m other (inr (none, zero)) second above more ia ib = omega (arith, above, zero)
+      not_both a b n m other (inl first) (inr (none, zero)) above more ia ib = omega (arith, more, zero)
+      not_both a b n m other (inl (q, took_a, next_a)) (inl (r, took_b, next_b)) above more ia ib = at (in_place a l ia)
+        where
+          at : (early : List ℕ) × (late : List ℕ) × (l ≡ early ++ a ∷ late) → ⊥
+          at (early, late, place) = elim (in_either b early (a ∷ late) (subst (In b) place ib)) [
+            | inl before ↦ (
+                let p = in_place b early before in
+                let is = took_is q a took_a in
+                gives_up p.0 b (p.1 ++ a ∷ late) (place ∙ ap (λ (z : List ℕ). z ++ a ∷ late) p.2 ∙ append_assoc p.0 (b ∷ p.1) (a ∷ late)) r m took_b next_b more a is.0 is.1 (in_late a p.1 (a ∷ late) (inl refl))
+                )
+            | inr (inl same) ↦ other (sym same)
+            | inr (inr behind) ↦ (let is = took_is r b took_b in gives_up early a late place q n took_a next_a above b is.0 is.1 behind)
+          ]
+
+      -- one that is held beyond k, and precedes no call of the run, may be replaced by an earlier one
+      module _ (timed : AreTimed parts.calls) (a b : ℕ) (less : a < b) (x y : ProblemCall Op Reply) (a_is : slice_get parts.calls a ≡ Some x) (b_is : slice_get parts.calls b ≡ Some y) (took_a : took x.op x.returned ≡ true) (took_b : took y.op y.returned ≡ true) (n : ℕ) (next_b : IsNextUnlock A y.process b n) (above : k < n) (last : (c : ℕ) → In c l → Before A b c → ⊥) (out : In a l → ⊥) (front rest : List ℕ) (place : l ≡ front ++ b ∷ rest) where
+        legal_there : (u : ObjState) × Legal A parts.start (front ++ a ∷ rest) u
+        legal_there =
+            let acquires = took_acquires y.op y.returned took_b in
+            let u = run.legal.0 in
+            let m = legal_parts front b rest parts.start u (subst (λ (z : List ℕ). Legal A parts.start z u) place run.legal.1) in
+            let s = stepped (slice_get parts.calls b) m.0 m.1 m.3 in
+            let same : y ≡ s.0 = one_call b y s.0 b_is s.1 in
+            let step : state_if_fits reply_eq.it y.returned (after m.0 y.process y.op) ≡ Some m.1 = subst (λ (z : ProblemCall Op Reply). state_if_fits reply_eq.it z.returned (after m.0 z.process z.op) ≡ Some m.1) (sym same) s.2 in
+            let found = acquired_finds y.process y.returned m.1 m.0 y.op acquires.0 acquires.1 step in
+            let more = held_rest y.process x.process rest u (subst (λ (z : ObjState). Legal A z rest u) found.1 m.4) (none_behind front b rest place y.process n (y, b_is, took_b, refl) next_b above) in
+            let takes_it : next A m.0 a ≡ Some (Mutex (Some x.process)) = ap (after_call A m.0) a_is ∙ ap (λ (z : ObjState). state_if_fits reply_eq.it x.returned (after z x.process x.op)) found.0 ∙ took_takes x.process x.op x.returned took_a in
+            (more.0, legal_together front a rest parts.start m.0 (Mutex (Some x.process)) more.0 m.2 takes_it more.1)
+
+        ordered_there : (early : List ℕ) (c : ℕ) (late : List ℕ) → front ++ a ∷ rest ≡ early ++ c ∷ late → (z : ℕ) → Before A z c → (has (no_calls A) z ≡ true) ⊎ In z early
+        ordered_there early c late e z before = by (placed front rest early late a c e)
+          where
+            by : ((mid : List ℕ) × (front ≡ early ++ c ∷ mid)) ⊎ (((c ≡ a) × (early ≡ front)) ⊎ ((mid : List ℕ) × (early ≡ front ++ a ∷ mid) × (rest ≡ mid ++ c ∷ late))) → (has (no_calls A) z ≡ true) ⊎ In z early
+            by (inl (mid, same)) = run.ordered early c (mid ++ b ∷ rest) (place ∙ ap (λ (m : List ℕ). m ++ b ∷ rest) same ∙ append_assoc early (c ∷ mid) (b ∷ rest)) z before
+            by (inr (inl (same, at))) = subst (λ (m : List ℕ). (has (no_calls A) z ≡ true) ⊎ In z m) (sym at) (run.ordered front b rest place z (before_later timed z a b y less b_is (subst (λ (i : ℕ). Before A z i) same before)))
+            by (inr (inr (mid, at, same))) =
+                let whole : l ≡ (front ++ b ∷ mid) ++ c ∷ late = place ∙ ap (λ (m : List ℕ). front ++ b ∷ m) same ∙ sym (append_assoc front (b ∷ mid) (c ∷ late)) in
+                elim (run.ordered (front ++ b ∷ mid) c late whole z before) [
+                  | inl h ↦ inl h
+                  | inr h ↦ inr (subst (In z) (sym at) (elim (in_either z front (b ∷ mid) h) [
+                    | inl f ↦ in_early z front (a ∷ mid) f
+                    | inr (inl is) ↦ absurd (last c (subst (In c) (sym whole) (in_late c (front ++ b ∷ mid) (c ∷ late) (inl refl))) (subst (λ (i : ℕ). Before A i c) is before))
+                    | inr (inr more) ↦ in_late z front (a ∷ mid) (inr more)
+                  ]))
+                ]
+
+        replaced : IsRun A (front ++ a ∷ rest)
+        replaced = record {
+          distinct = distinct_with front a b rest (subst IsDistinct place run.distinct) (λ h. out (subst (In a) (sym place) h));
+          outside = λ c h. has_none (length parts.calls) c;
+          legal = legal_there;
+          ordered = ordered_there;
+        }
+
+      module _ (timed : AreTimed parts.calls) where
+        above_none : (b n : ℕ) (y : ProblemCall Op Reply) → slice_get parts.calls b ≡ Some y → IsNextUnlock A y.process b n → k < n → k < length parts.calls
+        above_none b n y is next_b above = elim next_b.1 [
+          | inl end ↦ omega (arith, end, above)
+          | inr at ↦ (let w = slice_get_within parts.calls n at.1.0 at.1.1 in omega (arith, w, above))
+        ]
+
+        replaced_at : (a b n m : ℕ) → a < b → IsHeldUntil A a n → IsHeldUntil A b m → k < n → k < m → (Before A b k → ⊥) → (In a l → ⊥) → In b l → (front rest : List ℕ) × (l ≡ front ++ b ∷ rest) × IsRun A (front ++ a ∷ rest)
+        replaced_at a b n m less (inr (none, zero)) second above more open_b out ib = absurd (omega (arith, above, zero))
+        replaced_at a b n m less (inl first) (inr (none, zero)) above more open_b out ib = absurd (omega (arith, more, zero))
+        replaced_at a b n m less (inl (q, (x, x_is, took_x, x_own), next_a)) (inl (r, (y, y_is, took_y, y_own), next_b)) above more open_b out ib =
+            let place = in_place b l ib in
+            let own : IsNextUnlock A y.process b m = subst (λ (i : ℕ). IsNextUnlock A i b m) (sym y_own) next_b in
+            let within = above_none b m y y_is own more in
+            (place.0, place.1, place.2, replaced timed a b less x y x_is y_is took_x took_y m own more (λ c h before. open_b (up_to_last c (up_to c h) within before)) out place.0 place.1 place.2)
+          where
+            up_to_last : (c : ℕ) → c ≤ k → k < length parts.calls → Before A b c → Before A b k
+            up_to_last c low within before = elim (three c k) [
+              | inl fewer ↦ before_later timed b c k (slice_index_or parts.calls k y) fewer (slice_get-get_or parts.calls k y within) before
+              | inr (inl same) ↦ subst (λ (i : ℕ). Before A b i) same before
+              | inr (inr over) ↦ absurd (omega (arith, over, low))
+            ]
+
+    -- So the row tells which calls may stand in for others.
+    pub stand_ins : AreTimed parts.calls → (row : List ℕ) → AreHeldUntil A row → AreStandIns A row
+    stand_ins timed row held = record {
+      one = λ k a b other above more l run up_to ia ib. not_both k l run up_to a b (slice_index_or row a 0) (slice_index_or row b 0) other (held a) (held b) above more ia ib;
+      in_place = λ k a b less above more open_b l run up_to ib. replaced_at k l run up_to timed a b (slice_index_or row a 0) (slice_index_or row b 0) less (held a) (held b) above more open_b
+          (λ ia. not_both k l run up_to a b (slice_index_or row a 0) (slice_index_or row b 0) (λ e. omega (arith, less, e)) (held a) (held b) above more ia ib)
+          ib;
+    }

@@ -13,6 +13,7 @@ use Rattle.lin_object.specs.Kinds.Mutex.{mutex_step}
 use Rattle.lin_history.specs.ReplyLemmas.{reply_same}
 use Rattle.lin_history.specs.Problems.LegalLists.{fits, state_if_fits}
 use Rattle.lin_ahead.specs.Mutexes.Acquires.{acquired, takes_if_free}
+use Rattle.lin_ahead.specs.Mutexes.HeldUntil.{took}
 
 no : true ≡ false → ⊥
 no e = cc
@@ -67,27 +68,30 @@ module _ (process : ℕ) (returned : Option (ℕ × Reply)) (t : ObjState) where
   taken op k e = none_some t e
 
   -- an acquire finds it free, and leaves its process the holder
+  pub acquired_finds : (s : ObjState) (op : Op) (event : ℕ) → acquired op returned ≡ Some event → state_if_fits reply_eq.it returned (after s process op) ≡ Some t → (s ≡ Mutex None) × (t ≡ Mutex (Some process))
+  acquired_finds (Mutex None) op event k e = (refl, taken op (takes op returned event k) e)
+  acquired_finds (Mutex (Some h)) Lock event k e = none_some t e
+  acquired_finds (Mutex (Some h)) TryLock event k e = absurd (not_refused TryLock returned event k refl (fits_then (fits reply_eq.it (Flag false) returned) (Mutex (Some h)) t e).0)
+  acquired_finds (Register v) Lock event k e = none_some t e
+  acquired_finds (Register v) TryLock event k e = none_some t e
+  acquired_finds (Counter v) Lock event k e = none_some t e
+  acquired_finds (Counter v) TryLock event k e = none_some t e
+  acquired_finds (Queue []) Lock event k e = none_some t e
+  acquired_finds (Queue []) TryLock event k e = none_some t e
+  acquired_finds (Queue (v ∷ items)) Lock event k e = none_some t e
+  acquired_finds (Queue (v ∷ items)) TryLock event k e = none_some t e
+  acquired_finds (Stack []) Lock event k e = none_some t e
+  acquired_finds (Stack []) TryLock event k e = none_some t e
+  acquired_finds (Stack (v ∷ items)) Lock event k e = none_some t e
+  acquired_finds (Stack (v ∷ items)) TryLock event k e = none_some t e
+  acquired_finds (Set items) Lock event k e = none_some t e
+  acquired_finds (Set items) TryLock event k e = none_some t e
+  acquired_finds (Map pairs) Lock event k e = none_some t e
+  acquired_finds (Map pairs) TryLock event k e = none_some t e
+  acquired_finds s op event k e = none_some event k
+
   pub acquired_free : (s : ObjState) (op : Op) (event : ℕ) → acquired op returned ≡ Some event → state_if_fits reply_eq.it returned (after s process op) ≡ Some t → t ≡ Mutex (Some process)
-  acquired_free (Mutex None) op event k e = taken op (takes op returned event k) e
-  acquired_free (Mutex (Some h)) Lock event k e = none_some t e
-  acquired_free (Mutex (Some h)) TryLock event k e = absurd (not_refused TryLock returned event k refl (fits_then (fits reply_eq.it (Flag false) returned) (Mutex (Some h)) t e).0)
-  acquired_free (Register v) Lock event k e = none_some t e
-  acquired_free (Register v) TryLock event k e = none_some t e
-  acquired_free (Counter v) Lock event k e = none_some t e
-  acquired_free (Counter v) TryLock event k e = none_some t e
-  acquired_free (Queue []) Lock event k e = none_some t e
-  acquired_free (Queue []) TryLock event k e = none_some t e
-  acquired_free (Queue (v ∷ items)) Lock event k e = none_some t e
-  acquired_free (Queue (v ∷ items)) TryLock event k e = none_some t e
-  acquired_free (Stack []) Lock event k e = none_some t e
-  acquired_free (Stack []) TryLock event k e = none_some t e
-  acquired_free (Stack (v ∷ items)) Lock event k e = none_some t e
-  acquired_free (Stack (v ∷ items)) TryLock event k e = none_some t e
-  acquired_free (Set items) Lock event k e = none_some t e
-  acquired_free (Set items) TryLock event k e = none_some t e
-  acquired_free (Map pairs) Lock event k e = none_some t e
-  acquired_free (Map pairs) TryLock event k e = none_some t e
-  acquired_free s op event k e = none_some event k
+  acquired_free s op event k e = (acquired_finds s op event k e).1
 
   -- the steps of a mutex that is held
   abbrev pub IsHeldStep : ℕ → Op → Type 0
@@ -101,3 +105,18 @@ module _ (process : ℕ) (returned : Option (ℕ × Reply)) (t : ObjState) where
   held_step h Unlock e = unlock_step h (h == process) refl e
   held_step h TryLock e = (let f = fits_then (fits reply_eq.it (Flag false) returned) (Mutex (Some h)) t e in inr (refl, sym f.1, f.0))
   held_step h op e = none_some t e
+
+-- a call that took the mutex is an acquire, and takes it where it is free
+pub took_acquires : (op : Op) (returned : Option (ℕ × Reply)) → took op returned ≡ true → (event : ℕ) × (acquired op returned ≡ Some event)
+took_acquires Lock (Some (event, Okay)) e = (event, refl)
+took_acquires TryLock (Some (event, Flag true)) e = (event, refl)
+took_acquires op returned e = absurd (no (sym e))
+
+pub took_takes : (process : ℕ) (op : Op) (returned : Option (ℕ × Reply)) → took op returned ≡ true → state_if_fits reply_eq.it returned (after (Mutex None) process op) ≡ Some (Mutex (Some process))
+took_takes process Lock (Some (event, Okay)) e = refl
+took_takes process TryLock (Some (event, Flag true)) e = refl
+took_takes process op returned e = absurd (no (sym e))
+
+-- a try that answered 'no' has a step whoever holds the mutex
+pub try_fails : (g process : ℕ) (op : Op) (returned : Option (ℕ × Reply)) → op ≡ TryLock → fits reply_eq.it (Flag false) returned ≡ true → state_if_fits reply_eq.it returned (after (Mutex (Some g)) process op) ≡ Some (Mutex (Some g))
+try_fails g process op returned is f = subst (λ (o : Op). state_if_fits reply_eq.it returned (after (Mutex (Some g)) process o) ≡ Some (Mutex (Some g))) (sym is) (ap (λ (b : Bool). if b then Some (Mutex (Some g)) else None) f)

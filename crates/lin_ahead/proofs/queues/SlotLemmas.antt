@@ -1,5 +1,5 @@
 -- An enqueue of an item begins no completion where by an event as many calls as are lifted may have taken it, and more of another
--- item came out than went in.
+-- item came out than went in, or the queue was found empty.
 use Rattle.std.proofs.Common.{◌≡◌, ℕ, zero, suc, ◌+◌, ◌<◌, ◌≤◌, Bool, true, false, Option, Some, None, List, [], ◌∷◌, ◌++◌, length, ◌⊎◌, inl, inr, refl, sym, ◌∙◌, ap, subst, append_assoc, append-nil, arith}
 use Rattle.std.specs.Prelude.{ℤ, slice_get, IfSome, nat_le, ◌&&◌, if◌then◌else◌}
 use Rattle.std.specs.Ordering.{int_eq}
@@ -24,18 +24,18 @@ use Rattle.lin_ahead.specs.Queues.Queue.{IsOfQueue, Puts}
 use Rattle.lin_ahead.specs.First.FirstProgress.{BeginsNone}
 use Rattle.lin_history.specs.Problems.Configurations.{IsReachable}
 use Rattle.lin_search.specs.AlikeLemmas.{AreAlike}
-use Rattle.lin_ahead.specs.declared.queues.item_rows.ItemRow.{ItemRow}
-use Rattle.lin_ahead.specs.Queues.Slots.{IsTooEarly, ComesTooEarly, IsItemRow, AreItemRows, puts_it, may_take, concerns, calls_on, put_at, taker_at, took_by, taken_at, how_many, lifted_puts, takers_by, taken_by}
+use Rattle.lin_ahead.specs.Queues.Slots.{FoundEmptyBy, ComesTooEarly, LacksEnqueues, put_by, called_puts, puts_it, may_take, concerns, calls_on, put_at, taker_at, took_by, taken_at, how_many, lifted_puts, takers_by, taken_by}
 use Rattle.lin_ahead.specs.Items.Takers.{counted, called_by}
+use Rattle.lin_ahead.specs.Queues.Hurried.{times}
 use Rattle.lin_ahead.proofs.items.TakerLemmas.{without_call, both_true}
-use Rattle.lin_ahead.proofs.queues.QueueLemmas.{QueueStep, queue_leaves, stepped, has_call, fits_recorded, puts_by, puts, chain, legal_split, took_completed}
+use Rattle.lin_ahead.proofs.queues.QueueLemmas.{QueueStep, queue_leaves, queue_empty, replied, stepped, has_call, fits_recorded, puts_by, puts, chain, legal_split, took_completed}
 use Rattle.lin_history.specs.Problems.LegalLists.{fits}
 use Rattle.lin_ahead.specs.AnswerLemmas.{Is}
 use Rattle.lin_ahead.proofs.first.NeedsLemmas.{not_before, stands, joined}
 
 -- ---- how many calls of a list are so
 
-counted_more : (b : Bool) (n : ℕ) → counted b n ≡ counted b 0 + n
+pub counted_more : (b : Bool) (n : ℕ) → counted b n ≡ counted b 0 + n
 counted_more true n = omega arith
 counted_more false n = omega arith
 
@@ -81,7 +81,7 @@ chosen is (d ∷ ds) distinct = go (is d) refl (chosen is ds distinct.1)
     }
 
 -- where each of a list that is so is one of another list that is as asked there, these are no fewer
-no_fewer : (is so : ℕ → Bool) (ds es : List ℕ) → IsDistinct ds → ((d : ℕ) → In d ds → is d ≡ true → In d es × (so d ≡ true)) → how_many is ds ≤ how_many so es
+pub no_fewer : (is so : ℕ → Bool) (ds es : List ℕ) → IsDistinct ds → ((d : ℕ) → In d ds → is d ≡ true → In d es × (so d ≡ true)) → how_many is ds ≤ how_many so es
 no_fewer is so ds es distinct h =
     let k = chosen is ds distinct in
     subst (λ (n : ℕ). n ≤ how_many so es) k.count (within so es k.these k.distinct (λ d i. let q = k.each d i in h d q.0 q.1))
@@ -96,7 +96,7 @@ on_from v n (c ∷ cs) d h = go (concerns v c.op c.returned) h (on_from v (n + 1
     go true h more = elim h [ inl e ↦ omega (arith, e) | inr k ↦ (let q = more k in omega (arith, q)) ]
     go false h more = (let q = more h in omega (arith, q))
 
-on_distinct : (v : ℤ) (n : ℕ) (calls : List (ProblemCall Op Reply)) → IsDistinct (calls_on v n calls)
+pub on_distinct : (v : ℤ) (n : ℕ) (calls : List (ProblemCall Op Reply)) → IsDistinct (calls_on v n calls)
 on_distinct v n [] = tt
 on_distinct v n (c ∷ cs) = go (concerns v c.op c.returned) (on_distinct v (n + 1) cs)
   where
@@ -118,11 +118,7 @@ every_on v n (c ∷ cs) (suc k) x e so = go (concerns v c.op c.returned) (subst 
 
 -- ---- how often an item is in a list
 
-abbrev times : ℤ → List ℤ → ℕ
-times v [] = 0
-times v (x ∷ xs) = counted (int_eq v x) (times v xs)
-
-times_joined : (v : ℤ) (xs ys : List ℤ) → times v (xs ++ ys) ≡ times v xs + times v ys
+pub times_joined : (v : ℤ) (xs ys : List ℤ) → times v (xs ++ ys) ≡ times v xs + times v ys
 times_joined v [] ys = omega arith
 times_joined v (x ∷ xs) ys =
     let k = times_joined v xs ys in
@@ -130,11 +126,11 @@ times_joined v (x ∷ xs) ys =
     let b = counted_more (int_eq v x) (times v xs) in
     omega (arith, k, a, b)
 
-times_own : (v : ℤ) (xs : List ℤ) → times v (v ∷ xs) ≡ times v xs + 1
+pub times_own : (v : ℤ) (xs : List ℤ) → times v (v ∷ xs) ≡ times v xs + 1
 times_own v xs = ap (λ (b : Bool). counted b (times v xs)) ((signed_Decides v v).1 refl)
 
 -- of two lists with one join: the first ends before an item of the second, or has it
-two_fronts : (xs ys front : List ℤ) (w : ℤ) (rest : List ℤ) → xs ++ ys ≡ front ++ w ∷ rest → ((more : List ℤ) × (front ≡ xs ++ more)) ⊎ ((more : List ℤ) × (xs ≡ front ++ w ∷ more))
+pub two_fronts : (xs ys front : List ℤ) (w : ℤ) (rest : List ℤ) → xs ++ ys ≡ front ++ w ∷ rest → ((more : List ℤ) × (front ≡ xs ++ more)) ⊎ ((more : List ℤ) × (xs ≡ front ++ w ∷ more))
 two_fronts [] ys front w rest e = inl (front, refl)
 two_fronts (x ∷ xs) ys [] w rest e = inr (xs, (let h : x ≡ w = cc in ap (λ (y : ℤ). y ∷ xs) h))
 two_fronts (x ∷ xs) ys (z ∷ front) w rest e =
@@ -181,7 +177,7 @@ step_most v op back r e = omega arith
 
 -- ---- what the tests say
 
-and_parts : (a b : Bool) → (a && b) ≡ true → (a ≡ true) × (b ≡ true)
+pub and_parts : (a b : Bool) → (a && b) ≡ true → (a ≡ true) × (b ≡ true)
 and_parts true true e = (refl, refl)
 and_parts true false e = absurd (cc)
 and_parts false b e = absurd (cc)
@@ -190,7 +186,7 @@ put_concerns : (v : ℤ) (op : Op) (back : Option (ℕ × Reply)) → puts_it v 
 put_concerns v (Enqueue w) back e = e
 put_concerns v op back e = absurd (cc)
 
-take_concerns : (v : ℤ) (op : Op) (back : Option (ℕ × Reply)) → may_take v op back ≡ true → concerns v op back ≡ true
+pub take_concerns : (v : ℤ) (op : Op) (back : Option (ℕ × Reply)) → may_take v op back ≡ true → concerns v op back ≡ true
 take_concerns v Dequeue None e = refl
 take_concerns v Dequeue (Some (n, Int w)) e = e
 take_concerns v Dequeue (Some (n, Okay)) e = absurd (cc)
@@ -199,10 +195,10 @@ take_concerns v Dequeue (Some (n, Empty)) e = absurd (cc)
 take_concerns v op back e = absurd (cc)
 
 -- a call that returned by the event
-abbrev ReturnedBy : ℕ → Option (ℕ × Reply) → Type 0
+abbrev pub ReturnedBy : ℕ → Option (ℕ × Reply) → Type 0
 ReturnedBy event back = (n : ℕ) × (r : Reply) × (back ≡ Some (n, r)) × (n ≤ event)
 
-no_later : (n event : ℕ) → nat_le n event ≡ true → n ≤ event
+pub no_later : (n event : ℕ) → nat_le n event ≡ true → n ≤ event
 no_later n event e = elim (leb_tells n event) [ inl k ↦ k.1 | inr k ↦ absurd (let f = k.0 in cc) ]
 
 later : (n event : ℕ) → nat_le n event ≡ false → event < n
@@ -217,40 +213,44 @@ took_tells v event Dequeue (Some (n, Empty)) e = absurd (cc)
 took_tells v event op back e = absurd (cc)
 
 -- a call that was called and returned by the event
-abbrev DoneBy : ℕ → Option (ProblemCall Op Reply) → Type 0
+abbrev pub DoneBy : ℕ → Option (ProblemCall Op Reply) → Type 0
 DoneBy event o = (x : ProblemCall Op Reply) × (o ≡ Some x) × ReturnedBy event x.returned × (called_by event o ≡ true)
 
-taken_tells : (v : ℤ) (event : ℕ) (o : Option (ProblemCall Op Reply)) → taken_at v event o ≡ true → DoneBy event o
+pub taken_tells : (v : ℤ) (event : ℕ) (o : Option (ProblemCall Op Reply)) → taken_at v event o ≡ true → DoneBy event o
 taken_tells v event None e = absurd (cc)
 taken_tells v event (Some x) e =
     let k = and_parts (took_by v event x.op x.returned) (nat_le x.called event) e in
     (x, refl, took_tells v event x.op x.returned k.0, k.1)
 
-abbrev may_at : ℤ → Option (ProblemCall Op Reply) → Bool
+put_and_called : (v : ℤ) (event : ℕ) (o : Option (ProblemCall Op Reply)) → put_at v o ≡ true → called_by event o ≡ true → put_by v event o ≡ true
+put_and_called v event None so by = absurd (cc)
+put_and_called v event (Some c) so by = both_true so by
+
+abbrev pub may_at : ℤ → Option (ProblemCall Op Reply) → Bool
 may_at v None = false
 may_at v (Some x) = may_take v x.op x.returned
 
 module _ (p : Problem ObjState Op Reply) where
-  abbrev at : ℕ → Option (ProblemCall Op Reply)
+  abbrev pub at : ℕ → Option (ProblemCall Op Reply)
   at d = slice_get p.calls d
 
   put_is_on : (v : ℤ) (d : ℕ) (o : Option (ProblemCall Op Reply)) → at d ≡ o → put_at v o ≡ true → In d (calls_on v 0 p.calls)
   put_is_on v d None e so = absurd (cc)
   put_is_on v d (Some x) e so = subst (λ (n : ℕ). In n (calls_on v 0 p.calls)) (omega arith) (every_on v 0 p.calls d x e (put_concerns v x.op x.returned so))
 
-  taker_is_on : (v : ℤ) (event d : ℕ) (o : Option (ProblemCall Op Reply)) → at d ≡ o → may_at v o ≡ true → called_by event o ≡ true → In d (calls_on v 0 p.calls) × (taker_at v event o ≡ true)
+  pub taker_is_on : (v : ℤ) (event d : ℕ) (o : Option (ProblemCall Op Reply)) → at d ≡ o → may_at v o ≡ true → called_by event o ≡ true → In d (calls_on v 0 p.calls) × (taker_at v event o ≡ true)
   taker_is_on v event d None e so by = absurd (cc)
   taker_is_on v event d (Some x) e so by = (subst (λ (n : ℕ). In n (calls_on v 0 p.calls)) (omega arith) (every_on v 0 p.calls d x e (take_concerns v x.op x.returned so)), both_true so by)
 
   -- a list of calls up to the first that was called after the event
-  record Split (event : ℕ) (l : List ℕ) : Type 0 where
-    front : List ℕ
-    back : List ℕ
-    place : l ≡ front ++ back
-    by : (d : ℕ) → In d front → called_by event (at d) ≡ true
-    ends : (back ≡ []) ⊎ ((y : ℕ) × (ys : List ℕ) × (back ≡ y ∷ ys) × (called_by event (at y) ≡ false))
+  pub record Split (event : ℕ) (l : List ℕ) : Type 0 where
+    pub front : List ℕ
+    pub back : List ℕ
+    pub place : l ≡ front ++ back
+    pub by : (d : ℕ) → In d front → called_by event (at d) ≡ true
+    pub ends : (back ≡ []) ⊎ ((y : ℕ) × (ys : List ℕ) × (back ≡ y ∷ ys) × (called_by event (at y) ≡ false))
 
-  split_at : (event : ℕ) (l : List ℕ) → Split event l
+  pub split_at : (event : ℕ) (l : List ℕ) → Split event l
   split_at event [] = record { front = []; back = []; place = refl; by = λ d h. absurd h; ends = inl refl }
   split_at event (c ∷ cs) = go (called_by event (at c)) refl (split_at event cs)
     where
@@ -264,14 +264,14 @@ module _ (p : Problem ObjState Op Reply) where
       }
       go false so k = record { front = []; back = c ∷ cs; place = refl; by = λ d h. absurd h; ends = inr (c, cs, refl, so) }
 
-  is_before : (event d y : ℕ) (z : ProblemCall Op Reply) → DoneBy event (at d) → at y ≡ Some z → called_by event (at y) ≡ false → Before p d y
+  pub is_before : (event d y : ℕ) (z : ProblemCall Op Reply) → DoneBy event (at d) → at y ≡ Some z → called_by event (at y) ≡ false → Before p d y
   is_before event d y z (x, there, (n, r, back, soon), called) here late =
       let after_it : event < z.called = later z.called event (ap (λ (o : Option (ProblemCall Op Reply)). called_by event o) (sym here) ∙ late) in
       let less : n < z.called = omega (arith, soon, after_it) in
       rw (there, back, here) less
 
 module _ {p : Problem ObjState Op Reply} {start : List ℤ} (of_queue : IsOfQueue p start) where
-  joined_puts : (xs ys : List ℕ) → puts of_queue (xs ++ ys) ≡ puts of_queue xs ++ puts of_queue ys
+  pub joined_puts : (xs ys : List ℕ) → puts of_queue (xs ++ ys) ≡ puts of_queue xs ++ puts of_queue ys
   joined_puts [] ys = refl
   joined_puts (x ∷ xs) ys = ap (λ (l : List ℤ). puts_by of_queue (slice_get p.calls x) ++ l) (joined_puts xs ys) ∙ sym (append_assoc (puts_by of_queue (slice_get p.calls x)) (puts of_queue xs) (puts of_queue ys))
 
@@ -293,17 +293,19 @@ module _ {p : Problem ObjState Op Reply} {start : List ℤ} (of_queue : IsOfQueu
       omega (arith, a, b, c, e)
 
   -- what came out and then what is left is what went in, and how often each item came out
-  record Outs (items : List ℤ) (l : List ℕ) : Type 0 where
-    took : List ℤ
-    rest : List ℤ
-    same : items ++ puts of_queue l ≡ took ++ rest
-    least : (v : ℤ) (event : ℕ) → how_many (λ d. taken_at v event (slice_get p.calls d)) l ≤ times v took
-    most : (v : ℤ) → times v took ≤ how_many (λ d. may_at v (slice_get p.calls d)) l
+  pub record Outs (items : List ℤ) (l : List ℕ) (t : ObjState) : Type 0 where
+    pub took : List ℤ
+    pub rest : List ℤ
+    pub ends : t ≡ Queue rest
+    pub same : items ++ puts of_queue l ≡ took ++ rest
+    pub least : (v : ℤ) (event : ℕ) → how_many (λ d. taken_at v event (slice_get p.calls d)) l ≤ times v took
+    pub most : (v : ℤ) → times v took ≤ how_many (λ d. may_at v (slice_get p.calls d)) l
 
-  next_out : (c : ℕ) (cs : List ℕ) (items : List ℤ) (t m : ObjState) → next p (Queue items) c ≡ Some m → Legal p m cs t → ((left : List ℤ) → Legal p (Queue left) cs t → Outs left cs) → Outs items (c ∷ cs)
+  next_out : (c : ℕ) (cs : List ℕ) (items : List ℤ) (t m : ObjState) → next p (Queue items) c ≡ Some m → Legal p m cs t → ((left : List ℤ) → Legal p (Queue left) cs t → Outs left cs t) → Outs items (c ∷ cs) t
   next_out c cs items t m step more go = record {
     took = out ++ rest_of.took;
     rest = rest_of.rest;
+    ends = rest_of.ends;
     same = rw (ap (puts_by of_queue) call.1) (chain of_queue items (put_in_by call.0.op) (puts of_queue cs) out rest_of.took rest_of.rest one.rest one.same rest_of.same);
     least = λ v event. (
         let a = times_joined v out rest_of.took in
@@ -334,14 +336,14 @@ module _ {p : Problem ObjState Op Reply} {start : List ℤ} (of_queue : IsOfQueu
       out : List ℤ
       out = taken_out_by call.0.op k.0
 
-      rest_of : Outs one.rest cs
+      rest_of : Outs one.rest cs t
       rest_of = go one.rest (subst (λ (s : ObjState). Legal p s cs t) one.ends more)
 
-  outs : (l : List ℕ) (items : List ℤ) (t : ObjState) → Legal p (Queue items) l t → Outs items l
-  outs [] items t e = record { took = []; rest = items; same = append-nil items; least = λ v event. omega arith; most = λ v. omega arith }
+  pub outs : (l : List ℕ) (items : List ℤ) (t : ObjState) → Legal p (Queue items) l t → Outs items l t
+  outs [] items t e = record { took = []; rest = items; ends = sym e; same = append-nil items; least = λ v event. omega arith; most = λ v. omega arith }
   outs (c ∷ cs) items t (m, step, more) = next_out c cs items t m step more (λ left legal. outs cs left t legal)
 
-module _ {p : Problem ObjState Op Reply} (of_queue : IsOfQueue p []) (l early late : List ℕ) (b : ℕ) (set : List Bool) (whole : IsLinearization p l) (place : l ≡ early ++ b ∷ late) (is_early : (c : ℕ) → (has set c ≡ true → In c early) × (In c early → has set c ≡ true)) (event : ℕ) where
+module _ {p : Problem ObjState Op Reply} (of_queue : IsOfQueue p []) (l : List ℕ) (whole : IsLinearization p l) (event : ℕ) where
   s : Split p event l
   s = split_at p event l
 
@@ -357,7 +359,7 @@ module _ {p : Problem ObjState Op Reply} (of_queue : IsOfQueue p []) (l early la
   parts : (t : ObjState) × Legal p (Queue []) s.front t × Legal p t s.back end
   parts = legal_split of_queue s.front s.back (Queue []) end legal
 
-  o : Outs of_queue [] s.front
+  o : Outs of_queue [] s.front parts.0
   o = outs of_queue s.front [] parts.0 parts.1
 
   -- a call that was done by the event does not stand behind one that was called after it
@@ -386,14 +388,25 @@ module _ {p : Problem ObjState Op Reply} (of_queue : IsOfQueue p []) (l early la
       let q = stands l d whole (took_completed of_queue d x n r is back) in
       subst (λ (m : List ℕ). In d m) (sym q.2) (in_late d q.0 (d ∷ q.1) (inl refl))
 
-  distinct : IsDistinct (early ++ b ∷ late)
-  distinct = subst IsDistinct place whole.continuation.distinct
-
   came_out : (w : ℤ) → taken_by p.calls w event (calls_on w 0 p.calls) ≤ times w o.took
   came_out w =
       let a = no_fewer (λ d. taken_at w event (slice_get p.calls d)) (λ d. taken_at w event (slice_get p.calls d)) (calls_on w 0 p.calls) s.front (on_distinct w 0 p.calls) (λ d i so. (let done = taken_tells w event (slice_get p.calls d) so in (in_front d done (there d done), so))) in
       let c = o.least w event in
       omega (arith, a, c)
+
+  all_called : (v : ℤ) → times v (puts of_queue s.front) ≤ called_puts p.calls v event (calls_on v 0 p.calls)
+  all_called v =
+      let a = no_fewer (λ d. put_at v (slice_get p.calls d)) (λ d. put_by v event (slice_get p.calls d)) s.front (calls_on v 0 p.calls) (distinct_early s.front s.back (subst IsDistinct s.place whole.continuation.distinct)) (λ d i so. (put_is_on p v d (slice_get p.calls d) refl so, put_and_called v event (slice_get p.calls d) so (s.by d i))) in
+      let c = puts_times of_queue v s.front in
+      omega (arith, a, c)
+
+  lacks_none : (v : ℤ) → called_puts p.calls v event (calls_on v 0 p.calls) < taken_by p.calls v event (calls_on v 0 p.calls) → ⊥
+  lacks_none v less =
+      let a = came_out v in
+      let c = all_called v in
+      let e = ap (times v) o.same in
+      let k = times_joined v o.took o.rest in
+      omega (arith, a, c, e, k, less)
 
   may_come_out : (v : ℤ) → times v o.took ≤ takers_by p.calls v event (calls_on v 0 p.calls)
   may_come_out v =
@@ -401,66 +414,114 @@ module _ {p : Problem ObjState Op Reply} (of_queue : IsOfQueue p []) (l early la
       let c = o.most v in
       omega (arith, a, c)
 
-  went_in : (w : ℤ) → times w (puts of_queue early) ≤ lifted_puts p.calls set w (calls_on w 0 p.calls)
-  went_in w =
-      let a = no_fewer (λ d. put_at w (slice_get p.calls d)) (λ d. has set d && put_at w (slice_get p.calls d)) early (calls_on w 0 p.calls) (distinct_early early (b ∷ late) distinct) (λ d i so. (put_is_on p w d (slice_get p.calls d) refl so, both_true ((is_early d).1 i) so)) in
-      let c = puts_times of_queue w early in
-      omega (arith, a, c)
+  module _ (early late : List ℕ) (b : ℕ) (set : List Bool) (place : l ≡ early ++ b ∷ late) (is_early : (c : ℕ) → (has set c ≡ true → In c early) × (In c early → has set c ≡ true)) where
+    distinct : IsDistinct (early ++ b ∷ late)
+    distinct = subst IsDistinct place whole.continuation.distinct
 
-  all_in : (v : ℤ) → lifted_puts p.calls set v (calls_on v 0 p.calls) ≤ times v (puts of_queue early)
-  all_in v =
-      let a = no_fewer (λ d. has set d && put_at v (slice_get p.calls d)) (λ d. put_at v (slice_get p.calls d)) (calls_on v 0 p.calls) early (on_distinct v 0 p.calls) (λ d i so. (let q = and_parts (has set d) (put_at v (slice_get p.calls d)) so in ((is_early d).0 q.0, q.1))) in
-      let c = puts_times of_queue v early in
-      omega (arith, a, c)
+    went_in : (w : ℤ) → times w (puts of_queue early) ≤ lifted_puts p.calls set w (calls_on w 0 p.calls)
+    went_in w =
+        let a = no_fewer (λ d. put_at w (slice_get p.calls d)) (λ d. has set d && put_at w (slice_get p.calls d)) early (calls_on w 0 p.calls) (distinct_early early (b ∷ late) distinct) (λ d i so. (put_is_on p w d (slice_get p.calls d) refl so, both_true ((is_early d).1 i) so)) in
+        let c = puts_times of_queue w early in
+        omega (arith, a, c)
 
-  order : (v : ℤ) → Puts p b v → o.took ++ (o.rest ++ puts of_queue s.back) ≡ puts of_queue early ++ v ∷ puts of_queue late
-  order v put =
-      sym (append_assoc o.took o.rest (puts of_queue s.back))
-      ∙ ap (λ (m : List ℤ). m ++ puts of_queue s.back) (sym o.same)
-      ∙ sym (joined_puts of_queue s.front s.back)
-      ∙ ap (puts of_queue) (sym s.place ∙ place)
-      ∙ joined_puts of_queue early (b ∷ late)
-      ∙ ap (λ (m : List ℤ). puts of_queue early ++ (m ++ puts of_queue late)) (ap (puts_by of_queue) put.1 ∙ ap put_in_by put.2)
+    all_in : (v : ℤ) → lifted_puts p.calls set v (calls_on v 0 p.calls) ≤ times v (puts of_queue early)
+    all_in v =
+        let a = no_fewer (λ d. has set d && put_at v (slice_get p.calls d)) (λ d. put_at v (slice_get p.calls d)) (calls_on v 0 p.calls) early (on_distinct v 0 p.calls) (λ d i so. (let q = and_parts (has set d) (put_at v (slice_get p.calls d)) so in ((is_early d).0 q.0, q.1))) in
+        let c = puts_times of_queue v early in
+        omega (arith, a, c)
 
-  too_early : (v w : ℤ) → Puts p b v → takers_by p.calls v event (calls_on v 0 p.calls) ≤ lifted_puts p.calls set v (calls_on v 0 p.calls) → lifted_puts p.calls set w (calls_on w 0 p.calls) < taken_by p.calls w event (calls_on w 0 p.calls) → ⊥
-  too_early v w put few lack = elim (two_fronts o.took (o.rest ++ puts of_queue s.back) (puts of_queue early) v (puts of_queue late) (order v put)) [
-    | inl q ↦ (
-        let joined = ap (times w) q.1 ∙ times_joined w o.took q.0 in
-        let a = came_out w in
-        let c = went_in w in
-        omega (arith, joined, a, c, lack))
-    | inr q ↦ (
-        let joined = ap (times v) q.1 ∙ times_joined v (puts of_queue early) (v ∷ q.0) in
-        let own = times_own v q.0 in
-        let a = may_come_out v in
-        let c = all_in v in
-        omega (arith, joined, own, a, c, few))
-  ]
+    order : (v : ℤ) → Puts p b v → o.took ++ (o.rest ++ puts of_queue s.back) ≡ puts of_queue early ++ v ∷ puts of_queue late
+    order v put =
+        sym (append_assoc o.took o.rest (puts of_queue s.back))
+        ∙ ap (λ (m : List ℤ). m ++ puts of_queue s.back) (sym o.same)
+        ∙ sym (joined_puts of_queue s.front s.back)
+        ∙ ap (puts of_queue) (sym s.place ∙ place)
+        ∙ joined_puts of_queue early (b ∷ late)
+        ∙ ap (λ (m : List ℤ). puts of_queue early ++ (m ++ puts of_queue late)) (ap (puts_by of_queue) put.1 ∙ ap put_in_by put.2)
+
+    too_early : (v w : ℤ) → Puts p b v → takers_by p.calls v event (calls_on v 0 p.calls) ≤ lifted_puts p.calls set v (calls_on v 0 p.calls) → lifted_puts p.calls set w (calls_on w 0 p.calls) < taken_by p.calls w event (calls_on w 0 p.calls) → ⊥
+    too_early v w put few lack = elim (two_fronts o.took (o.rest ++ puts of_queue s.back) (puts of_queue early) v (puts of_queue late) (order v put)) [
+      | inl q ↦ (
+          let joined = ap (times w) q.1 ∙ times_joined w o.took q.0 in
+          let a = came_out w in
+          let c = went_in w in
+          omega (arith, joined, a, c, lack))
+      | inr q ↦ (
+          let joined = ap (times v) q.1 ∙ times_joined v (puts of_queue early) (v ∷ q.0) in
+          let own = times_own v q.0 in
+          let a = may_come_out v in
+          let c = all_in v in
+          omega (arith, joined, own, a, c, few))
+    ]
+
+    -- a call that found the queue empty stands behind the enqueue, so its item is out in front of that
+    module _ (v : ℤ) (e : ℕ) (put : Puts p b v) (x : ProblemCall Op Reply) (n : ℕ) (at_e : slice_get p.calls e ≡ Some x) (op : x.op ≡ Dequeue) (back : x.returned ≡ Some (n, Empty)) (soon : n ≤ event) (mid rest : List ℕ) (is : late ≡ mid ++ e ∷ rest) where
+      abbrev front : List ℕ
+      front = early ++ b ∷ mid
+
+      shape : l ≡ front ++ e ∷ rest
+      shape = place ∙ ap (λ (m : List ℕ). early ++ b ∷ m) is ∙ sym (append_assoc early (b ∷ mid) (e ∷ rest))
+
+      two : (t : ObjState) × Legal p (Queue []) front t × Legal p t (e ∷ rest) end
+      two = legal_split of_queue front (e ∷ rest) (Queue []) end (subst (λ (m : List ℕ). Legal p (Queue []) m end) shape (subst (λ (u : ObjState). Legal p u l end) of_queue.start_is whole.continuation.legal.1))
+
+      q : Outs of_queue [] front two.0
+      q = outs of_queue front [] two.0 two.1
+
+      goes : Legal p (Queue q.rest) (e ∷ rest) end
+      goes = subst (λ (u : ObjState). Legal p u (e ∷ rest) end) q.ends two.2
+
+      all_out : puts of_queue front ≡ q.took
+      all_out = q.same ∙ ap (λ (m : List ℤ). q.took ++ m) (queue_empty q.rest goes.0 (replied of_queue q.rest goes.0 e x n Empty at_e op back goes.1)).0 ∙ append-nil q.took
+
+      called : (d : ℕ) → In d front → (o : Option (ProblemCall Op Reply)) → slice_get p.calls d ≡ o → may_at v o ≡ true → called_by event o ≡ true
+      called d i None here so = absurd (cc)
+      called d i (Some y) here so = elim (leb_tells y.called event) [
+        | inl k ↦ k.0
+        | inr k ↦ absurd (
+            let less : n < y.called = (let f = k.1 in omega (arith, soon, f)) in
+            let first : Before p e d = rw (at_e, back, here) less in
+            not_before front e rest (subst (λ (m : List ℕ). IsRun p m) shape run) d first i)
+      ]
+
+      most : times v q.took ≤ takers_by p.calls v event (calls_on v 0 p.calls)
+      most =
+          let a = no_fewer (λ d. may_at v (slice_get p.calls d)) (λ d. taker_at v event (slice_get p.calls d)) front (calls_on v 0 p.calls) (distinct_early front (e ∷ rest) (subst IsDistinct shape whole.continuation.distinct)) (λ d i so. taker_is_on p v event d (slice_get p.calls d) refl so (called d i (slice_get p.calls d) refl so)) in
+          let c = q.most v in
+          omega (arith, a, c)
+
+      enough : lifted_puts p.calls set v (calls_on v 0 p.calls) ≤ times v (puts of_queue early)
+      enough = all_in v
+
+      own : times v (v ∷ puts of_queue mid) ≡ times v (puts of_queue mid) + 1
+      own = times_own v (puts of_queue mid)
+
+      inside : times v q.took ≡ times v (puts of_queue early ++ v ∷ puts of_queue mid)
+      inside = ap (times v) (sym all_out ∙ joined_puts of_queue early (b ∷ mid) ∙ ap (λ (m : List ℤ). puts of_queue early ++ (m ++ puts of_queue mid)) (ap (puts_by of_queue) put.1 ∙ ap put_in_by put.2))
+
+      both : times v (puts of_queue early ++ v ∷ puts of_queue mid) ≡ times v (puts of_queue early) + times v (v ∷ puts of_queue mid)
+      both = times_joined v (puts of_queue early) (v ∷ puts of_queue mid)
+
+      out_before : takers_by p.calls v event (calls_on v 0 p.calls) ≤ lifted_puts p.calls set v (calls_on v 0 p.calls) → ⊥
+      out_before few = omega (arith, few, most, enough, both, own, inside)
+
+    found_there : (e : ℕ) (x : ProblemCall Op Reply) (n : ℕ) → slice_get p.calls e ≡ Some x → x.returned ≡ Some (n, Empty) → In e l
+    found_there e x n at_e back = (let q = stands l e whole (took_completed of_queue e x n Empty at_e back) in subst (λ (m : List ℕ). In e m) (sym q.2) (in_late e q.0 (e ∷ q.1) (inl refl)))
+
+    before_empty : (v : ℤ) (e : ℕ) → Puts p b v → FoundEmptyBy p.calls set event e → takers_by p.calls v event (calls_on v 0 p.calls) ≤ lifted_puts p.calls set v (calls_on v 0 p.calls) → ⊥
+    before_empty v e put (out, (x, at_e, op, (n, back, soon))) few = elim (in_either e early (b ∷ late) (subst (λ (m : List ℕ). In e m) place (found_there e x n at_e back))) [
+      | inl q ↦ absurd (let f = (is_early e).1 q in cc)
+      | inr (inl q) ↦ absurd (let f : slice_get p.calls e ≡ Some put.0 = ap (λ (d : ℕ). slice_get p.calls d) q ∙ put.1 in let g = put.2 in cc)
+      | inr (inr q) ↦ (let at = in_place e late q in out_before v e put x n at_e op back soon at.0 at.1 at.2 few)
+    ]
 
 -- no completion of a reachable configuration begins with such an enqueue
 pub early_begins_none : (p : Problem ObjState Op Reply) → IsOfQueue p [] → AreAlike p p → (set : List Bool) (s : ObjState) → IsReachable p set s → (b : ℕ) → ComesTooEarly p set b → BeginsNone p set s b
-early_begins_none p of_queue alike set s k b (v, put, (event, few, (w, lack))) cs h =
-    too_early of_queue (k.run.0 ++ b ∷ cs) k.run.0 cs b set (joined p alike set s k (b ∷ cs) h) refl k.run.2 event v w put few lack
+early_begins_none p of_queue alike set s k b (v, put, (event, few, inl (w, lack))) cs h =
+    too_early of_queue (k.run.0 ++ b ∷ cs) (joined p alike set s k (b ∷ cs) h) event k.run.0 cs b set refl k.run.2 v w put few lack
+early_begins_none p of_queue alike set s k b (v, put, (event, few, inr (e, empty))) cs h =
+    before_empty of_queue (k.run.0 ++ b ∷ cs) (joined p alike set s k (b ∷ cs) h) event k.run.0 cs b set refl k.run.2 v e put empty few
 
--- ---- rows
-
-pub row_added : (calls : List (ProblemCall Op Reply)) (rows new : List ItemRow) (row : ItemRow) → new ≡ rows ++ row ∷ [] → AreItemRows calls rows → IsItemRow calls row → AreItemRows calls new
-row_added calls rows new row e each is = subst (λ (l : List ItemRow). AreItemRows calls l) (sym e) (go rows each)
-  where
-    go : (rows : List ItemRow) → AreItemRows calls rows → AreItemRows calls (rows ++ row ∷ [])
-    go [] each zero x f = (let same : row ≡ x = cc in subst (λ (y : ItemRow). IsItemRow calls y) same is)
-    go [] each (suc i) x f = absurd (cc)
-    go (y ∷ ys) each zero x f = each zero x f
-    go (y ∷ ys) each (suc i) x f = go ys (λ j z g. each (suc j) z g) i x f
-
--- what the counts of two rows say
-pub early_is : (calls : List (ProblemCall Op Reply)) (set : List Bool) (own other : ItemRow) (mine others : List ℕ) (event takers lifted lifted_others taken : ℕ) → IsItemRow calls own → IsItemRow calls other → mine ≡ own.calls.items → others ≡ other.calls.items
-    → takers ≡ takers_by calls own.item event mine → lifted ≡ lifted_puts calls set own.item mine → lifted_others ≡ lifted_puts calls set other.item others → taken ≡ taken_by calls other.item event others → takers ≤ lifted → lifted_others < taken → IsTooEarly calls set own.item
-early_is calls set own other mine others event takers lifted lifted_others taken row row' is is' a b c d few lack =
-    let m : mine ≡ calls_on own.item 0 calls = is ∙ row in
-    let n : others ≡ calls_on other.item 0 calls = is' ∙ row' in
-    let a' = a ∙ ap (λ (l : List ℕ). takers_by calls own.item event l) m in
-    let b' = b ∙ ap (λ (l : List ℕ). lifted_puts calls set own.item l) m in
-    let c' = c ∙ ap (λ (l : List ℕ). lifted_puts calls set other.item l) n in
-    let d' = d ∙ ap (λ (l : List ℕ). taken_by calls other.item event l) n in
-    (event, omega (arith, a', b', few), (other.item, omega (arith, c', d', lack)))
+-- where too few enqueues of an item were called there is no linearization
+pub lacks_no_order : (p : Problem ObjState Op Reply) → IsOfQueue p [] → LacksEnqueues p.calls → (l : List ℕ) → IsLinearization p l → ⊥
+lacks_no_order p of_queue (v, (event, less)) l whole = lacks_none of_queue l whole event v less

@@ -1,10 +1,10 @@
 -- How often an item went in and came out by an event, of items of a queue that repeat (this project's own).
-use Rattle.std.specs.Prelude.{◌≡◌, ℕ, ◌+◌, ◌<◌, ◌≤◌, ℤ, Bool, true, false, ◌&&◌, Option, Some, None, List, [], ◌∷◌, slice_get, nat_le, if◌then◌else◌}
+use Rattle.std.specs.Prelude.{◌≡◌, ℕ, ◌+◌, ◌<◌, ◌≤◌, ℤ, Bool, true, false, ◌&&◌, Option, Some, None, List, [], ◌∷◌, ◌⊎◌, slice_get, nat_le, if◌then◌else◌}
 use Rattle.std.specs.Ordering.{int_eq}
 use Rattle.lin_object.specs.declared.op.Op.{Op}
 use Rattle.lin_object.specs.declared.op.Op.TheVariants.{Enqueue, Dequeue}
 use Rattle.lin_object.specs.declared.reply.Reply.{Reply}
-use Rattle.lin_object.specs.declared.reply.Reply.TheVariants.{Int}
+use Rattle.lin_object.specs.declared.reply.Reply.TheVariants.{Int, Empty}
 use Rattle.lin_history.specs.declared.problems.problem.ProblemCall.{ProblemCall}
 use Rattle.lin_object.specs.declared.state.ObjState.{ObjState}
 use Rattle.lin_history.specs.Problems.Problem.{Problem}
@@ -41,6 +41,11 @@ abbrev pub put_at : ℤ → Option (ProblemCall Op Reply) → Bool
 put_at v None = false
 put_at v (Some c) = puts_it v c.op
 
+-- The call puts the item in, and was called at this event or before.
+abbrev pub put_by : ℤ → ℕ → Option (ProblemCall Op Reply) → Bool
+put_by v event None = false
+put_by v event (Some c) = puts_it v c.op && nat_le c.called event
+
 -- The call may take the item, and was called at this event or before.
 abbrev pub taker_at : ℤ → ℕ → Option (ProblemCall Op Reply) → Bool
 taker_at v event None = false
@@ -71,11 +76,30 @@ takers_by calls v event ds = how_many (λ d. taker_at v event (slice_get calls d
 abbrev pub taken_by : List (ProblemCall Op Reply) → ℤ → ℕ → List ℕ → ℕ
 taken_by calls v event ds = how_many (λ d. taken_at v event (slice_get calls d)) ds
 
--- An enqueue of the item made next comes out too early: by some event no more calls that may take the item were called than
--- enqueues of it are in the set, and more calls returned with another item than enqueues of that one are in the set.
+-- How many of these calls put the item in and were called by the event.
+abbrev pub called_puts : List (ProblemCall Op Reply) → ℤ → ℕ → List ℕ → ℕ
+called_puts calls v event ds = how_many (λ d. put_by v event (slice_get calls d)) ds
+
+-- By some event more calls returned with an item than enqueues of it were called.
+abbrev pub LacksEnqueues : List (ProblemCall Op Reply) → Type 0
+LacksEnqueues calls = (v : ℤ) × ((event : ℕ) × (called_puts calls v event (calls_on v 0 calls) < taken_by calls v event (calls_on v 0 calls)))
+
+-- The call, which the set lacks, found the queue empty and returned at this event or before.
+abbrev pub FoundEmptyBy : List (ProblemCall Op Reply) → List Bool → ℕ → ℕ → Type 0
+FoundEmptyBy calls set event e = (has set e ≡ false) × ((x : ProblemCall Op Reply) × (slice_get calls e ≡ Some x) × (x.op ≡ Dequeue)
+    × ((n : ℕ) × (x.returned ≡ Some (n, Empty)) × (n ≤ event)))
+
+-- By the event what lies in the queue was out, and what is put in next: more calls returned with an item by then than enqueues of it
+-- are in the set, or a call that the set lacks found the queue empty.
+abbrev pub IsOutBy : List (ProblemCall Op Reply) → List Bool → ℕ → Type 0
+IsOutBy calls set event =
+    ((w : ℤ) × (lifted_puts calls set w (calls_on w 0 calls) < taken_by calls w event (calls_on w 0 calls)))
+    ⊎ ((e : ℕ) × FoundEmptyBy calls set event e)
+
+-- An enqueue of the item made next comes out too early: by some such event no more calls that may take the item were called than
+-- enqueues of it are in the set.
 abbrev pub IsTooEarly : List (ProblemCall Op Reply) → List Bool → ℤ → Type 0
-IsTooEarly calls set v = (event : ℕ) × (takers_by calls v event (calls_on v 0 calls) ≤ lifted_puts calls set v (calls_on v 0 calls))
-    × ((w : ℤ) × (lifted_puts calls set w (calls_on w 0 calls) < taken_by calls w event (calls_on w 0 calls)))
+IsTooEarly calls set v = (event : ℕ) × (takers_by calls v event (calls_on v 0 calls) ≤ lifted_puts calls set v (calls_on v 0 calls)) × IsOutBy calls set event
 
 -- The call is such an enqueue.
 abbrev pub ComesTooEarly : Problem ObjState Op Reply → List Bool → ℕ → Type 0

@@ -56,6 +56,11 @@ impl CallsInTurn {
         }
     }
 
+    // The place of the first that is not lifted.
+    pub(crate) fn first(&self) -> usize {
+        self.first
+    }
+
     // The call that is so many behind the first that is not lifted.
     pub(crate) fn ahead(&self, count: usize) -> Option<usize> {
         self.order.get(self.first.saturating_add(count)).copied()

@@ -71,8 +71,8 @@ pub(crate) fn putter_flags(alloc: Global, late: &LateRows) -> Result<Vec<bool>, 
     Ok(flags)
 }
 
-// How often 16,384 calls can be halved, and once more.
-const HALVES: usize = 15;
+/// How often 16,384 calls can be halved, and once more.
+pub(crate) const HALVES: usize = 15;
 
 // How many of the calls returned before the event.
 fn returned_before(returned: &[Returned], event: u64) -> usize {

@@ -1,7 +1,8 @@
 //! The rules of a first search of a queue: needs, enqueues that are too late or too early, replies that are owed, and takers.
-ghost use Rattle.std.specs.Prelude.{◌≡◌, IfOk, IsTrue};
+ghost use Rattle.std.specs.Prelude.{◌≡◌, ℕ, List, IfOk, IsTrue};
 ghost use Rattle.lin_history.specs.Problems.AnyProblem.{any_problem};
 ghost use Rattle.lin_history.specs.Problems.Configurations.{IsReachable};
+ghost use Rattle.lin_history.specs.Problems.Linearizations.{IsLinearization};
 ghost use Rattle.lin_ahead.specs.Behind.{IsRightOfQueue};
 ghost use Rattle.lin_ahead.specs.First.FirstProgress.{BeginsNone};
 ghost use Rattle.lin_ahead.specs.Queues.Slots.{AreItemRows};
@@ -9,13 +10,16 @@ ghost use Rattle.lin_ahead.specs.Queues.Slots.{AreItemRows};
 use crate::first::calls_in_turn::CallsInTurn;
 use crate::first::needed_calls::needed_in_turn;
 use crate::first::rules::Rules;
-use crate::items::late_hints::LateHints;
+use crate::items::late_hints::{LateHints, returned_at};
 use crate::items::late_pushes::comes_too_late;
 use crate::items::owed_replies::OwedReplies;
 use crate::items::taker_hints::TakerHints;
 use crate::items::takers::After;
 use crate::queues::early_enqueues::comes_too_early;
+use crate::queues::hurried_enqueues::{Lying, comes_hurried, listed};
+use crate::queues::inner_takers::InnerHints;
 use crate::queues::item_rows::{ItemRow, item_rows};
+use crate::queues::lacking_enqueues::lacks_enqueues;
 use crate::queues::needs::left_out;
 use crate::queues::rows::QueueAhead;
 use crate::queues::slots::{SlotHints, items_in_rows};
@@ -37,6 +41,7 @@ pub(crate) struct QueueRules<'a> {
     takers: TakerHints,
     rows: Vec<ItemRow>,
     slots: SlotHints,
+    inner: InnerHints,
 }
 
 impl<'a> QueueRules<'a> {
@@ -52,13 +57,15 @@ impl<'a> QueueRules<'a> {
         let calls = problem.calls();
         let items = items_in_rows(alloc, calls.len(), &ahead.items)?;
         let rows = item_rows(alloc, calls, items.as_slice())?;
+        let slots = SlotHints::new(alloc, calls, rows.as_slice())?;
         Ok(QueueRules {
             ahead,
             needed: needed_in_turn(alloc, &ahead.needs)?,
             owed: OwedReplies::new(alloc, ahead.items.owed.as_slice())?,
             late: LateHints::new(alloc, problem, &ahead.late)?,
             takers: TakerHints::of_queue(alloc, problem.calls(), &ahead.items, ahead.needs.by())?,
-            slots: SlotHints::new(alloc, calls, rows.as_slice())?,
+            inner: InnerHints::new(alloc, calls, rows.as_slice(), &slots)?,
+            slots,
             rows,
         })
     }
@@ -78,13 +85,68 @@ impl<'a> QueueRules<'a> {
             config.now.state call }
     {
         lawful::<AnyObject>();
-        comes_too_early(
+        let Some(own) = self.slots.row_of(call) else {
+            return false;
+        };
+        let empty = match self.late.first_empty() {
+            Some(call) => Some((call, returned_at(problem, call))),
+            None => None,
+        };
+        let Some(wait) = self.slots.wait(own, empty) else {
+            return false;
+        };
+        comes_too_early(problem.calls(), self.rows.as_slice(), wait, config, call)
+    }
+}
+
+impl<'a> QueueRules<'a> {
+    /// Whether it is known that more calls returned with an item by some event than enqueues of it were called: then there is no
+    /// linearization.
+    pub(crate) fn are_in_vain(&self, problem: &Problem<AnyObject>) -> bool
+        requires right { IsRightOfQueue (any_problem problem.now) self.now.ahead.now }
+        requires rows { AreItemRows problem.now.calls self.now.rows.items }
+        ensures { IsTrue result → (l : List ℕ) → IsLinearization (any_problem problem.now) l → ⊥ }
+    {
+        let Some(lack) = self.slots.lack() else {
+            return false;
+        };
+        lacks_enqueues(problem.calls(), self.rows.as_slice(), lack)
+    }
+
+    // Whether the call is known to be an enqueue of an item that repeats, which would have to be out too soon.
+    fn comes_hurried(
+        &self,
+        problem: &Problem<AnyObject>,
+        config: &Config<AnyObject>,
+        call: usize,
+    ) -> Result<bool, AllocError>
+        requires right { IsRightOfQueue (any_problem problem.now) self.now.ahead.now }
+        requires rows { AreItemRows problem.now.calls self.now.rows.items }
+        ensures { IfOk result (λ known. IsTrue known → BeginsNone (any_problem problem.now)
+            config.now.lifted config.now.state call) }
+    {
+        let Some(own) = self.slots.row_of(call) else {
+            return Ok(false);
+        };
+        let Some(hurry) = self.inner.hurry(&self.slots, config, own) else {
+            return Ok(false);
+        };
+        let ObjState::Queue(items) = config.state() else {
+            return Ok(false);
+        };
+        let list = listed(self.takers.alloc(), items)?;
+        let lying = Lying {
+            config,
+            items: list.as_slice(),
+        };
+        Ok(comes_hurried(
             problem.calls(),
             self.rows.as_slice(),
-            &self.slots,
-            config,
+            &lying,
+            own,
+            hurry,
             call,
-        )
+        ))
     }
 }
 
@@ -97,8 +159,8 @@ impl<'a> Rules<AnyObject> for QueueRules<'a> {
         self.takers.lifted(config, call)?;
         self.needed.lifted(config);
         self.owed.lifted(config);
-        self.slots.lifted(call);
-        Ok(())
+        self.inner.lifted(config, call);
+        self.slots.lifted(call)
     }
 
     fn unlifted(&mut self, call: usize) {
@@ -107,6 +169,7 @@ impl<'a> Rules<AnyObject> for QueueRules<'a> {
         self.late.unlifted(call);
         self.takers.unlifted(call);
         self.slots.unlifted(call);
+        self.inner.unlifted(call);
     }
 
     // It needs a call that is not lifted, is an enqueue that is too late or too early, or would take a reply that is owed to another.
@@ -123,7 +186,9 @@ impl<'a> Rules<AnyObject> for QueueRules<'a> {
         if comes_too_late(problem, &self.ahead.late, &self.late, None, config, call) {
             return Ok(true);
         }
-        if self.comes_too_early(problem, config, call) {
+        if self.comes_too_early(problem, config, call)
+            || self.comes_hurried(problem, config, call)?
+        {
             return Ok(true);
         }
         let owed = self.ahead.items.owed.as_slice();

@@ -3,10 +3,12 @@
 
 use crate::items::calls::{item_put, item_taken};
 use crate::items::item_calls::BEYOND;
+use crate::items::late_hints::HALVES;
 use crate::items::rows::ItemsAhead;
 use crate::queues::item_rows::ItemRow;
 use lin_history::ProblemCall;
-use lin_object::{Op, Reply};
+use lin_object::{AnyObject, Op, Reply};
+use lin_search::Config;
 use std::alloc::{AllocError, Global};
 
 // At most so many calls are walked over in all, as the row of each item is made by a walk over all of them: it takes less than a tenth of
@@ -16,21 +18,43 @@ const MOST_STEPS: usize = 1 << 24;
 // At most so many, where rows are made of items too that go in once: it takes some milliseconds, and is enough for 256 items of 4,096 calls.
 const FEW_STEPS: usize = 1 << 20;
 
-// By the event more calls returned with the row's item than the rank says.
+// So many calls of a row that return after a slot are looked at for such as are lifted already.
+const LATER_IN_SIGHT: usize = 2;
+
+// By the event, at which the call returned, more calls returned with the row's item than the rank says.
 #[derive(Clone, Copy)]
 struct Slot {
     event: u64,
+    call: usize,
     row: usize,
     rank: usize,
 }
 
-/// What an enqueue has to wait for: by the event more of the other row's item were out than are in yet.
+/// Why all that lies in the queue was out by an event, and what goes in next.
+#[derive(Clone, Copy)]
+pub(crate) enum Reason {
+    /// More of the row's item were out than are in yet.
+    Taken(usize),
+    /// The call found the queue empty.
+    FoundEmpty(usize),
+}
+
+/// What an enqueue has to wait for.
 #[derive(Clone, Copy)]
 pub(crate) struct Wait {
     /// The row of what the enqueue puts in.
     pub own: usize,
-    /// The row of what must go in first.
-    pub other: usize,
+    /// By which event it would have to be out.
+    pub event: u64,
+    /// Why.
+    pub reason: Reason,
+}
+
+/// By the event more calls returned with the row's item than enqueues of it were called.
+#[derive(Clone, Copy)]
+pub(crate) struct Lack {
+    /// The row.
+    pub row: usize,
     /// The event.
     pub event: u64,
 }
@@ -43,11 +67,14 @@ pub(crate) struct SlotHints {
     places: Vec<Vec<usize>>,
     // Of each row, when those were called that may take its item.
     called: Vec<Vec<u64>>,
-    // Of each row, how many of its enqueues are lifted.
-    lifted: Vec<usize>,
+    // Of each row, the places of its enqueues that are lifted among all those of rows.
+    puts: Vec<Vec<usize>>,
+    // How many enqueues of rows are lifted.
+    lifted: usize,
     // Of each call that puts an item in, the row.
     rows: Vec<Option<usize>>,
     first: usize,
+    lack: Option<Lack>,
 }
 
 /// The items of which rows are made. Where some go in more than once these are all items, or those alone if rows of all would take
@@ -87,6 +114,35 @@ fn called_of(
     Ok(called)
 }
 
+// When the enqueues of the row were called.
+fn put_events(
+    alloc: Global,
+    calls: &[ProblemCall<Op, Reply>],
+    row: &ItemRow,
+) -> Result<Vec<u64>, AllocError> {
+    let mut events = Vec::new(alloc);
+    for call in row.calls.as_slice() {
+        if *call < calls.len() && item_put(calls, *call).is_some() {
+            events.push(u64::from(calls[*call].called))?;
+        }
+    }
+    Ok(events)
+}
+
+// The first of these slots by which too few enqueues were called that were called at these events.
+fn first_lack(slots: &[Slot], puts: &[u64]) -> Option<Lack> {
+    for slot in slots {
+        let called = puts.get(slot.rank).copied().unwrap_or(BEYOND);
+        if slot.event < called {
+            return Some(Lack {
+                row: slot.row,
+                event: slot.event,
+            });
+        }
+    }
+    None
+}
+
 // Puts the slots of a row to the others.
 fn add_slots(
     slots: &mut Vec<Slot>,
@@ -99,14 +155,15 @@ fn add_slots(
     for call in concerned {
         if item_taken(calls, *call).is_some() && *call < calls.len() {
             if let Some((number, _)) = &calls[*call].returned {
-                events.push(u64::from(*number))?;
+                events.push((u64::from(*number), *call))?;
             }
         }
     }
-    events.sort_by_key(|event| *event)?;
+    events.sort_by_key(|one| one.0)?;
     for rank in 0..events.len() {
         slots.push(Slot {
-            event: events[rank],
+            event: events[rank].0,
+            call: events[rank].1,
             row,
             rank,
         })?;
@@ -114,12 +171,18 @@ fn add_slots(
     Ok(())
 }
 
-// Of each of so many rows, the places of its slots.
-fn places_of(alloc: Global, slots: &[Slot], rows: usize) -> Result<Vec<Vec<usize>>, AllocError> {
+// No places of each of so many rows.
+fn no_places(alloc: Global, rows: usize) -> Result<Vec<Vec<usize>>, AllocError> {
     let mut places = Vec::new(alloc);
     for _ in 0..rows {
         places.push(Vec::new(alloc))?;
     }
+    Ok(places)
+}
+
+// Of each of so many rows, the places of its slots.
+fn places_of(alloc: Global, slots: &[Slot], rows: usize) -> Result<Vec<Vec<usize>>, AllocError> {
+    let mut places = no_places(alloc, rows)?;
     for place in 0..slots.len() {
         if let Some(row) = places.get_mut(slots[place].row) {
             row.push(place)?;
@@ -159,49 +222,65 @@ impl SlotHints {
     ) -> Result<Self, AllocError> {
         let mut slots = Vec::new(alloc);
         let mut called = Vec::new(alloc);
+        let mut lack = None;
         for row in 0..rows.len() {
+            let before = slots.len();
             add_slots(&mut slots, alloc, calls, row, rows[row].calls.as_slice())?;
             called.push(called_of(alloc, calls, &rows[row])?)?;
+            if before < slots.len() && lack.is_none() {
+                let puts = put_events(alloc, calls, &rows[row])?;
+                let (_, own) = slots.as_slice().split_at(before);
+                lack = first_lack(own, puts.as_slice());
+            }
         }
         slots.sort_by_key(|slot| slot.event)?;
         Ok(SlotHints {
             places: places_of(alloc, slots.as_slice(), rows.len())?,
             called,
-            lifted: vec![in alloc; 0; rows.len()]?,
+            puts: no_places(alloc, rows.len())?,
+            lifted: 0,
             rows: rows_of(alloc, calls, rows)?,
             slots,
             first: 0,
+            lack,
         })
     }
 
-    // The row of what the call puts in.
-    fn row_of(&self, call: usize) -> Option<usize> {
+    /// The row of which too few enqueues were called by an event, where there is one.
+    pub(crate) fn lack(&self) -> Option<Lack> {
+        self.lack
+    }
+
+    /// The row of what the call puts in.
+    pub(crate) fn row_of(&self, call: usize) -> Option<usize> {
         *self.rows.get(call)?
     }
 
     // Whether enough enqueues of its item are lifted for the slot.
     fn is_full(&self, slot: Slot) -> bool {
-        match self.lifted.get(slot.row) {
-            Some(lifted) => slot.rank < *lifted,
+        match self.puts.get(slot.row) {
+            Some(puts) => slot.rank < puts.len(),
             None => true,
         }
     }
 
     /// Goes on after the call, which is lifted now.
-    pub(crate) fn lifted(&mut self, call: usize) {
+    pub(crate) fn lifted(&mut self, call: usize) -> Result<(), AllocError> {
         let Some(row) = self.row_of(call) else {
-            return;
+            return Ok(());
         };
-        if let Some(lifted) = self.lifted.get_mut(row) {
-            *lifted = lifted.saturating_add(1);
+        if let Some(puts) = self.puts.get_mut(row) {
+            puts.push(self.lifted)?;
+            self.lifted = self.lifted.saturating_add(1);
         }
         for place in self.first..self.slots.len() {
             if !self.is_full(self.slots[place]) {
                 self.first = place;
-                return;
+                return Ok(());
             }
         }
         self.first = self.slots.len();
+        Ok(())
     }
 
     /// Goes back to before the call, which was taken out again.
@@ -210,9 +289,10 @@ impl SlotHints {
             return;
         };
         let mut rank = 0;
-        if let Some(lifted) = self.lifted.get_mut(row) {
-            rank = lifted.saturating_sub(1);
-            *lifted = rank;
+        if let Some(puts) = self.puts.get_mut(row) {
+            puts.pop();
+            rank = puts.len();
+            self.lifted = self.lifted.saturating_sub(1);
         }
         if let Some(places) = self.places.get(row) {
             if let Some(place) = places.get(rank) {
@@ -221,25 +301,87 @@ impl SlotHints {
         }
     }
 
-    // When the call was called that is the first which may take what goes in next by the row; beyond all events, where there is none.
-    fn next_taken(&self, row: usize) -> Option<u64> {
-        let rank = *self.lifted.get(row)?;
+    /// When the call was called that is the first which may take what goes in next by the row; beyond all events, where there is none.
+    pub(crate) fn next_taken(&self, row: usize) -> Option<u64> {
+        let rank = self.puts.get(row)?.len();
         let called = self.called.get(row)?;
         Some(called.get(rank).copied().unwrap_or(BEYOND))
     }
 
-    /// For what the call has to wait, where it has.
-    pub(crate) fn wait(&self, call: usize) -> Option<Wait> {
-        let own = self.row_of(call)?;
-        let slot = self.slots.get(self.first)?;
-        if slot.event < self.next_taken(own)? {
+    /// Why an enqueue of the row has to wait, where it has: by the first slot, or by this call, which found the queue empty and
+    /// returned at the event.
+    pub(crate) fn wait(&self, own: usize, empty: Option<(usize, u64)>) -> Option<Wait> {
+        let by = self.next_taken(own)?;
+        if let Some(slot) = self.slots.get(self.first) {
+            if slot.event < by {
+                return Some(Wait {
+                    own,
+                    event: slot.event,
+                    reason: Reason::Taken(slot.row),
+                });
+            }
+        }
+        let (call, event) = empty?;
+        if event < by {
             Some(Wait {
                 own,
-                other: slot.row,
-                event: slot.event,
+                event,
+                reason: Reason::FoundEmpty(call),
             })
         } else {
             None
         }
+    }
+
+    /// The places of the row's enqueues that are lifted among all those of rows.
+    pub(crate) fn puts(&self, row: usize) -> Option<&[usize]> {
+        Some(self.puts.get(row)?.as_slice())
+    }
+
+    /// How many slots are before the event.
+    pub(crate) fn slots_before(&self, event: u64) -> usize {
+        let mut low = 0;
+        let mut high = self.slots.len();
+        for _ in 0..HALVES {
+            let half = low / 2 + high / 2;
+            match self.slots.get(half) {
+                Some(slot) if low < high && slot.event < event => low = half.saturating_add(1),
+                _ => high = half,
+            }
+        }
+        low
+    }
+
+    // The place among the enqueues of what is out by the slot: of one more for each call of the row that is lifted and returns later.
+    fn out_by(&self, slot: Slot, config: &Config<AnyObject>) -> Option<usize> {
+        let places = self.places.get(slot.row)?;
+        let mut rank = slot.rank;
+        for later in 1..=LATER_IN_SIGHT {
+            let Some(place) = places.get(slot.rank.saturating_add(later)) else {
+                break;
+            };
+            if config.has(self.slots.get(*place)?.call) {
+                rank = rank.saturating_add(1);
+            }
+        }
+        self.puts.get(slot.row)?.get(rank).copied()
+    }
+
+    /// The row of a slot before the place, one of so many, by which what was put in at this place is out.
+    pub(crate) fn row_out_before(
+        &self,
+        config: &Config<AnyObject>,
+        before: usize,
+        sight: usize,
+        put: usize,
+    ) -> Option<usize> {
+        for count in 0..sight {
+            let slot = *self.slots.get(before.checked_sub(count + 1)?)?;
+            match self.out_by(slot, config) {
+                Some(place) if place < put => {}
+                _ => return Some(slot.row),
+            }
+        }
+        None
     }
 }

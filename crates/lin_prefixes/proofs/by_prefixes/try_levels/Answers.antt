@@ -1,8 +1,8 @@
-use Rattle.std.proofs.Common.{ℕ, [], subst, arith, inl, inr}
+use Rattle.std.proofs.Common.{ℕ, subst, arith, inl, inr}
 use Rattle.lin_history.specs.Problems.Problem.{problem_of}
 use Rattle.lin_prefixes.specs.Prefixes.{IsRunLacking}
 use Rattle.lin_prefixes.proofs.BeatenLemmas.{beaten_itself, beaten_chain}
-use Rattle.lin_prefixes.proofs.LackLemmas.{tried_enough}
+use Rattle.lin_prefixes.proofs.SplitLemmas.{tried_enough}
 use Rattle.lin_parts.specs.ListLemmas.{last_or}
 use Rattle.lin_prefixes.proofs.by_prefixes.try_levels.Goals as goal
 
@@ -19,7 +19,7 @@ returns-then-lacking-gt-MOST_LACKING-clause-better g c = c.loop-lacking.invarian
 
 pub returns-then-not-may_be_best-clause-known : goal.returns-then-not-may_be_best-clause-known
 returns-then-not-may_be_best-clause-known g c =
-    λ yes r w. tried_enough (problem_of g.O.SeqObject.after g.O.State.PartialEq.eq g.O.Reply.PartialEq.eq c.args.problem.now) c.args.cut.call c.args.cut.open_calls.now c.loop-lacking.best c.loop-lacking.lacking c.requires.open c.loop-lacking.invariant.tried (inr (c.may_be_best.ensures c.if-not-may_be_best.true)) r w
+    λ yes r w. tried_enough (problem_of g.O.SeqObject.after g.O.State.PartialEq.eq g.O.Reply.PartialEq.eq c.args.problem.now) c.args.cut.call c.args.cut.spared.now c.args.cut.others.now c.loop-lacking.best c.requires.split c.loop-lacking.lacking c.loop-lacking.invariant.tried (inr (c.may_be_best.ensures c.if-not-may_be_best.true)) r w
 
 pub returns-then-not-branch-clause-better : goal.returns-then-not-branch-clause-better
 returns-then-not-branch-clause-better g c = beaten_chain c.try_open.new.best c.loop-lacking.best c.args.best.now c.in_ok-try_open.ensures.better c.loop-lacking.invariant.better
@@ -31,10 +31,10 @@ loop-lacking-preserved g c = record {
   conflicts = c.in_ok-try_open.ensures.conflicts;
   tried = λ d h r w. elim (last_or d c.loop-lacking.lacking h) [
     | inl less ↦ beaten_chain c.try_open.new.best c.loop-lacking.best r c.in_ok-try_open.ensures.better (c.loop-lacking.invariant.tried d less r w)
-    | inr same ↦ c.in_ok-try_open.ensures.known c.if-not-branch.false r (subst (λ (x : ℕ). IsRunLacking (problem_of g.O.SeqObject.after g.O.State.PartialEq.eq g.O.Reply.PartialEq.eq c.args.problem.now) c.args.cut.call [] c.args.cut.open_calls.now x r) same w)
+    | inr same ↦ c.in_ok-try_open.ensures.known c.if-not-branch.false r (subst (λ (x : ℕ). IsRunLacking (problem_of g.O.SeqObject.after g.O.State.PartialEq.eq g.O.Reply.PartialEq.eq c.args.problem.now) c.args.cut.call c.args.cut.spared.now c.args.cut.others.now x r) same w)
   ];
 }
 
 pub returns-clause-known : goal.returns-clause-known
 returns-clause-known g c =
-    λ yes r w. tried_enough (problem_of g.O.SeqObject.after g.O.State.PartialEq.eq g.O.Reply.PartialEq.eq c.args.problem.now) c.args.cut.call c.args.cut.open_calls.now c.loop-lacking.best c.loop-lacking.lacking c.requires.open c.loop-lacking.invariant.tried (inl (let a = c.loop-lacking-test.false in omega (arith, a))) r w
+    λ yes r w. tried_enough (problem_of g.O.SeqObject.after g.O.State.PartialEq.eq g.O.Reply.PartialEq.eq c.args.problem.now) c.args.cut.call c.args.cut.spared.now c.args.cut.others.now c.loop-lacking.best c.requires.split c.loop-lacking.lacking c.loop-lacking.invariant.tried (inl (let a = c.loop-lacking-test.false in omega (arith, a))) r w

@@ -8,11 +8,11 @@ pub loop-c-preserved : goal.loop-c-preserved
 loop-c-preserved g c = elim c.if-is_in_no_run.branch [
   | then-is_in_no_run w ↦ rw w.least-is (record {
     few = (let a = c.loop-c.invariant.few in omega (arith, a));
-    lacks = λ r d run l. lacks_single (problem_of g.O.SeqObject.after g.O.State.PartialEq.eq g.O.Reply.PartialEq.eq c.args.problem.now) c.args.cut.call c.args.conflicts.now c.args.cut.open_calls.now c.loop-c.c-index (get_or c.args.cut.open_calls.now c.loop-c.c-index 0) c.loop-c.least d r c.requires (c.is_in_no_run.ensures w.if-is_in_no_run.true) c.loop-c-test.true refl run (c.loop-c.invariant.lacks r d run l);
+    lacks = λ r d run l. lacks_single (problem_of g.O.SeqObject.after g.O.State.PartialEq.eq g.O.Reply.PartialEq.eq c.args.problem.now) c.args.cut.call c.args.conflicts.now c.args.cut.others.now c.loop-c.c-index (get_or c.args.cut.others.now c.loop-c.c-index 0) c.loop-c.least d r c.requires (c.is_in_no_run.ensures w.if-is_in_no_run.true) c.loop-c-test.true refl run (c.loop-c.invariant.lacks r d run l);
   })
   | else-is_in_no_run w ↦ rw w.least-is (record {
     few = (let a = c.loop-c.invariant.few in omega (arith, a));
-    lacks = λ r d run l. lacks_other (problem_of g.O.SeqObject.after g.O.State.PartialEq.eq g.O.Reply.PartialEq.eq c.args.problem.now) c.args.cut.call c.args.cut.open_calls.now c.loop-c.c-index c.loop-c.least d r c.loop-c-test.true (c.loop-c.invariant.lacks r d run l);
+    lacks = λ r d run l. lacks_other (problem_of g.O.SeqObject.after g.O.State.PartialEq.eq g.O.Reply.PartialEq.eq c.args.problem.now) c.args.cut.call c.args.cut.others.now c.loop-c.c-index c.loop-c.least d r c.loop-c-test.true (c.loop-c.invariant.lacks r d run l);
   })
 ]
 

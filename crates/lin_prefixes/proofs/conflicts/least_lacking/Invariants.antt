@@ -7,6 +7,6 @@ use Rattle.lin_prefixes.proofs.conflicts.least_lacking.Given as goal
 abbrev pub invariant-loop-c : goal.invariant-loop-c
 invariant-loop-c g l = record {
   few : l.least ≤ l.c-index;
-  lacks : (r : List ℕ) (d : ℕ) → IsRunOf (problem_of g.O.SeqObject.after g.O.State.PartialEq.eq g.O.Reply.PartialEq.eq l.problem) l.cut.call r → Lacks r l.cut.open_calls.now d
-      → (m : ℕ) × (l.least + m ≤ d) × Lacks r (drop l.c-index l.cut.open_calls.now) m;
+  lacks : (r : List ℕ) (d : ℕ) → IsRunOf (problem_of g.O.SeqObject.after g.O.State.PartialEq.eq g.O.Reply.PartialEq.eq l.problem) l.cut.call r → Lacks r l.cut.others.now d
+      → (m : ℕ) × (l.least + m ≤ d) × Lacks r (drop l.c-index l.cut.others.now) m;
 }

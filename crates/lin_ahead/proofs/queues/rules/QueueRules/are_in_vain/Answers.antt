@@ -1,0 +1,14 @@
+use Rattle.std.proofs.Common.{[], List, subst}
+use Rattle.lin_object.specs.declared.op.Op.{Op}
+use Rattle.lin_object.specs.declared.reply.Reply.{Reply}
+use Rattle.lin_history.specs.declared.problems.problem.ProblemCall.{ProblemCall}
+use Rattle.lin_history.specs.Problems.AnyProblem.{any_problem}
+use Rattle.lin_ahead.specs.Queues.Slots.{LacksEnqueues}
+use Rattle.lin_ahead.proofs.queues.AnyLemmas.{of_any}
+use Rattle.lin_ahead.proofs.queues.SlotLemmas.{lacks_no_order}
+use Rattle.lin_ahead.proofs.queues.rules.QueueRules.are_in_vain.Goals as goal
+
+pub returns : goal.returns
+returns c = λ found.
+    lacks_no_order (any_problem c.args.problem.now) (of_any c.args.problem.now [] c.requires.right.start)
+    (subst (λ (calls : List (ProblemCall Op Reply)). LacksEnqueues calls) c.calls.ensures.calls (c.lacks_enqueues.ensures found))

@@ -1,0 +1,211 @@
+//! Enqueues of items that repeat whose item would have to be out by an event by which too few calls that may take it were called.
+
+ghost use Rattle.std.specs.Prelude.{◌≡◌, ◌≤◌, slice_get, IfOk, IsTrue};
+ghost use Rattle.std.specs.Ordering.{int_eq};
+ghost use Rattle.lin_ahead.specs.Items.Takers.{queue_of, called_by, counted};
+ghost use Rattle.lin_ahead.specs.Queues.Slots.{calls_on, IsItemRow, AreItemRows};
+ghost use Rattle.lin_ahead.specs.Queues.Hurried.{times, times_until, left_taken, left_taken_after, left_takers, MoreAreOut, ComesHurried};
+
+use crate::items::calls::item_put;
+use crate::queues::early_enqueues::{is_taken_by, is_taker_by};
+use crate::queues::inner_takers::Hurry;
+use crate::queues::item_rows::ItemRow;
+use lin_history::ProblemCall;
+use lin_object::{AnyObject, Items, Op, Reply};
+use lin_search::Config;
+use std::alloc::{AllocError, Global};
+
+/// A configuration, and the items that lie in the queue there.
+#[derive(Clone, Copy, Drop)]
+pub(crate) struct Lying<'a> {
+    /// The configuration.
+    pub config: &'a Config<AnyObject>,
+    /// The items.
+    pub items: &'a [i64],
+}
+
+/// The items one behind another.
+pub(crate) fn listed(alloc: Global, items: &Items) -> Result<Vec<i64>, AllocError>
+    ensures { IfOk result (λ list. list.items ≡ items.now) }
+{
+    let mut list = Vec::new(alloc);
+    let mut rest = items.copy(alloc)?;
+    while let Some(item) = rest.first() {
+        list.push(item)?;
+        rest = rest.without_first(alloc)?;
+    }
+    Ok(list)
+}
+
+// How often the item is among these.
+fn count_times(item: i64, items: &[i64]) -> usize
+    ensures { result ≡ times item items.now }
+{
+    let mut count = 0;
+    for lying in items {
+        if item == *lying {
+            count += 1;
+        }
+    }
+    count
+}
+
+// One, where the items are equal.
+fn once(item: i64, other: i64) -> usize
+    ensures value { result ≡ counted (int_eq item other) 0 }
+    ensures few { result ≤ 1 }
+{
+    if item == other { 1 } else { 0 }
+}
+
+// How often the item is among these until so many of the other came.
+fn count_times_until(item: i64, other: i64, until: usize, items: &[i64]) -> usize
+    ensures { result ≡ times_until item other until items.now }
+{
+    let mut count = 0;
+    let mut left = until;
+    for lying in items {
+        if left == 0 {
+            return count;
+        }
+        count += once(item, *lying);
+        left -= once(other, *lying);
+    }
+    count
+}
+
+// Whether the call was called by this event.
+fn is_called_by(calls: &[ProblemCall<Op, Reply>], event: u64, call: usize) -> bool
+    ensures { result ≡ called_by event (slice_get calls.now call) }
+{
+    call < calls.len() && u64::from(calls[call].called) <= event
+}
+
+// How many of the calls are not lifted that were called and returned with the item by this event.
+fn count_left_taken(
+    calls: &[ProblemCall<Op, Reply>],
+    config: &Config<AnyObject>,
+    item: i64,
+    event: u64,
+    these: &[usize],
+) -> usize
+    ensures { result ≡ left_taken calls.now config.now.lifted item event these.now }
+{
+    let mut count = 0;
+    for call in these {
+        if !config.has(*call) && is_taken_by(calls, item, event, *call) {
+            count += 1;
+        }
+    }
+    count
+}
+
+// How many of them were called after another event.
+fn count_left_taken_after(
+    calls: &[ProblemCall<Op, Reply>],
+    config: &Config<AnyObject>,
+    item: i64,
+    since: u64,
+    event: u64,
+    these: &[usize],
+) -> usize
+    ensures { result ≡ left_taken_after calls.now config.now.lifted item since event these.now }
+{
+    let mut count = 0;
+    for call in these {
+        if !is_called_by(calls, since, *call)
+            && !config.has(*call)
+            && is_taken_by(calls, item, event, *call)
+        {
+            count += 1;
+        }
+    }
+    count
+}
+
+// How many of the calls are not lifted that may take the item and were called by this event.
+fn count_left_takers(
+    calls: &[ProblemCall<Op, Reply>],
+    config: &Config<AnyObject>,
+    item: i64,
+    event: u64,
+    these: &[usize],
+) -> usize
+    ensures { result ≡ left_takers calls.now config.now.lifted item event these.now }
+{
+    let mut count = 0;
+    for call in these {
+        if !config.has(*call) && is_taker_by(calls, item, event, *call) {
+            count += 1;
+        }
+    }
+    count
+}
+
+// Whether by the event more of the row's item must be out than lie in the queue, as what lies in front is out by an earlier one.
+fn are_more_out(
+    calls: &[ProblemCall<Op, Reply>],
+    lying: &Lying,
+    first: &ItemRow,
+    row: &ItemRow,
+    since: u64,
+    event: u64,
+) -> bool
+    requires first { IsItemRow calls.now first.now }
+    requires row { IsItemRow calls.now row.now }
+    ensures { IsTrue result → MoreAreOut calls.now lying.now.config.now.lifted
+        lying.now.items.now event }
+{
+    let config = lying.config;
+    let out = count_left_taken(calls, config, first.item, since, first.calls.as_slice());
+    let in_front = count_times_until(row.item, first.item, out, lying.items);
+    let more = count_left_taken_after(calls, config, row.item, since, event, row.calls.as_slice());
+    since <= event && count_times(row.item, lying.items) < in_front.saturating_add(more)
+}
+
+// Whether no more calls that are left and may take the row's item were called by the event than it lies in the queue.
+fn are_few_takers(
+    calls: &[ProblemCall<Op, Reply>],
+    lying: &Lying,
+    own: &ItemRow,
+    event: u64,
+) -> bool
+    requires { IsItemRow calls.now own.now }
+    ensures { IsTrue result → left_takers calls.now lying.now.config.now.lifted own.now.item
+        event (calls_on own.now.item 0 calls.now) ≤ times own.now.item lying.now.items.now }
+{
+    let takers = count_left_takers(calls, lying.config, own.item, event, own.calls.as_slice());
+    takers <= count_times(own.item, lying.items)
+}
+
+/// Whether it is known that the call is an enqueue of the row's item that hurries it. The hint says by which events and items.
+pub(crate) fn comes_hurried(
+    calls: &[ProblemCall<Op, Reply>],
+    rows: &[ItemRow],
+    lying: &Lying,
+    own: usize,
+    hurry: Hurry,
+    call: usize,
+) -> bool
+    requires { AreItemRows calls.now rows.now }
+    ensures { IsTrue result → ComesHurried (queue_of calls.now) lying.now.config.now.lifted
+        lying.now.items.now call }
+{
+    let Some(item) = item_put(calls, call) else {
+        return false;
+    };
+    if own >= rows.len() || hurry.row >= rows.len() || hurry.first_row >= rows.len() {
+        return false;
+    }
+    let row = &rows[own];
+    item == row.item
+        && are_few_takers(calls, lying, row, hurry.event)
+        && are_more_out(
+            calls,
+            lying,
+            &rows[hurry.first_row],
+            &rows[hurry.row],
+            hurry.since,
+            hurry.event,
+        )
+}
