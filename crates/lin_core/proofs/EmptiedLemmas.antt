@@ -1,5 +1,5 @@
 -- From a moment on at which each of the items was out the calls before it may be left out.
-use Rattle.std.proofs.Common.{◌≡◌, ℕ, ◌+◌, ◌<◌, ◌≤◌, Bool, true, false, cond, Option, Some, None, List, [], ◌∷◌, ◌++◌, length, ◌⊎◌, inl, inr, refl, sym, ◌∙◌, ap, subst, arith}
+use Rattle.std.proofs.Common.{◌≡◌, ℕ, ◌+◌, ◌<◌, ◌≤◌, Bool, true, false, Option, Some, None, List, [], ◌∷◌, ◌++◌, length, ◌⊎◌, inl, inr, refl, sym, ◌∙◌, ap, subst, arith}
 use Rattle.std.specs.Prelude.{ℤ, ◌==◌, ◌||◌, IsSomeAnd, nat_eq, slice_index, slice_index_or}
 use Rattle.std.specs.Ordering.{int_eq}
 use Rattle.std.specs.Cmp.{signed_Decides}
@@ -34,13 +34,13 @@ use Rattle.lin_ahead.specs.Queues.Slots.{how_many}
 use Rattle.lin_parts.specs.Parts.{name}
 use Rattle.lin_parts.specs.PartLemmas.{three}
 use Rattle.lin_core.specs.Cuts.{call_by, AreCut}
-use Rattle.lin_core.specs.Laws.{IsLeft, IsOn, IsOff}
+use Rattle.lin_core.specs.Laws.{IsLeft, IsOff}
 use Rattle.lin_core.specs.OnValues.{among, IsOnValues}
-use Rattle.lin_core.specs.Emptied.{puts, is_item, gave, took, puts_at, took_at, count_puts, count_takes, is_even, HoldsNothing, AreEnoughOnceOut}
+use Rattle.lin_core.specs.Emptied.{puts, is_item, took, puts_at, took_at, count_puts, count_takes, is_even, HoldsNothing, AreEnoughOnceOut}
 use Rattle.lin_core.proofs.CheckLemmas.{below, each_more}
 use Rattle.lin_core.proofs.CutLemmas.{Comes, left_by, in_or_not}
 use Rattle.lin_core.proofs.OnValues.{fits_then, is_among, is_other, clash, both}
-use Rattle.lin_core.proofs.LawLemmas.{any_stays, any_goes, fitting}
+use Rattle.lin_core.proofs.LawLemmas.{any_stays, any_goes}
 
 -- ---- how many calls of a list are so
 

@@ -1,4 +1,4 @@
-use Rattle.std.proofs.Common.{◌≡◌, ℕ, ◌≤◌, ◌⊎◌, inl, inr, refl, arith, sym, ◌∙◌}
+use Rattle.std.proofs.Common.{inl, inr, refl, arith, sym, ◌∙◌}
 use Rattle.lin_parts.specs.ListLemmas.{rising_more, rising_distinct, in_more}
 use Rattle.lin_core.proofs.CheckLemmas.{below}
 use Rattle.lin_core.proofs.EmptiedLemmas.{others_more, others_still}
