@@ -878,7 +878,7 @@ FAMILIES = {
     },
     **{
         f"queue_repeated_{values}": Family(f"a queue of {values} items that repeat, filled to 20 and emptied, 6 processes", "calls", BACKLOG_CALLS, 0, repeated(values))
-        for values in (10, 100)
+        for values in (10, 100, 10_000)
     },
     **{
         f"stopped_{stops}": Family(
