@@ -1,6 +1,6 @@
 -- The next unlock of each process, from the last call to the first.
 use Rattle.std.specs.Prelude.{slice_index_or, unwrap_or}
-use Rattle.std.proofs.Common.{◌≡◌, ◌≢◌, ℕ, ◌+◌, ◌<◌, ◌≤◌, Bool, true, false, Option, Some, None, List, length, set, get_or, replicate, ◌⊎◌, inl, inr, refl, sym, ◌∙◌, ap, subst, true≢false, arith, get_or-set_other}
+use Rattle.std.proofs.Common.{◌≡◌, ◌≢◌, ℕ, ◌+◌, ◌<◌, ◌≤◌, Bool, true, false, Option, Some, None, List, length, set, ◌⊎◌, inl, inr, refl, sym, ◌∙◌, ap, subst, true≢false, arith, get_or-set_other}
 use Rattle.std.specs.List.{slice_get}
 use Rattle.std.proofs.lemmas.Bool.{cases_lt}
 use Rattle.std.proofs.lemmas.List.{get_or-set_same, get_or_past}

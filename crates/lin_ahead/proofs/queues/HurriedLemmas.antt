@@ -1,6 +1,6 @@
 -- An enqueue that hurries its item begins no completion: by the event more is out than lay in the queue, so its item is too.
-use Rattle.std.proofs.Common.{◌≡◌, ℕ, zero, suc, ◌+◌, ◌-◌, ◌<◌, ◌≤◌, Bool, true, false, Option, Some, None, List, [], ◌∷◌, ◌++◌, length, drop, ◌⊎◌, inl, inr, refl, sym, ◌∙◌, ap, subst, append_assoc, append-nil, arith}
-use Rattle.std.specs.Prelude.{ℤ, slice_get, nat_le, nat_eq, not, ◌&&◌, if◌then◌else◌}
+use Rattle.std.proofs.Common.{◌≡◌, ℕ, zero, suc, ◌+◌, ◌-◌, ◌<◌, ◌≤◌, Bool, true, false, Option, List, [], ◌∷◌, ◌++◌, length, drop, ◌⊎◌, inl, inr, refl, sym, ◌∙◌, ap, subst, append_assoc, append-nil, arith}
+use Rattle.std.specs.Prelude.{ℤ, slice_get, nat_le, nat_eq, not, ◌&&◌}
 use Rattle.std.specs.Ordering.{int_eq}
 use Rattle.std.proofs.lemmas.Bool.Decides.{eqb_tells, leb_tells}
 use Rattle.std.proofs.lemmas.List.{at_drop_more}
@@ -15,12 +15,11 @@ use Rattle.lin_history.specs.Problems.Problem.{Problem}
 use Rattle.lin_history.specs.Problems.Lists.{In, IsDistinct}
 use Rattle.lin_history.specs.Problems.ListLemmas.{distinct_early, in_early, in_either}
 use Rattle.lin_history.specs.Problems.LegalLists.{Legal}
-use Rattle.lin_history.specs.Problems.Precedence.{Before}
 use Rattle.lin_history.specs.Problems.Continuations.{has, IsCompletion}
 use Rattle.lin_ahead.specs.First.FirstProgress.{BeginsNone}
 use Rattle.lin_ahead.specs.Queues.Queue.{IsOfQueue, Puts}
 use Rattle.lin_ahead.specs.Queues.Slots.{calls_on, taken_at, taker_at, how_many}
-use Rattle.lin_ahead.specs.Queues.Hurried.{times, times_until, left_taken, left_taken_after, left_takers, MoreAreOut, IsHurried, ComesHurried}
+use Rattle.lin_ahead.specs.Queues.Hurried.{times, times_until, left_taken, left_taken_after, left_takers, ComesHurried}
 use Rattle.lin_ahead.specs.Items.Takers.{counted, called_by}
 use Rattle.lin_ahead.proofs.items.TakerLemmas.{both_true}
 use Rattle.lin_ahead.proofs.queues.QueueLemmas.{has_call, puts_by, puts, legal_split, took_completed}

@@ -7,7 +7,6 @@ use Rattle.lin_object.specs.declared.reply.Reply.{Reply}
 use Rattle.lin_object.specs.declared.reply.Reply.TheVariants.{Okay, Int, Empty}
 use Rattle.lin_object.specs.declared.state.ObjState.{ObjState}
 use Rattle.lin_object.specs.declared.state.ObjState.TheVariants.{Stack}
-use Rattle.lin_object.specs.Kinds.{after}
 use Rattle.lin_object.specs.Kinds.Stack.{stack_step}
 use Rattle.lin_history.specs.declared.problems.problem.ProblemCall.{ProblemCall}
 use Rattle.lin_history.specs.Problems.Problem.{Problem}

@@ -1,8 +1,6 @@
-use Rattle.std.proofs.Common.{◌≡◌, ◌+◌, drop, rules, arith, w64, to_z, of_z}
+use Rattle.std.proofs.Common.{◌≡◌, rules, arith, w64, to_z, of_z}
 use Rattle.std.specs.Prelude.{pos}
 use Rattle.std.proofs.Math.ListN.{get_or}
-use Rattle.lin_ahead.specs.Items.Takers.{counted}
-use Rattle.lin_ahead.specs.Queues.Hurried.{times_until}
 use Rattle.lin_ahead.proofs.queues.HurriedLemmas.{until_none, until_next}
 use Rattle.lin_ahead.proofs.queues.hurried_enqueues.count_times_until.Goals as goal
 
