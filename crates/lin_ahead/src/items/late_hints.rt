@@ -71,21 +71,9 @@ pub(crate) fn putter_flags(alloc: Global, late: &LateRows) -> Result<Vec<bool>, 
     Ok(flags)
 }
 
-/// How often 16,384 calls can be halved, and once more.
-pub(crate) const HALVES: usize = 15;
-
 // How many of the calls returned before the event.
 fn returned_before(returned: &[Returned], event: u64) -> usize {
-    let mut low = 0;
-    let mut high = returned.len();
-    for _ in 0..HALVES {
-        let half = low / 2 + high / 2;
-        match returned.get(half) {
-            Some(one) if low < high && one.event < event => low = half.saturating_add(1),
-            _ => high = half,
-        }
-    }
-    low
+    returned.partition_point(|one| one.event < event)
 }
 
 // How far chains lead that go on by the first calls, of so many of these each, at first by one call of them.

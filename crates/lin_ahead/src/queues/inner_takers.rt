@@ -3,7 +3,7 @@
 
 use crate::first::calls_in_turn::CallsInTurn;
 use crate::items::calls::item_taken;
-use crate::queues::item_rows::ItemRow;
+use crate::queues::item_rows::{ItemRow, rows_by_call};
 use crate::queues::slots::SlotHints;
 use lin_history::ProblemCall;
 use lin_object::{AnyObject, Op, Reply};
@@ -109,25 +109,6 @@ fn add_inner(
     Ok(())
 }
 
-// Of each of so many calls that returned with an item, its row.
-fn taker_rows(
-    alloc: Global,
-    calls: &[ProblemCall<Op, Reply>],
-    rows: &[ItemRow],
-) -> Result<Vec<Option<usize>>, AllocError> {
-    let mut row_of = vec![in alloc; None; calls.len()]?;
-    for row in 0..rows.len() {
-        for call in rows[row].calls.as_slice() {
-            if item_taken(calls, *call).is_some() {
-                if let Some(own) = row_of.get_mut(*call) {
-                    *own = Some(row);
-                }
-            }
-        }
-    }
-    Ok(row_of)
-}
-
 impl InnerHints {
     /// Those of these rows, where no call is lifted.
     pub(crate) fn new(
@@ -141,23 +122,18 @@ impl InnerHints {
             add_inner(&mut inner, calls, slots, row, rows[row].calls.as_slice())?;
         }
         inner.sort_by_key(|one| one.returned)?;
-        let mut order = Vec::new(alloc);
-        for one in &inner {
-            order.push(one.call)?;
-        }
-        if order.is_empty() {
-            return Ok(InnerHints {
-                inner,
-                turn: CallsInTurn::new(alloc, order, 0)?,
-                rows: Vec::new(alloc),
-                taken: Vec::new(alloc),
-            });
-        }
+        // where there are none, nothing is followed
+        let (rows, count) = if inner.is_empty() {
+            (&rows[..0], 0)
+        } else {
+            (rows, calls.len())
+        };
+        let order: Vec<usize> = inner.iter().map(|one| one.call).collect(alloc)?;
         Ok(InnerHints {
-            inner,
-            turn: CallsInTurn::new(alloc, order, calls.len())?,
-            rows: taker_rows(alloc, calls, rows)?,
+            turn: CallsInTurn::new(alloc, order, count)?,
+            rows: rows_by_call(alloc, calls, rows, false)?,
             taken: vec![in alloc; 0; rows.len()]?,
+            inner,
         })
     }
 

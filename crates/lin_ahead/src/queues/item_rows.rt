@@ -6,6 +6,7 @@ ghost use Rattle.indexmap.specs.IndexMap.{get};
 ghost use Rattle.lin_ahead.specs.Queues.ItemRows.{IsRowAfter, AreRowsAfter, ArePlaced, AreEmpty};
 ghost use Rattle.lin_ahead.specs.Queues.Slots.{concerns_at, is_open_taker, AreItemRows};
 
+use crate::items::calls::{item_put, item_taken};
 use crate::items::item_calls::item_of;
 use indexmap::IndexMap;
 use lin_history::ProblemCall;
@@ -170,4 +171,31 @@ pub(crate) fn item_rows(
     }
     add_calls(&mut rows, &places, calls)?;
     Ok(rows)
+}
+
+/// For each call that puts an item in, or else for each that returned with one, its row; nothing where there are no rows. It is a hint.
+pub(crate) fn rows_by_call(
+    alloc: Global,
+    calls: &[ProblemCall<Op, Reply>],
+    rows: &[ItemRow],
+    puts: bool,
+) -> Result<Vec<Option<usize>>, AllocError> {
+    if rows.is_empty() {
+        return Ok(Vec::new(alloc));
+    }
+    let mut row_of = vec![in alloc; None; calls.len()]?;
+    for row in 0..rows.len() {
+        for call in rows[row].calls.as_slice() {
+            let item = if puts {
+                item_put(calls, *call)
+            } else {
+                item_taken(calls, *call)
+            };
+            match row_of.get_mut(*call) {
+                Some(own) if item.is_some() => *own = Some(row),
+                _ => {}
+            }
+        }
+    }
+    Ok(row_of)
 }

@@ -1,4 +1,4 @@
-//! The rules of a first search of a queue: needs, enqueues that are too late or too early, replies that are owed, and takers.
+//! The rules of a first search of a queue: needs, enqueues that are too late, too early or hurried, replies that are owed, and takers.
 ghost use Rattle.std.specs.Prelude.{◌≡◌, ℕ, List, IfOk, IsTrue};
 ghost use Rattle.lin_history.specs.Problems.AnyProblem.{any_problem};
 ghost use Rattle.lin_history.specs.Problems.Configurations.{IsReachable};
@@ -30,8 +30,8 @@ use lin_search::Config;
 use std::alloc::{AllocError, Global};
 
 /// What is known ahead, and by which calls to ask it: the calls by how early they are needed, those that are owed a reply, those that
-/// make others too late, which takers are left, and the calls on each item that repeats, with the returns for which too few are in. All but
-/// what is known ahead and those calls are hints.
+/// make others too late, which takers are left; and where items repeat the calls on each item, the returns for which too few are in,
+/// and the dequeues within others. All but what is known ahead and the calls on each item are hints.
 #[derive(Drop)]
 pub(crate) struct QueueRules<'a> {
     ahead: &'a QueueAhead,
@@ -97,9 +97,7 @@ impl<'a> QueueRules<'a> {
         };
         comes_too_early(problem.calls(), self.rows.as_slice(), wait, config, call)
     }
-}
 
-impl<'a> QueueRules<'a> {
     /// Whether it is known that more calls returned with an item by some event than enqueues of it were called: then there is no
     /// linearization.
     pub(crate) fn are_in_vain(&self, problem: &Problem<AnyObject>) -> bool

@@ -1,11 +1,10 @@
-//! Of items of a queue that repeat, the events by which they are out that many times, and which enqueues have to wait for others before
-//! that. All of it is hints.
+//! Of the items of a queue some of which repeat, the events by which they are out that many times, and which enqueues have to wait for
+//! others before that. All of it is hints.
 
 use crate::items::calls::{item_put, item_taken};
 use crate::items::item_calls::BEYOND;
-use crate::items::late_hints::HALVES;
 use crate::items::rows::ItemsAhead;
-use crate::queues::item_rows::ItemRow;
+use crate::queues::item_rows::{ItemRow, rows_by_call};
 use lin_history::ProblemCall;
 use lin_object::{AnyObject, Op, Reply};
 use lin_search::Config;
@@ -174,28 +173,6 @@ fn places_of(alloc: Global, slots: &[Slot], rows: usize) -> Result<Vec<Vec<usize
     Ok(places)
 }
 
-// Of each call that puts an item in, the row.
-fn rows_of(
-    alloc: Global,
-    calls: &[ProblemCall<Op, Reply>],
-    rows: &[ItemRow],
-) -> Result<Vec<Option<usize>>, AllocError> {
-    if rows.is_empty() {
-        return Ok(Vec::new(alloc));
-    }
-    let mut row_of = vec![in alloc; None; calls.len()]?;
-    for row in 0..rows.len() {
-        for call in rows[row].calls.as_slice() {
-            if item_put(calls, *call).is_some() {
-                if let Some(own) = row_of.get_mut(*call) {
-                    *own = Some(row);
-                }
-            }
-        }
-    }
-    Ok(row_of)
-}
-
 impl SlotHints {
     /// Those of these rows, where no call is lifted.
     pub(crate) fn new(
@@ -222,7 +199,7 @@ impl SlotHints {
             called,
             puts: no_places(alloc, rows.len())?,
             lifted: 0,
-            rows: rows_of(alloc, calls, rows)?,
+            rows: rows_by_call(alloc, calls, rows, true)?,
             slots,
             first: 0,
             lack,
@@ -323,16 +300,7 @@ impl SlotHints {
 
     /// How many slots are before the event.
     pub(crate) fn slots_before(&self, event: u64) -> usize {
-        let mut low = 0;
-        let mut high = self.slots.len();
-        for _ in 0..HALVES {
-            let half = low / 2 + high / 2;
-            match self.slots.get(half) {
-                Some(slot) if low < high && slot.event < event => low = half.saturating_add(1),
-                _ => high = half,
-            }
-        }
-        low
+        self.slots.partition_point(|slot| slot.event < event)
     }
 
     // The place among the enqueues of what is out by the slot: of one more for each call of the row that is lifted and returns later.
