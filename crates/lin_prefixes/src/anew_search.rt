@@ -218,10 +218,7 @@ fn shows_none(
 
 // Whether the object is a mutex.
 fn is_mutex(problem: &Problem<AnyObject>) -> bool {
-    match problem.start() {
-        ObjState::Mutex(_) => true,
-        _ => false,
-    }
+    matches!(problem.start(), ObjState::Mutex(_))
 }
 
 // About how many looks at a call it takes to find a group that has these calls.
