@@ -34,6 +34,7 @@
 #include <string.h>
 #ifdef SA_SIGINFO
 #include <fcntl.h>
+#include <sys/stat.h>
 #include <unistd.h>
 #define LINCHECK_AT_END 1
 #endif
@@ -522,14 +523,15 @@ static inline void lincheck_on_signal(int number) {
     raise(number);
 }
 
-/* Writes the history to this file when the program ends: by exit, or by a signal that would end it and has no handler. The file
- * is removed until then. One recorder at a time; the path lives as long as the program. */
+/* Writes the history to this file when the program ends: by exit, or by a signal that would end it and has no handler. A file is
+ * removed until then; a device, a pipe or a link is not. One recorder at a time; the path lives as long as the program. */
 static inline void lincheck_write_at_end(struct lincheck_recorder *it, const char *path) {
     static const int numbers[] = { SIGHUP, SIGINT, SIGQUIT, SIGILL, SIGABRT, SIGBUS, SIGFPE, SIGSEGV, SIGALRM, SIGTERM };
     static int is_set;
     if (atomic_load(&lincheck_ending)) lincheck_mistake("a recorder writes at the end already", "");
     it->path = path;
-    remove(path);
+    struct stat found;
+    if (lstat(path, &found) == 0 && S_ISREG(found.st_mode)) remove(path);
     atomic_store(&lincheck_ending, it);
     if (is_set) return;
     is_set = 1;

@@ -41,6 +41,7 @@
 #include <vector>
 #if defined(__unix__) || defined(__APPLE__)
 #include <fcntl.h>
+#include <sys/stat.h>
 #include <unistd.h>
 #define LINCHECK_AT_END 1
 #endif
@@ -336,7 +337,7 @@ class Recorder {
         const std::lock_guard<std::mutex> guard(lock_);
         if (const Text *it = known()) return it->number;
         const std::int64_t number = first_text + texts_++;
-        std::atomic<Text *> &numbered = by_number_[number % buckets];
+        std::atomic<Text *> &numbered = by_number_[static_cast<std::size_t>(number) % buckets];
         Text *made = new Text{std::string(text), number, bucket.load(), numbered.load()};
         numbered.store(made, std::memory_order_release);
         bucket.store(made, std::memory_order_release);
@@ -355,11 +356,12 @@ class Recorder {
 
 #ifdef LINCHECK_AT_END
     // Writes the history to this file when the recorder is destroyed or the program ends: by exit, or by a signal that would
-    // end it and has no handler. The file is removed until then. One recorder at a time.
+    // end it and has no handler. A file is removed until then; a device, a pipe or a link is not. One recorder at a time.
     void write_at_end(const std::string &path) {
         if (ending_.load()) throw std::logic_error("a recorder writes at the end already");
         path_ = path;
-        std::remove(path_.c_str());
+        struct stat found;
+        if (::lstat(path_.c_str(), &found) == 0 && S_ISREG(found.st_mode)) std::remove(path_.c_str());
         ending_.store(this);
         static const bool is_set = set_handlers();
         static_cast<void>(is_set);
@@ -481,7 +483,7 @@ class Recorder {
 
     // The text that a number stands for, or nothing.
     const Text *text_of(std::int64_t number) const {
-        const Text *it = number < first_text ? nullptr : by_number_[number % buckets].load(std::memory_order_acquire);
+        const Text *it = number < first_text ? nullptr : by_number_[static_cast<std::size_t>(number) % buckets].load(std::memory_order_acquire);
         while (it && it->number != number) it = it->next_by_number;
         return it;
     }

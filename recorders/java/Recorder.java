@@ -5,9 +5,11 @@ import java.lang.invoke.MethodHandles;
 import java.lang.invoke.VarHandle;
 import java.nio.charset.StandardCharsets;
 import java.nio.file.Files;
+import java.nio.file.LinkOption;
 import java.nio.file.Path;
 import java.util.ArrayList;
 import java.util.Arrays;
+import java.util.Collection;
 import java.util.Comparator;
 import java.util.HashMap;
 import java.util.List;
@@ -31,12 +33,13 @@ import java.util.concurrent.atomic.AtomicLong;
  * <p>{@code record} returns what the operation returned. That is its reply: a Boolean, a whole number or any other value; null
  * says that there was none, or of an operation that answers ok that it is done. After an exception nobody knows whether the call
  * was done ({@code info}), unless it is of a class that stands behind the operation, which says that it was not ({@code fail}).
- * The exception goes on. {@code call}, then {@code ret}, {@code fail} or {@code info}, do the same in two lines.
+ * The exception goes on. {@code me.call("q", "enq", List.of(7))}, then {@code ret}, {@code fail} or {@code info}, do the same in
+ * two lines.
  *
  * <p>After {@code info} the thread goes on as a new process, with a number of its own. A value that is no whole number, as an
- * argument or a reply, is recorded by a whole number that stands for it: equal values, equal numbers ({@code value}). What is
- * given wrongly (a name, a kind, an operation, a call while one is pending) throws {@link IllegalArgumentException} or {@link
- * IllegalStateException}.
+ * argument or a reply, is recorded by a whole number that stands for it: equal values, equal numbers ({@code value}). A list, a
+ * map or an array is none. What is given wrongly (a name, a kind, an operation, a value, a call while one is pending) throws
+ * {@link IllegalArgumentException} or {@link IllegalStateException}.
  *
  * <p>{@code write} may be called while threads run or hang: calls that have not returned are pending. {@code writeAtEnd} writes
  * the history when the program ends: by {@code System.exit}, with its last thread, or by SIGHUP, SIGINT or SIGTERM. Java runs
@@ -122,6 +125,10 @@ public final class Recorder {
         if (value instanceof Long || value instanceof Integer || value instanceof Short || value instanceof Byte) {
             return ((Number) value).longValue();
         }
+        require(!(value instanceof List), "no value: a list");
+        require(!(value instanceof Map), "no value: a map");
+        require(!(value instanceof Collection), "no value: a collection");
+        require(!value.getClass().isArray(), "no value: an array");
         Long known = values.get(value);
         return known != null ? known : values.computeIfAbsent(value, it -> nextValue.getAndIncrement());
     }
@@ -140,9 +147,11 @@ public final class Recorder {
         to.flush();
     }
 
-    /** Writes the history to this file when the program ends. The file is removed until then. */
+    /** Writes the history to this file when the program ends. A file is removed until then; a device, a pipe or a link is not. */
     public void writeAtEnd(Path path) throws IOException {
-        Files.deleteIfExists(path);
+        if (Files.isRegularFile(path, LinkOption.NOFOLLOW_LINKS)) {
+            Files.delete(path);
+        }
         Runtime.getRuntime().addShutdownHook(new Thread(() -> {
             try (OutputStream to = Files.newOutputStream(path)) {
                 write(to);
@@ -235,12 +244,8 @@ public final class Recorder {
             full.add(chunk);
         }
 
-        /** A call of this operation begins now. */
-        public void call(String name, String op, Object... args) {
-            call(name, op, Arrays.asList(args));
-        }
-
-        private void call(String name, String op, List<?> args) {
+        /** A call of this operation begins now, with this list of arguments. */
+        public void call(String name, String op, List<?> args) {
             if (pending != null) {
                 throw new IllegalStateException("process " + number + " has a pending call");
             }

@@ -1,6 +1,7 @@
 import java.io.IOException;
 import java.nio.file.Path;
 import java.util.List;
+import java.util.Map;
 import java.util.concurrent.atomic.AtomicInteger;
 import java.util.concurrent.locks.LockSupport;
 
@@ -40,19 +41,19 @@ public final class Trial {
         me.record("q", "deq", List.of(), () -> 1);
         me.record("q", "deq", List.of(), () -> null);
         other.record("x", "cas", List.of(7, 8), () -> true);
-        other.call("x", "write", 9);
+        other.call("x", "write", List.of(9));
         other.fail();
         me.record("m", "put", List.of("apple", red), () -> {});
         other.record("m", "get", List.of("apple"), () -> red);
         thrown(() -> me.record("x", "write", List.of(3), () -> { throw new IOException(); }, Refused.class));
         thrown(() -> me.record("m", "put", List.of("pear", 4), () -> { throw new Refused(); }, Refused.class));
-        me.call("s", "add", 1);
+        me.call("s", "add", List.of(1));
         me.ret(true);
-        other.call("x", "read");
+        other.call("x", "read", List.of());
         other.ret(8);
-        other.call("q", "enq", 2);
+        other.call("q", "enq", List.of(2));
         other.info();
-        me.call("s", "contains", 2);
+        me.call("s", "contains", List.of(2));
         recorder.write(System.out);
     }
 
@@ -75,16 +76,27 @@ public final class Trial {
         Recorder.Process me = recorder.process(5);
         tell(() -> recorder.process(5));
         tell(() -> recorder.object("r", "queue"));
-        tell(() -> me.call("y", "enq", 1));
-        tell(() -> me.call("q", "push", 1));
-        tell(() -> me.call("q", "enq", 1, 2));
+        tell(() -> me.call("y", "enq", List.of(1)));
+        tell(() -> me.call("q", "push", List.of(1)));
+        tell(() -> me.call("q", "enq", List.of(1, 2)));
         tell(() -> me.ret(Recorder.OK));
-        me.call("q", "enq", 1);
-        tell(() -> me.call("q", "deq"));
+        me.call("q", "enq", List.of(1));
+        tell(() -> me.call("q", "deq", List.of()));
         tell(() -> me.ret(1));
         me.ret(Recorder.OK);
-        me.call("q", "deq");
+        me.call("q", "deq", List.of());
         tell(() -> me.ret(Recorder.OK));
+    }
+
+    private static void values() {
+        Recorder recorder = new Recorder();
+        recorder.object("q", "queue");
+        Recorder.Process me = recorder.process();
+        tell(() -> me.call("q", "enq", List.of(List.of(7))));
+        tell(() -> me.record("q", "enq", List.of(Map.of(7, 8)), () -> {}));
+        me.call("q", "deq", List.of());
+        tell(() -> me.ret(List.of(7)));
+        tell(() -> me.ret(new int[] {7}));
     }
 
     private static void running() throws IOException {
@@ -140,6 +152,7 @@ public final class Trial {
         switch (words[0]) {
             case "all" -> all();
             case "refused" -> refused();
+            case "values" -> values();
             case "running" -> running();
             case "cost" -> cost();
             case "stuck" -> stuck(words[1]);

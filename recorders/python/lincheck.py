@@ -9,12 +9,13 @@
 
 `record` returns what the operation returned. That is its reply: True or False, a whole number or any other value; None says
 that there was none, or of an operation that answers ok that it is done. After an exception nobody knows whether the call was
-done (`info`), unless it is one of `fails`, the exceptions that say that it was not (`fail`). The exception goes on. `call`,
-then `ret`, `fail` or `info`, do the same in two lines.
+done (`info`), unless it is one of `fails`, the exceptions that say that it was not (`fail`). The exception goes on.
+`me.call("q", "enq", [7])`, then `ret`, `fail` or `info`, do the same in two lines.
 
 After `info` the thread goes on as a new process, with a number of its own. A value that is no whole number, as an argument or a
-reply, is recorded by a whole number that stands for it: equal values, equal numbers (`value`). What is given wrongly (a name, a
-kind, an operation, a call while one is pending) raises `ValueError` or `RuntimeError`.
+reply, is recorded by a whole number that stands for it: equal values, equal numbers (`value`). A list or another value that may
+change is none. What is given wrongly (a name, a kind, an operation, a value, a call while one is pending) raises `ValueError` or
+`RuntimeError`.
 
 `write` may be called while threads run or hang: calls that have not returned are pending. `write_at_end` writes the history when
 the program ends, or by SIGHUP, SIGINT or SIGTERM. Python runs nothing when the interpreter itself crashes, or in `os._exit`.
@@ -26,6 +27,7 @@ import numbers
 import os
 import re
 import signal
+import stat
 import sys
 import threading
 
@@ -81,8 +83,8 @@ class Recorder:
             return int(value)
         try:
             hash(value)
-        except TypeError:  # a list, as it is now
-            value = repr(value)
+        except TypeError:  # it may change, so it may be equal to another now and not later
+            raise ValueError(f"no value: a {'map' if isinstance(value, dict) else type(value).__name__}") from None
         with self._lock:
             return self._values.setdefault((type(value), value), FIRST_VALUE + len(self._values))
 
@@ -102,7 +104,8 @@ class Recorder:
         to.flush()
 
     def write_at_end(self, path):
-        """Writes the history to this file when the program ends. The file is removed until then. Called by the main thread."""
+        """Writes the history to this file when the program ends. A file is removed until then; a device, a pipe or a link is
+        not. Called by the main thread."""
         once = threading.Lock()
 
         def write():
@@ -117,7 +120,7 @@ class Recorder:
                 signal.signal(number, signal.SIG_DFL)
                 os.kill(os.getpid(), number)
 
-        if os.path.exists(path):
+        if os.path.lexists(path) and stat.S_ISREG(os.lstat(path).st_mode):
             os.remove(path)
         atexit.register(write)
         for name in ("SIGHUP", "SIGINT", "SIGTERM"):
@@ -146,8 +149,8 @@ class Process:
         self._recorder, self._number, self._instants, self._operations = recorder, number, recorder._instants, recorder._operations
         self._pending, self._events = None, []  # each event: its instant, its process, its object, what it is, and its values
 
-    def call(self, name, op, *args):
-        """A call of this operation begins now."""
+    def call(self, name, op, args=()):
+        """A call of this operation begins now, with this list of arguments."""
         if self._pending:
             raise RuntimeError(f"process {self._number} has a pending call")
         operations = self._operations.get(name)
@@ -156,6 +159,8 @@ class Process:
         if op not in operations:
             raise ValueError(f"{self._recorder._objects[name][0]} has no operation {op}")
         count, answers_ok = operations[op]
+        if not isinstance(args, (list, tuple)):
+            raise ValueError(f"no list of arguments: {args!r}")
         if len(args) != count:
             raise ValueError(f"wrong number of arguments: {op}")
         if args:
@@ -188,7 +193,7 @@ class Process:
 
     def record(self, name, op, args, operation, fails=()):
         """Records the call that the operation makes, and returns what it returns."""
-        self.call(name, op, *args)
+        self.call(name, op, args)
         try:
             reply = operation()
         except fails:
@@ -197,7 +202,11 @@ class Process:
         except BaseException:
             self.info()
             raise
-        self.ret(reply)
+        try:
+            self.ret(reply)
+        finally:
+            if self._pending:  # what it returned is no reply
+                self.info()
         return reply
 
     def _end(self, instant, event, reply=None):

@@ -29,7 +29,7 @@ def all_events():
     me.record("q", "deq", [], lambda: 1)
     me.record("q", "deq", [], lambda: None)
     other.record("x", "cas", [7, 8], lambda: True)
-    other.call("x", "write", 9)
+    other.call("x", "write", [9])
     other.fail()
     me.record("m", "put", ["apple", red], lambda: OK)
     other.record("m", "get", ["apple"], lambda: red)
@@ -37,13 +37,13 @@ def all_events():
         me.record("x", "write", [3], lambda: throw(OSError()), fails=Refused)
     with contextlib.suppress(Refused):
         me.record("m", "put", ["pear", 4], lambda: throw(Refused()), fails=Refused)
-    me.call("s", "add", 1)
+    me.call("s", "add", [1])
     me.ret(True)
     other.call("x", "read")
     other.ret(8)
-    other.call("q", "enq", 2)
+    other.call("q", "enq", [2])
     other.info()
-    me.call("s", "contains", 2)
+    me.call("s", "contains", [2])
     recorder.write(sys.stdout)
 
 
@@ -65,16 +65,27 @@ def refused():
     me = recorder.process(5)
     tell(lambda: recorder.process(5))
     tell(lambda: recorder.object("r", "queue"))
-    tell(lambda: me.call("y", "enq", 1))
-    tell(lambda: me.call("q", "push", 1))
-    tell(lambda: me.call("q", "enq", 1, 2))
+    tell(lambda: me.call("y", "enq", [1]))
+    tell(lambda: me.call("q", "push", [1]))
+    tell(lambda: me.call("q", "enq", [1, 2]))
     tell(lambda: me.ret(OK))
-    me.call("q", "enq", 1)
+    me.call("q", "enq", [1])
     tell(lambda: me.call("q", "deq"))
     tell(lambda: me.ret(1))
     me.ret(OK)
     me.call("q", "deq")
     tell(lambda: me.ret(OK))
+
+
+def values():
+    recorder = Recorder()
+    recorder.object("q", "queue")
+    me = recorder.process()
+    tell(lambda: me.call("q", "enq", [[7]]))
+    tell(lambda: me.record("q", "enq", [{7: 8}], lambda: None))
+    me.call("q", "deq")
+    tell(lambda: me.ret([7]))
+    tell(lambda: recorder.process().record("q", "enq", 7, lambda: None))
 
 
 def running():
@@ -128,4 +139,4 @@ def stuck(path):
     thread.join()
 
 
-{"all": all_events, "refused": refused, "running": running, "cost": cost, "stuck": stuck}[sys.argv[1]](*sys.argv[2:])
+{"all": all_events, "refused": refused, "values": values, "running": running, "cost": cost, "stuck": stuck}[sys.argv[1]](*sys.argv[2:])

@@ -369,11 +369,13 @@ impl Recorder {
         self.shared.write(to)
     }
 
-    /// Writes the history to this file when the recorder is dropped, or when a signal ends the program. The file is removed
-    /// until then.
+    /// Writes the history to this file when the recorder is dropped, or when a signal ends the program. A file is removed until
+    /// then; a device, a pipe or a link is not.
     pub fn write_at_end(&self, path: impl AsRef<Path>) {
         let path = path.as_ref().to_path_buf();
-        let _ = std::fs::remove_file(&path);
+        if std::fs::symlink_metadata(&path).is_ok_and(|found| found.is_file()) {
+            let _ = std::fs::remove_file(&path);
+        }
         *lock(&self.shared.at_end) = Some(path);
         #[cfg(unix)]
         signals::watch(&self.shared);

@@ -11,11 +11,12 @@
 // What the operation returns is the reply: lincheck.OK, a bool, a whole number or any other value; nil says that there was
 // none, or of an operation that answers ok that it is done. After an error nobody knows whether the call was done (Info),
 // unless it is one of the errors that stand behind the operation, which say that it was not (Fail); Record returns the error.
-// After a panic nobody knows either. Call, then Ret, Fail or Info, do the same in two lines.
+// After a panic nobody knows either. me.Call("q", "enq", lincheck.Args{7}), then Ret, Fail or Info, do the same in two lines.
 //
 // After Info the goroutine goes on as a new process, with a number of its own. A value that is no whole number, as an argument
-// or a reply, is recorded by a whole number that stands for it: equal values, equal numbers (Value). What is given wrongly (a
-// name, a kind, an operation, a call while one is pending) panics.
+// or a reply, is recorded by a whole number that stands for it: equal values, equal numbers (Value). A slice, a map or another
+// value that cannot be compared is none. What is given wrongly (a name, a kind, an operation, a value, a call while one is
+// pending) panics.
 //
 // Write may be called while goroutines run or hang: calls that have not returned are pending. `defer
 // recorder.WriteAtEnd("history.jsonl")()` writes the history when the function ends, also by a panic, or when SIGHUP, SIGINT or
@@ -177,6 +178,7 @@ func (r *Recorder) Value(value any) int64 {
 	} else if it.CanUint() && it.Uint() <= math.MaxInt64 {
 		return int64(it.Uint())
 	}
+	requireValue(reflect.ValueOf(value))
 	if known, is := r.values.Load(value); is {
 		return known.(int64)
 	}
@@ -208,9 +210,11 @@ func (r *Recorder) Write(to io.Writer) error {
 }
 
 // WriteAtEnd returns a function for `defer`, which writes the history to this file. It is also written when a signal ends the
-// program. The file is removed until then.
+// program. A file is removed until then; a device, a pipe or a link is not.
 func (r *Recorder) WriteAtEnd(path string) func() {
-	os.Remove(path)
+	if it, err := os.Lstat(path); err == nil && it.Mode().IsRegular() {
+		os.Remove(path)
+	}
 	var once sync.Once
 	write := func() {
 		if err := r.writeFile(path); err != nil {
@@ -347,8 +351,8 @@ type Process struct {
 	length      atomic.Int64
 }
 
-// Call tells that a call of this operation begins now.
-func (p *Process) Call(object, op string, args ...any) {
+// Call tells that a call of this operation begins now, with these arguments.
+func (p *Process) Call(object, op string, args Args) {
 	r := p.recorder
 	if p.pending != nil {
 		require(false, "process %d has a pending call", p.number)
@@ -368,11 +372,12 @@ func (p *Process) Call(object, op string, args ...any) {
 	if len(args) != operations[of].args {
 		require(false, "wrong number of arguments: %s", op)
 	}
-	event := p.room(called)
-	event.operation = uint8(of)
+	var values [2]int64
 	for i, arg := range args {
-		event.values[i] = r.Value(arg)
+		values[i] = r.Value(arg)
 	}
+	event := p.room(called)
+	event.operation, event.values = uint8(of), values
 	p.pending = &operations[of]
 	p.show()
 	atomic.StoreUint64(&event.instant, p.now())
@@ -413,7 +418,7 @@ func (p *Process) Info() {
 
 // Record records the call that the operation makes, and returns its error. The errors behind it say that the call was not done.
 func (p *Process) Record(object, op string, args Args, operation func() (reply any, err error), fails ...error) error {
-	p.Call(object, op, args...)
+	p.Call(object, op, args)
 	defer func() {
 		if p.pending != nil { // the operation, or what it answered, made a panic
 			p.Info()
@@ -494,6 +499,28 @@ func (r *Recorder) addProcess(number uint32) *Process {
 	made := &Process{recorder: r, number: number, first: first, last: first}
 	r.processes = append(r.processes, made)
 	return made
+}
+
+// What can be compared is a value; a slice or a map is not, wherever it stands in it.
+func requireValue(value reflect.Value) {
+	switch value.Kind() {
+	case reflect.Slice:
+		require(false, "no value: a list")
+	case reflect.Map:
+		require(false, "no value: a map")
+	case reflect.Func:
+		require(false, "no value: a function")
+	case reflect.Interface:
+		requireValue(value.Elem())
+	case reflect.Array:
+		for i := 0; i < value.Len(); i++ {
+			requireValue(value.Index(i))
+		}
+	case reflect.Struct:
+		for i := 0; i < value.NumField(); i++ {
+			requireValue(value.Field(i))
+		}
+	}
 }
 
 func require(holds bool, otherwise string, words ...any) {

@@ -32,19 +32,19 @@ func all() error {
 	me.Record("q", "deq", nil, answer(1, nil))
 	me.Record("q", "deq", nil, answer(nil, nil))
 	other.Record("x", "cas", lincheck.Args{7, 8}, answer(true, nil))
-	other.Call("x", "write", 9)
+	other.Call("x", "write", lincheck.Args{9})
 	other.Fail()
 	me.Record("m", "put", lincheck.Args{"apple", red}, answer(nil, nil))
 	other.Record("m", "get", lincheck.Args{"apple"}, answer(red, nil))
 	me.Record("x", "write", lincheck.Args{3}, answer(nil, errUnknown), errRefused)
 	me.Record("m", "put", lincheck.Args{"pear", 4}, answer(nil, fmt.Errorf("put: %w", errRefused)), errRefused)
-	me.Call("s", "add", 1)
+	me.Call("s", "add", lincheck.Args{1})
 	me.Ret(true)
-	other.Call("x", "read")
+	other.Call("x", "read", nil)
 	other.Ret(8)
-	other.Call("q", "enq", 2)
+	other.Call("q", "enq", lincheck.Args{2})
 	other.Info()
-	me.Call("s", "contains", 2)
+	me.Call("s", "contains", lincheck.Args{2})
 	return recorder.Write(os.Stdout)
 }
 
@@ -69,16 +69,27 @@ func refused() {
 	me := recorder.ProcessOf(5)
 	tell(func() { recorder.ProcessOf(5) })
 	tell(func() { recorder.Object("r", "queue", 0) })
-	tell(func() { me.Call("y", "enq", 1) })
-	tell(func() { me.Call("q", "push", 1) })
-	tell(func() { me.Call("q", "enq", 1, 2) })
+	tell(func() { me.Call("y", "enq", lincheck.Args{1}) })
+	tell(func() { me.Call("q", "push", lincheck.Args{1}) })
+	tell(func() { me.Call("q", "enq", lincheck.Args{1, 2}) })
 	tell(func() { me.Ret(lincheck.OK) })
-	me.Call("q", "enq", 1)
-	tell(func() { me.Call("q", "deq") })
+	me.Call("q", "enq", lincheck.Args{1})
+	tell(func() { me.Call("q", "deq", nil) })
 	tell(func() { me.Ret(1) })
 	me.Ret(lincheck.OK)
-	me.Call("q", "deq")
+	me.Call("q", "deq", nil)
 	tell(func() { me.Ret(lincheck.OK) })
+}
+
+func values() {
+	recorder := lincheck.New()
+	recorder.Object("q", "queue", 0)
+	me := recorder.Process()
+	tell(func() { me.Call("q", "enq", lincheck.Args{[]int{7}}) })
+	tell(func() { me.Record("q", "enq", lincheck.Args{map[int]int{7: 8}}, answer(nil, nil)) })
+	me.Call("q", "deq", nil)
+	tell(func() { me.Ret([]any{7}) })
+	tell(func() { me.Ret(struct{ inner any }{[]int{7}}) })
 }
 
 func running() error {
@@ -142,6 +153,8 @@ func main() {
 		}
 	case "refused":
 		refused()
+	case "values":
+		values()
 	case "running":
 		if err := running(); err != nil {
 			os.Exit(70)
