@@ -1,5 +1,5 @@
 -- The lines of the events of a text, as far as it is read.
-use Rattle.std.proofs.Common.{◌≡◌, ℕ, zero, suc, ◌+◌, ◌<◌, Bool, true, false, Option, Some, None, List, [], ◌∷◌, ◌++◌, length, slice_get, refl, sym, ap, subst, ◌∙◌, length-append, ◌&&◌, IsTrue, arith}
+use Rattle.std.proofs.Common.{◌≡◌, ℕ, zero, suc, ◌+◌, Bool, true, false, Some, None, List, [], ◌∷◌, ◌++◌, length, slice_get, sym, ap, subst, ◌∙◌, length-append, ◌&&◌, IsTrue, arith}
 use Rattle.lin_history.specs.Recorder.Recording.{Recording, no_event}
 use Rattle.lin_text.specs.declared.line.Format.{Format}
 use Rattle.lin_text.specs.Events.{TextEvents, IsTold}

@@ -4,6 +4,7 @@ pub mod CauseLemmas
 pub mod JsonLemmas
 pub mod LineLemmas
 pub mod TextLemmas
+pub mod MeaningLemmas
 pub mod EventLineLemmas
 pub mod WholeNumberLemmas
 pub mod OperationLemmas

@@ -7,3 +7,4 @@ pub mod Text
 pub mod EventLines
 pub mod WholeNumbers
 pub mod Words
+pub mod Meaning

@@ -4,6 +4,7 @@
 mod cause;
 mod fields;
 mod flat_object;
+mod laws;
 mod line;
 mod line_value;
 mod reading;
@@ -11,4 +12,5 @@ mod text;
 mod wholes;
 
 pub use cause::{Cause, TextFault, write_cause};
+pub use laws::meaning_law;
 pub use text::{MAX_INPUT_BYTES, MAX_LINE_BYTES, read_history, read_history_and_lines};
