@@ -2,6 +2,8 @@
 #
 # `self` is the script that reads this file, and `top` the repository, whatever link, folder or CDPATH it was called by.
 unset CDPATH
+# where standard error is closed, bash reads the script in its place
+true >&2 && [ ! /dev/fd/2 -ef "$self" ] || exec 2>/dev/null
 top=${self%/bin/*}
 proved=$top/crates/lincheck_program/out/lincheck_program
 tried=$top/out/lincheck_tried
@@ -12,14 +14,19 @@ fail() {
     exit 70
 }
 
-# Whether the program is there and none of the files named has changed since it was built. A folder is newer once a file in
-# it was added or removed.
+# Whether the program is there and runs, and none of the files named has changed since it was built. A folder is newer once a file
+# in it was added or removed.
 is_current() {
     local program=$1 newer
     shift
-    [ -x "$program" ] || return 1
+    [ -f "$program" ] && runs "$program" || return 1
     newer=$(find "$@" -newer "$program" -print -quit) || fail "cannot tell whether $program was built from these sources: find failed"
     [ -z "$newer" ]
+}
+
+# Whether a file is a program: bash takes an empty file for a script that does nothing, and a file may end too soon.
+runs() {
+    [[ "$("$1" --version 2>/dev/null </dev/null)" == "lincheck "* ]]
 }
 
 # Whether the proved program is there, built from these sources.
@@ -38,7 +45,7 @@ require_toolchain() {
     fail "there is no program yet, and it cannot be built: the Rattle toolchain is not on this machine (no folder of the PATH has its command rt)"
 }
 
-# Becomes this program. Bash would take an empty file for a script that ends with 0.
+# Becomes this program.
 become() {
     shopt -s execfail
     exec "$@"
@@ -49,10 +56,11 @@ become() {
 # ends, even killed, the room is removed then, and what runs in it ends.
 open_room() {
     room=$top/out/${self##*/}_room
+    command -v flock >/dev/null || fail "there is no program yet, and it cannot be built: the command flock is not on this machine"
     exec {lock}<"$self" || fail "cannot read $self"
     if ! flock -n "$lock"; then
         echo "lincheck: another ${self##*/} is building; waiting for it .." >&2
-        flock "$lock" || fail "flock failed"
+        flock "$lock" || fail "cannot wait for the other build: flock failed"
     fi
     # a group of its own, so that what ends this script does not end it
     exec {lifeline}> >(set -m; remove_after <&0 >/dev/null 2>&1 &)
