@@ -2,7 +2,7 @@
 """Times `lincheck` beside `bench/search.rs`, a fast search without a proof that gives the same answers.
 
     bench/run.py [--only FAMILY].. [--quick] [--runs N] [--cpu] [--timeout SECONDS] [--bin PATH] [--beside NAME]
-                 [--alone | --workers N.. [--shards N..] [--size SIZE]]
+                 [--alone | --write | --workers N.. [--shards N..] [--size SIZE]]
 
 Needs the built program (`bin/lincheck` builds it), or the one at PATH, and `rustc`. Prints one table for each family of
 `bench/histories.py` (those whose name begins with FAMILY), one line for each size (with --quick the smaller half), and
@@ -26,6 +26,9 @@ those of `lincheck`.
 
 With --alone `lincheck` is timed by itself, as for a queue with a backlog, which the second program can't do: seconds and MB.
 
+With --write the tables of docs/PERFORMANCE.md are measured and written: each row names its family and size, and gets the processor
+seconds and megabytes of `lincheck` by itself.
+
 With --workers N `lincheck` with N workers is timed beside `lincheck` with one, in turn, at the last size of each family, or
 at SIZE. Both --workers and --shards may be given more than once. With one worker a cell has seconds by the clock and processor
 seconds, the middle of the runs. With more it has how many times those of one worker in the same turn they are: the middle of
@@ -34,6 +37,7 @@ the turns, by the clock with the least and the most in brackets.
 import argparse
 import math
 import os
+import re
 import shutil
 import signal
 import statistics
@@ -50,6 +54,8 @@ sys.path.insert(0, str(HERE))
 from histories import FAMILIES, FAULTY
 
 LINCHECK = HERE.parent / "crates" / "lincheck_program" / "out" / "lincheck_program"
+PAGE = HERE.parent / "docs" / "PERFORMANCE.md"
+PAGE_ROW = re.compile(r"^(\| .* \| `(\w+) (\d+)` \|) [^|]+ \| [^|]+ \|$", re.M)
 TIME = Path("/usr/bin/time")
 MEASURING = [TIME, "-q", "-f", "peak %M"] if TIME.exists() else []
 TELLING = 4_000_000  # bytes: less than that may be what the allocator keeps
@@ -171,14 +177,28 @@ def measure(family, size, programs, room, options):
     return took[0], took[1], plain.told
 
 
-def alone_row(family, size, room, options):
-    """The cells of a line: what `lincheck` took for the history of this size."""
+def alone(family, size, room, options):
+    """What `lincheck` took for the history of this size; None where it took too long."""
     text = room / "text"
     with open(text, "w") as whole:
         whole.writelines(family.history(size))
     (one,) = run_in_turn([[options.bin, "--workers", "1"]], text, options)
     assert one is None or one.status == family.status, (family, size, one)
+    return one
+
+
+def alone_row(family, size, room, options):
+    """The cells of a line."""
+    one = alone(family, size, room, options)
     return [str(size), *(["-", "-"] if one is None else [f"{one.seconds:.4f}", f"{one.peak / 1e6:.1f}"])]
+
+
+def page_row(found, room, options):
+    """A row of the page, measured anew."""
+    one = alone(FAMILIES[found[2]], int(found[3]), room, options)
+    if one is None:
+        return f"{found[1]} none in {options.timeout:.0f} | - |"
+    return f"{found[1]} {f'{one.seconds:.2f}' if one.seconds >= 0.01 else 'under 0.01'} | {one.peak / 1e6:.0f} |"
 
 
 def measure_workers(family, size, kinds, room, options):
@@ -237,6 +257,7 @@ def main():
     parser.add_argument("--bin", type=Path, default=LINCHECK)
     parser.add_argument("--beside", choices=["search", "layout", "small_sets"], default="search", help="the program without a proof")
     parser.add_argument("--alone", action="store_true", help="lincheck by itself")
+    parser.add_argument("--write", action="store_true", help="the tables of docs/PERFORMANCE.md")
     parser.add_argument("--workers", type=int, action="append", metavar="N", help="one worker beside so many")
     parser.add_argument("--shards", type=int, action="append", metavar="N", help="with --workers: so many shards")
     parser.add_argument("--size", type=int, help="with --workers: in place of the last size")
@@ -248,6 +269,10 @@ def main():
     }
     with tempfile.TemporaryDirectory() as folder:
         room = Path(folder)
+        if options.write:
+            options.cpu = True
+            PAGE.write_text(PAGE_ROW.sub(lambda found: page_row(found, room, options), PAGE.read_text()))
+            return None
         if options.workers:
             kinds = [(workers, shards) for workers in options.workers for shards in options.shards or [16]]
             rows = [["", "1 worker", *(f"{workers} workers, {shards} shards" for workers, shards in kinds)]]
