@@ -4,3 +4,4 @@ pub mod VerifierLemmas
 pub mod ProblemLemmas
 pub mod RecorderLemmas
 pub mod JoinLemmas
+pub mod WholeLemmas

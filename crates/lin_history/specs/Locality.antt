@@ -9,3 +9,4 @@ pub mod RecordedWhole
 pub mod TimeLemmas
 pub mod LocalityLemmas
 pub mod Points
+pub mod LocalityLaw
