@@ -8,6 +8,21 @@
 //! - `run_explained`: the same of the run of an object of a history.
 //! - `core_text`: how calls are shown that alone have no order; `sums_text`: how a get of a counter is shown for whose reply its
 //!   adds leave no room; `witness_text`: whichever of both is known.
+//!
+//! What it promises the crates above, by the contracts of `explain`, `write_explanation`, `write_run_explained`, `write_witness`:
+//!
+//! - The state after a run, the calls that could come next, and what each would answer there are exact. The calls that could come
+//!   next are those outside the run all of whose predecessors are in it, in increasing order.
+//! - The lines say just that, and name the calls that put or took the value that such a call asks for or should have found, the
+//!   call since which a mutex is held, and the lines of the input. A pending call of the run counts for what it replies there.
+//! - `write_witness` prints exactly what it is given (`Witness`): calls (`CoreCall`), their lines, and up to which line no other
+//!   call helps; or a `get` of a counter with what must and what may have been added before it. It knows nothing of cores, and
+//!   makes no sums.
+//!
+//! Why it is so:
+//!
+//! - What a pending call of the run did is judged by its reply there. An item that only it can have taken is then not shown as
+//!   still there.
 #![tactic(auto)]
 
 mod core_text;

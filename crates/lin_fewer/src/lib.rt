@@ -9,6 +9,56 @@
 //!   `verdict`: what is known of one configuration.
 //! - `any_adds`: orders of a counter's completed calls, whatever the pending ones add.
 //! - `front`: which calls may be next; `laws`: the law that all this rests on.
+//!
+//! What it promises the crates above, by the contracts of `fewer_law`, `least_linearization`, `Rules`, `SumRules`,
+//! `is_refuted_with_any_adds`:
+//!
+//! - `fewer_law`: take two configurations with the same completed calls and equal states, such that each pending call that the
+//!   first used was used by the second too. Then what can follow the second can follow the first, and completes it if it completes
+//!   the second. For pending calls precede nothing, and whether a list is legal depends on the state alone. This holds for every
+//!   object.
+//! - So what is refuted with fewer is refuted with more. `least_linearization` lifts completed calls first, since in the natural
+//!   order the large sets come first. A configuration to which a completed call leads is a *base*; its *block* is what pending
+//!   calls alone lead to from it. A configuration of the block is passed over for one of the same block that used fewer. If no
+//!   completed call leads from the block to a configuration with a completion, the base has none. Only bases are remembered, since
+//!   within a block the other one may still be open.
+//! - A base that has a completion is remembered with the largest set of used calls with which this completion still goes on. That
+//!   holds downwards, as a refutation holds upwards.
+//! - The least linearization comes from asking at each configuration which is the least call that leads to one with a completion.
+//!   `Found` is the least linearization; `Refuted` is returned only if there is none. If it tells nothing, no clause says why, nor
+//!   how many steps it takes. No longest run is read off it: of what is passed over only the completions are known.
+//! - Identical pending calls are used in the order of their call events, and a completed call that changes nothing is tried alone.
+//!   `has_many_pending` says when the search is a good bet.
+//! - What more may be passed over for some kind of object stands in `Rules`, each method of which says what it shows of
+//!   completions: that a configuration has none; that a completion which begins with a pending call and a completed one has its
+//!   like that begins with the completed one; that a configuration with a completion has one that begins with a completed call. The
+//!   search itself knows no kind. `NoRules` shows nothing.
+//! - `SumRules` are those of a counter whose adds have one sign. A `get` finds all that was added before it: a configuration has no
+//!   completion if what it holds, with what is left and precedes a `get` that is left, is more than that returned with. And an add
+//!   shows only in a `get`: a pending call directly in front of an add can stand behind it, so pending adds are tried only where a
+//!   completed `get` may be next. Which `get` to ask about is a hint (`sum_hints.rt`).
+//! - `is_refuted_with_any_adds` answers yes only if a counter from which nothing is taken off has no linearization, whatever its
+//!   pending calls add. Pending adds may then make up any difference in front of a `get`, so with the same completed calls it is
+//!   never worse to have grown by less, and one number for each set of completed calls is enough. It goes over these sets in
+//!   layers, by how many calls they have, and gives up where a layer has more than 512.
+//!
+//! Why it is so:
+//!
+//! - It goes over blocks, because pending calls alone lead back to a state that was left, with more of them used, while that
+//!   configuration is still being searched. So what is met in one block is compared there, and only bases are remembered. *To
+//!   change:* the proof that a block is covered.
+//! - No longest run is read off it. Of a configuration that is passed over it is known that it has no completion, but not how long
+//!   its continuations are. Longest runs come from prefixes, which ask for linearizations alone.
+//! - It keeps nothing from one turn to the next. Each turn goes twice as far, so what is lost is about as much again.
+//! - Its notes are whole sets. A pending call that stays out keeps every word of a set from its own on, so a noted set of 4,000
+//!   calls takes up to 63 words: that is where 79 and 136 megabytes go (registers of 4,000 calls, of which 30 % never return).
+//!   Lists of the pending calls used, beside the first completed call left, would take less. *To change:* `Known`, whose value is a
+//!   list of configurations, and the law that compares their sets.
+//! - A counter is first asked whether it has no linearization whatever its pending calls add (`any_adds`). A fault that shows after
+//!   many pending adds could otherwise be explained by any of the ways in which these add up, and a search by blocks tries them
+//!   all. If pending adds may make up any difference, one number for each set of completed calls is enough. It takes whole layers
+//!   of these sets, without looking ahead to a `get`, so that the proof is one simulation; with 16 clients a layer is too wide. Of
+//!   groups of calls it is not asked, since these mostly have a run then.
 #![tactic(auto)]
 
 mod any_adds;

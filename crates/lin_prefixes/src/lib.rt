@@ -16,6 +16,68 @@
 //! - `only_replies`: pending calls that can have one reply only.
 //! - `crossed_calls`: two calls of which each would have to come before the other.
 //! - `whole_search`: the search of a whole problem by its prefixes; `whole_answer`: what it answers.
+//!
+//! What it promises the crates above, by the contracts of `search_by_prefixes`:
+//!
+//! - `Found` is the least linearization; `Refuted` is returned only if there is none, with the first of the longest runs. That run
+//!   comes from searches of smaller problems for their least linearizations alone, whatever these do not know.
+//! - Let k be a call. A *run of k* has no call above k and every call that returned before k was called. Each run is a run of its
+//!   greatest call, and if k has none no later call has one. So the last call that has a run is found by halving. From there
+//!   downwards, its *open* calls, the completed ones that do not precede it, are left out, none, one, two and so on, and each time
+//!   the rest is searched, as long as a run could be as long as the best one.
+//! - A *conflict* of k is a group of open calls that no run of k has all of, so a choice of calls to leave out that misses one is
+//!   passed over. Conflicts are found by halving: first single calls, and then, whenever a choice is tried, whether a run has all
+//!   the other open calls. In such a question the calls outside the group lose their replies and may stay out, so its *no* is
+//!   right. Only a queue's open dequeues and a stack's open pops stay out altogether, and then the calls that put in what they took
+//!   may too: as pending calls they would take what nobody took, and hide what is lost. Which group is asked about is a hint.
+//! - In a problem with many pending calls, a search that tells nothing of a part is followed by one that tries pending calls only
+//!   between completed ones (`lin_fewer`). A counter with many of them is refuted at once if it has no linearization whatever these
+//!   add.
+//! - A pending `lock` or `unlock` of a mutex may have no step, but if it has one, its reply is `ok`. For the longest run each of
+//!   them returns with it behind all events (`only_replies`): the runs stay the same lists. So a run need not end with all of them.
+//! - If the processes of several acquires call no unlock after them up to k, a run of k has one of these acquires at most: nobody
+//!   gives the mutex back. If it has one that is open, it may have an earlier one in its place, since behind it there are only
+//!   tries that answered 'no', and they do so whoever holds the mutex. So all of them that are open are *spared*, but for the
+//!   first: they are in none of the runs that are tried. `PartSearch::stand_ins` says so by a number for each call, which
+//!   `held_until` finds.
+//! - `PartSearch` is the contract of the search of a part. If one does not know, the whole ends with `None`, so `Some` is right for
+//!   any problem. The budget covers all work, and the stop is asked within it. Two calls that *cross* (one returned before the
+//!   other was called, and yet needs it; `some_cross` answers exactly whether there are such) and the cases of 'in vain' refute a
+//!   part before any search.
+//!
+//! Why it is so:
+//!
+//! - Crossing calls are looked for in each part before a search, and not within it. Otherwise a queue with two exchanged results
+//!   would make a first search go through all orders between them.
+//! - `--progress` counts the search by blocks as searches of prefixes. It is tried between two searches of one part, so to tell it
+//!   apart each search of a part would have to tell the watcher, which `lin_prefixes` does not know. *To change:* a watcher in
+//!   `PartSearch`.
+//! - `lin_prefixes` knows any search through one trait, compares what it makes, replays what it finds, and leaves calls out by
+//!   recursion, so no set of calls is a value. The whole is refuted first and on its own, since a linearization may be shorter than
+//!   a longest run. It never leaves out more than 256 calls, since each is one level of the recursion.
+//! - A bug that shows in several replies at once is found by conflicts. Without them every subset of the open calls would be tried.
+//!   When a conflict is tested, all other open calls are free, not gone, since a run may need one of them. Each halving takes a
+//!   search, so there are a few for each call that a run lacks. If a group of several calls is a conflict, none of them need be one
+//!   by itself.
+//! - A group of calls that a search could not decide is asked about only once, and so are its parts at the same call: what is not
+//!   decided for many calls is seldom decided for few (`untold_groups`, a hint). If something is known ahead, such a question
+//!   searches for one round only, since what is known mostly shows by itself that no run has the group. Without both, a stack with
+//!   a backlog of 32 and 4,096 calls made four times as many lifts, most of them in the second round of such questions.
+//! - Pending locks and unlocks return with `ok` behind all events before a mutex's longest run is sought. A pending call that stays
+//!   pending stands at the end of each candidate, and so has to have a step there, which a lock of a held mutex has not. A
+//!   completed one may be left out like any other open call. How the problem is made is not proved: it is compared with the
+//!   original, call by call. Registers and queues need none of it, since each of their pending calls always has a step; a counter's
+//!   `add` has none only beyond 64 bits. *To change:* nothing, for another operation with one reply, but `only_reply`.
+//! - Of the acquires of a mutex that nobody gives back before a cut only the first is tried there. A run has one of them at most;
+//!   and where it has a later one it may have the first in its place, since what follows are tries that answered 'no', which they
+//!   do whoever holds the mutex. Such a run is as long and stands before the other in lexicographic order. Two such acquires are
+//!   also a conflict, but each pair of them then costs a search, and each that is kept another: with a hundred `lock`s that never
+//!   returned thousands of searches, where three are enough. `PartSearch` tells it by one number for each call (`stand_ins`), found
+//!   once for the whole problem: at a cut no calls are compared with one another, and what the search by prefixes is proved from
+//!   speaks of no kind. *To change:* where other operations repeat each other so, their numbers.
+//! - Open dequeues and pops are left out of such a question, and not made pending. A queue that forgot items has no run with a
+//!   dequeue of a later one, but it has one with some pending dequeues, which take the lost items. So no conflict was found as long
+//!   as one open dequeue was free (a queue of 16 processes that forgot one item had no answer).
 #![tactic(auto)]
 
 mod anew_search;

@@ -35,9 +35,10 @@ const TASKS_EACH: usize = 4;
 /// The calling thread begins alone (`check_alone`), over a memo of its own. Where there is one worker it goes on to the end. Where
 /// there are more and its search stalls, they share the search (`check_over_table`), over what the calling thread refuted; so it is
 /// for any number of workers where its search met the limit. A gate that wants workers has them at once.
-/// The verdict is the same for every number of workers and shards and on every schedule. With a limit, which bounds the search
-/// of each task, it may be `Undecided`, and that only where there are more runs than the limit; and so it may be where seconds are
-/// given, which the runtime's clock counts from the start of the check. A clock that fails ends nothing.
+/// Without a limit and seconds the verdict is the same for every number of workers and shards and on every schedule. With a limit,
+/// which bounds the search of each task, it may be `Undecided`, and that only where there are more runs than the limit. What other
+/// workers stored shortens a search, so whether it meets the limit may depend on the schedule. It may be `Undecided` too where
+/// seconds are given, which the runtime's clock counts from the start of the check. A clock that fails ends nothing.
 ///
 /// The number stored is always told. It is below 2^54, and there are as many reachable configurations or more: a search that
 /// takes more than 10,000 steps passes over calls that add nothing (`search_passing_over`).
