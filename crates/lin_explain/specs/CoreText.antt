@@ -138,11 +138,12 @@ abbrev pub is_back_before : ℕ → Option (ℕ × Reply) → Bool
 is_back_before event None = false
 is_back_before event (Some returned) = nat_lt returned.0 event
 
--- The first call of a core gives anew, and returned before the second was called. What came before it does not matter then.
+-- The first call of a core gives anew, and is the only one or returned before the second was called. What came before it does not
+-- matter then.
 abbrev pub begins_anew : Option (ProblemCall Op Reply) → Option (ProblemCall Op Reply) → Bool
 begins_anew (Some first) (Some second) = gives_anew first.op first.returned && is_back_before second.called first.returned
 begins_anew None second = false
-begins_anew (Some first) None = false
+begins_anew (Some first) None = gives_anew first.op first.returned
 
 -- The call of this place in a core.
 abbrev pub call_at : List (ProblemCall Op Reply) → List CoreCall → ℕ → Option (ProblemCall Op Reply)

@@ -317,12 +317,13 @@ fn begins_anew(first: &ProblemCall<Op, Reply>, second: &ProblemCall<Op, Reply>) 
     gives_anew(&first.op, &first.returned) && is_back_before(second.called, &first.returned)
 }
 
-// Whether the first call of a core gives anew, and returned before the second was called.
+// Whether the first call of a core gives anew, and is the only one or returned before the second was called.
 fn gives_first(calls: &[ProblemCall<Op, Reply>], core: &[CoreCall]) -> bool
     ensures { result ≡ begins_anew (call_at calls.now core.now 0) (call_at calls.now core.now 1) }
 {
     match (call_at(calls, core, 0), call_at(calls, core, 1)) {
         (Some(first), Some(second)) => begins_anew(first, second),
+        (Some(first), None) => gives_anew(&first.op, &first.returned),
         _ => false,
     }
 }
