@@ -1,3 +1,4 @@
+pub mod LimitFacts
 pub mod TotalLemmas
 pub mod StepLemmas
 pub mod HandLemmas
