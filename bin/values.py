@@ -11,7 +11,7 @@ def values_in(history):
     for line in history.split(b"\n"):
         try:
             event = json.loads(line) if b'"text"' in line else {}
-            numbers, texts = event.get("args", event.get("result")), event.get("text")
+            numbers, texts = event.get("args", event.get("result", event.get("start"))), event.get("text")
         except (ValueError, AttributeError):
             continue
         pairs = zip(numbers, texts) if isinstance(numbers, list) and isinstance(texts, list) else [(numbers, texts)]
