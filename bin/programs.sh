@@ -7,6 +7,7 @@ true >&2 && [ ! /dev/fd/2 -ef "$self" ] || exec 2>/dev/null
 top=${self%/bin/*}
 proved=$top/crates/lincheck_program/out/lincheck_program
 tried=$top/out/lincheck_tried
+[ -d "$top/crates" ] || proved=$top/libexec/lincheck # in a release, which has no sources
 
 # Ends with these words.
 fail() {
@@ -31,6 +32,7 @@ runs() {
 
 # Whether the proved program is there, built from these sources.
 is_proved() {
+    [ -d "$top/crates" ] || return 0
     is_current "$proved" "$top/crates.txt" "$top"/crates/*/src "$top"/crates/*/specs "$top"/crates/*/proofs
 }
 
