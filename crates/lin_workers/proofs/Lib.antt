@@ -1,3 +1,4 @@
+pub mod LimitFacts
 pub mod RunLemmas
 pub mod PathLemmas
 pub mod LevelLemmas
