@@ -139,9 +139,26 @@ function* barsInSight({ bars }) {
 function drawMarked() {
   const { view, chosen, hovered } = shown, isInSight = (box) => box.right > shown.names && box.left < shown.width;
   for (const bar of view.marked.filter((it) => isInSight(boxOf(it)))) drawBar(bar);
-  for (const call of view.isCore ? [] : core) drawRing(view.bars.get(call), colours.order, 2);
+  for (const call of view.isCore ? [] : [...core, ...gets]) drawRing(view.bars.get(call), colours.order, 2);
   drawRing(view.bars.get(hovered), colours.chosen, 2);
   drawRing(view.bars.get(chosen), colours.chosen, 3.5);
+}
+
+/** All that is written of the call under the cursor, across what is beside its bar, where the bar has no room for it. */
+function drawWhole(bar) {
+  if (!bar) return;
+  const { left, right, middle } = boxOf(bar), { font } = shown.sizes, begin = Math.max(left, shown.names);
+  useFont(font, "bold");
+  const words = labelOf(bar.call, Infinity)[0], width = pen.measureText(words).width + 2 * INSET;
+  if (width <= Math.min(right, shown.width) - begin) return;
+  const from = Math.max(shown.names, Math.min(begin, shown.width - width));
+  pen.fillStyle = colours.paper;
+  pen.fillRect(from, middle - font, width, 2 * font);
+  pen.strokeStyle = colours.chosen;
+  pen.lineWidth = 1;
+  pen.strokeRect(from, middle - font, width, 2 * font);
+  pen.fillStyle = colours.ink;
+  pen.fillText(words, from + INSET, middle + 1);
 }
 
 function drawRing(bar, colour, width) {

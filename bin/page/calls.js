@@ -18,6 +18,7 @@ const calls = data.calls.map(([process, object, op, args, line, returned, reply]
 
 const run = data.run.map((number) => calls[number]);
 const core = data.core.map(([number]) => calls[number]);
+const gets = data.gets.map((number) => calls[number]); // of a counter, whose sums leave no room for the reply of the last one
 const runName = data.linearizable ? "order" : "longest run";
 
 run.forEach((call, index) => Object.assign(call, { place: index + 1, state: "run" }));
@@ -64,6 +65,17 @@ function placeOf(call) {
   return run.length && (data.linearizable || call.object.name === data.object) ? `not in the ${runName}` : "";
 }
 
+/** The calls that matter for the sums: those on the counter that are not over before the first get, nor begin after the last. */
+function callsOfSums() {
+  const from = gets.length > 1 ? gets[0].line : 0;
+  return calls.filter((call) => call.object === gets[0].object && call.returned > from && call.line < gets.at(-1).returned);
+}
+
+/** The call of which this line is one, or null. */
+function callOn(line) {
+  return calls.find((call) => call.line === line || call.returned === line) ?? null;
+}
+
 /** What is shown where the cursor is on a call. */
 function toldOf(call) {
   const numbers = said(call, (number) => number);
@@ -73,6 +85,7 @@ function toldOf(call) {
     placeOf(call),
     call.place ? `after it: ${call.object.name} = ${stateAfter(call)}` : "",
     call.core ? `one of the calls that alone have no order${call.core.isPending && !isPending(call) ? ", which needs no reply for that" : ""}` : "",
+    call === gets.at(-1) ? "no order gives it this reply" : "",
     numbers === said(call) ? "" : `in the input: ${numbers}`,
   ].filter((line) => line);
 }

@@ -145,6 +145,7 @@ function draw() {
   drawMarked();
   shown.pairs.forEach(drawPair);
   if (shown.view.isCore) shown.view.bars.forEach(drawLabel); // in front of the arrows
+  drawWhole(shown.view.bars.get(shown.hovered));
   drawNames();
   drawAxis();
 }

@@ -22,6 +22,7 @@ function writeLegend() {
     [isCore && shown.pairs.length, drawStroke, "put", "put what the other took"],
     [shown.needed.length, drawStroke, "order", `returned before the other was called${least ? "; without this there would be an order" : ""}`],
     [!isCore && core.length, drawFrame, "order", "one of the calls that alone have no order"],
+    [gets.length, drawFrame, "order", gets.length > 1 ? "the two gets of which no order gives the second its reply" : "no order gives it its reply"],
   ].filter(([isThere]) => isThere);
   legend.replaceChildren(
     ...coloursInView().map(([state, isOpen, text]) => legendItem((brush) => drawSwatch(brush, lookOf({ state }, isOpen), isOpen), text)),

@@ -12,6 +12,7 @@ const ZOOM = 1.25, STEP = 120; // of a key
 const TURN = 400, LINE = 30; // pixels by which a wheel is turned to zoom by e, and those of a line
 const LEAST_MOVE = 4; // pixels from which a pressed mouse moves the chart
 const BORDERS = 2; // of the chart
+const MOST_TOLD = 20; // calls that are named for who does not see the canvas
 
 /** The scale at which all events are in sight. */
 const fitting = () => (chart.clientWidth - shown.names - 2) / shown.view.lines.length;
@@ -65,7 +66,9 @@ function show(chosen, isCore) {
   chart.scrollLeft = chart.scrollTop = 0;
   setScale(opening(), shown.names);
   found.textContent = chosen.length ? "" : "no call";
-  for (const button of document.querySelectorAll("#views button")) button.setAttribute("aria-pressed", String((button.id === "core") === isCore));
+  const isPart = isCore || (gets.length > 0 && chosen.length < calls.length);
+  for (const button of document.querySelectorAll("#views button")) button.setAttribute("aria-pressed", String((button.id === "core") === isPart));
+  canvas.setAttribute("aria-label", `${chosen.length} calls in ${view.lanes.length} lanes: ${chosen.slice(0, MOST_TOLD).map((call) => said(call)).join("; ")}`);
   writeLegend();
 }
 
@@ -76,11 +79,18 @@ function showCore() {
   chart.scrollLeft = space.offsetWidth;
 }
 
+/** Shows the gets of a counter whose sums leave no room, and what lies between them, all in sight. */
+function showSums() {
+  objectChoice.value = valueChoice.value = "";
+  show(callsOfSums(), false);
+  setScale(fitting(), shown.names);
+}
+
 /** Shows the calls of the filter, and of these first one that matters. */
 function showAll() {
   const object = objectChoice.value, words = valueChoice.value.trim();
   show(calls.filter((call) => matches(call, object, words)), false);
-  const first = core[0] ?? calls.find(({ state }) => state === "next");
+  const first = core[0] ?? gets[0] ?? calls.find(({ state }) => state === "next");
   if (first && shown.view.bars.has(first)) bringIntoView(first, 0.4);
 }
 
@@ -121,8 +131,15 @@ function choose(call) {
     chart.scrollIntoView({ block: "nearest" });
     bringIntoView(call);
   }
+  if (call) history.replaceState(null, "", `#line-${call.line}`);
   tellChosen();
   drawSoon();
+}
+
+/** Chooses the call on the line that the address names, as page.html#line-12. */
+function chooseNamed() {
+  const found = /^#line-(\d+)$/.exec(location.hash), call = found && callOn(+found[1]);
+  if (call) choose(call);
 }
 
 /** Shows what is told of the chosen call, below the chart, where its bar is in sight. */
@@ -242,11 +259,11 @@ document.getElementById("fit").addEventListener("click", KEYS.f);
 objectChoice.addEventListener("change", showAll);
 valueChoice.addEventListener("input", showAll);
 
-/** The buttons of the two views, where there is a core. */
+/** The buttons of the two views, where there is a core, or sums. */
 function addViews() {
-  const alone = core.length === 1 ? "this call alone" : `these ${core.length} calls alone`;
-  const views = { core: [alone, showCore], all: [`all ${calls.length.toLocaleString("en")} calls`, showAll] };
-  for (const [id, [textContent, onclick]] of core.length ? Object.entries(views) : []) {
+  const alone = core.length === 1 ? "this call alone" : `these ${core.length} calls alone`, between = gets.length > 1 ? "these gets and what lies between" : "this get and what lies before";
+  const views = { core: core.length ? [alone, showCore] : [between, showSums], all: [`all ${calls.length.toLocaleString("en")} calls`, showAll] };
+  for (const [id, [textContent, onclick]] of core.length || gets.length ? Object.entries(views) : []) {
     document.getElementById("views").append(Object.assign(document.createElement("button"), { type: "button", id, textContent, onclick }));
   }
 }
@@ -263,7 +280,10 @@ function begin() {
   addViews();
   for (const { name } of data.objects) objectChoice.append(new Option(name, name));
   if (core.length) showCore();
+  else if (gets.length) showSums();
   else showAll();
+  addEventListener("hashchange", chooseNamed);
+  chooseNamed();
   matchMedia("(prefers-color-scheme: dark)").addEventListener("change", () => { readColours(); writeLegend(); drawSoon(); });
   new ResizeObserver(resize).observe(document.getElementById("frame"));
 }

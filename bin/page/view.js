@@ -38,22 +38,42 @@ function livesOf(bars) {
 }
 
 /** The lane that became free last before this slot. */
-function freeLane(lanes, slot, isFree) {
+function freeLane(lanes, slot, isFree = () => true) {
   const free = lanes.filter((lane) => lane.last < slot && isFree(lane));
   return free.reduce((best, lane) => (!best || lane.last > best.last ? lane : best), null);
 }
 
-/** The lanes of these bars. A process goes on in the lane of one that ended; where there are many, also in that of one that calls
- * no more. In the core each has its own. */
-function lanesOf(bars, isCore) {
-  const lives = livesOf(bars), areMany = lives.length > MOST_LANES, lanes = [];
-  for (const life of lives) {
-    let lane = freeLane(lanes, life.first, ({ hasEnded }) => areMany || (hasEnded && !isCore));
-    if (!lane) lanes.push((lane = { lives: [], bars: [], openFrom: null }));
-    lane.lives.push(life);
-    for (const bar of life.bars) lane.bars.push(bar);
-    Object.assign(lane, { last: life.last, hasEnded: life.hasEnded });
+/** Adds what was a lane of its own to another, or to none. */
+function addTo(lanes, lane, { lives, bars, last, hasEnded }) {
+  if (!lane) lanes.push((lane = { lives: [], bars: [], openFrom: null }));
+  for (const life of lives) lane.lives.push(life);
+  for (const bar of bars) lane.bars.push(bar);
+  return Object.assign(lane, { last, hasEnded });
+}
+
+let firsts = null; // by each process the first one in its lane, once they are asked for
+
+/** By each process the one that it goes on from, and that one's in turn: a client goes on as a new process after a call that never
+ * returned. It is the same in every view. */
+function firstsOf() {
+  const lanes = [], found = new Map();
+  for (const life of livesOf(barsOf(calls, eventLines(calls, false), false))) {
+    const lane = addTo(lanes, freeLane(lanes, life.first, ({ hasEnded }) => hasEnded), { ...life, lives: [life], bars: [] });
+    found.set(life.process, lane.lives[0].process);
   }
+  return found;
+}
+
+/** The lanes of these bars, one for each client; where there are many, it goes on in the lane of one that calls no more. */
+function lanesOf(bars, isCore) {
+  firsts ??= firstsOf();
+  const clients = new Map(), lanes = [];
+  for (const life of livesOf(bars)) {
+    const first = firsts.get(life.process), own = clients.get(first) ?? addTo([], null, { lives: [], bars: [] });
+    clients.set(first, addTo([], own, { ...life, lives: [life], bars: life.bars }));
+  }
+  const areMany = !isCore && clients.size > MOST_LANES;
+  for (const client of clients.values()) addTo(lanes, areMany ? freeLane(lanes, client.lives[0].first) : null, client);
   return lanes.sort((a, b) => a.lives[0].process - b.lives[0].process);
 }
 
@@ -75,7 +95,7 @@ function viewOf(chosen, isCore) {
     lane.bars.forEach((bar) => { bar.lane = index; });
     endOpenBars(lane);
   });
-  const marked = isCore ? [] : bars.filter(({ call }) => call.core || call.state === "next");
+  const marked = isCore ? [] : bars.filter(({ call }) => call.core || call.state === "next" || gets.includes(call));
   return { isCore, lines, lanes, marked, bars: new Map(bars.map((bar) => [bar.call, bar])) };
 }
 
