@@ -8,6 +8,8 @@ from values import FIRST_VALUE
 
 MOST_CALLS, MOST_IN_ALL = 16_384, 262_144
 MOST_LETTERS = 1_000  # of a value
+ANSWER_VALUES = {"read", "get", "deq", "pop"}
+OK = object()  # the reply of an operation that answers nothing but that it is done
 
 
 class Recording:
@@ -57,11 +59,13 @@ class Recording:
             line["text"] = [self.texts.get(number) for number in numbers]
         self.lines.append(line)
 
-    def ret(self, process, name, reply):
-        """A return: `ok`, a flag, None where there was nothing, or a value."""
-        result = reply if reply is None or isinstance(reply, bool) or reply is OK else self.number(reply)
-        line = {"event": "return", "process": process, "object": name, "result": result}
-        self.lines.append({**line, **({"text": self.texts[result]} if not isinstance(result, (bool, str)) and result in self.texts else {})})
+    def ret(self, process, name, op, reply):
+        """A return: OK, a flag, None where there was nothing, or a value, which may be a flag itself."""
+        line = {"event": "return", "process": process, "object": name, "result": "ok" if reply is OK else reply}
+        if reply is not None and reply is not OK and (op in ANSWER_VALUES or not isinstance(reply, bool)):
+            line["result"] = number = self.number(reply)
+            line |= {"text": self.texts[number]} if number in self.texts else {}
+        self.lines.append(line)
 
     def end(self, event, process, name):
         """A `fail` or an `info`."""
@@ -71,6 +75,3 @@ class Recording:
         """The whole history."""
         lines = [{"format": 2}, *self.declared.values(), *self.lines]
         return "".join(json.dumps(line, ensure_ascii=False, separators=(",", ":")) + "\n" for line in lines)
-
-
-OK = "ok"
