@@ -9,7 +9,9 @@ use Rattle.lin_history.specs.Problems.Linearizations.{IsLinearization}
 use Rattle.lin_history.specs.Recorder.RecordedHistory.{RecordedHistory}
 use Rattle.lin_history.specs.Locality.Whole.{IsLinearizationOfWhole}
 use Rattle.lin_history.specs.Locality.RecordedWhole.{whole_of, part_of}
+use Rattle.lin_history.specs.Locality.LocalityLaw.{HasEach, HasWhole, LocalityLaw}
 use Rattle.lin_history.specs.Locality.LocalityLemmas.{none_of_whole}
+use Rattle.lin_text.specs.Text.{MeansHistory}
 use Rattle.lin_workers.specs.Bounds.{Bounds}
 use Rattle.lin_workers.specs.Options.{Options, bounds_of}
 use Rattle.lincheck.specs.declared.answer_form.AnswerForm.{AnswerForm}
@@ -21,7 +23,7 @@ use Rattle.lincheck.specs.Report.{stored_line}
 use Rattle.lincheck.specs.Each.{IsStatusOf, is_no, is_undecided}
 use Rattle.lincheck.specs.Prints.{WithStats, PrintsWith, PrintsEach, PrintsHistory, Prints}
 use Rattle.lincheck.specs.Ran.{RanFrom}
-use Rattle.lincheck.specs.Sound.{ReportsLinearization, HasEach, IsSoundYes, IsSound, IsSoundRun}
+use Rattle.lincheck.specs.Sound.{ReportsLinearization, IsSoundYes, IsSound, IsSoundRun}
 
 abbrev HasNone : RecordedHistory → Type 0
 HasNone h = (l : List (Placed Reply)) → IsLinearizationOfWhole (whole_of h) l → ⊥
@@ -99,11 +101,15 @@ no_each options events h printed w =
 
 -- ---- any form
 
-yes_of : (options : Options) (form : AnswerForm) (text : List ℕ) (h : RecordedHistory) (printed : List ℕ) → PrintsHistory options form text h Yes printed → IsSoundYes form options.stats h printed
-yes_of options Report text h printed w = yes_with options None h printed w
-yes_of options Explained text h printed w = yes_with options (Some w.0) h printed w.2
-yes_of options Each text h printed w = yes_each options None h printed w
-yes_of options EachExplained text h printed w = yes_each options (Some w.0) h printed w.2
+-- where each object of the history that the text means has a linearization, the whole has one
+each_and_whole : LocalityLaw → (text : List ℕ) (h : RecordedHistory) → MeansHistory text h → HasEach h → HasEach h × HasWhole h
+each_and_whole law text h means each = (each, law.whole h (means.told.events, means.history.events) each)
+
+yes_of : LocalityLaw → (options : Options) (form : AnswerForm) (text : List ℕ) (h : RecordedHistory) (printed : List ℕ) → MeansHistory text h → PrintsHistory options form text h Yes printed → IsSoundYes form options.stats h printed
+yes_of law options Report text h printed means w = yes_with options None h printed w
+yes_of law options Explained text h printed means w = yes_with options (Some w.0) h printed w.2
+yes_of law options Each text h printed means w = each_and_whole law text h means (yes_each options None h printed w)
+yes_of law options EachExplained text h printed means w = each_and_whole law text h means (yes_each options (Some w.0) h printed w.2)
 
 no_of : (options : Options) (form : AnswerForm) (text : List ℕ) (h : RecordedHistory) (printed : List ℕ) → PrintsHistory options form text h No printed → HasNone h
 no_of options Report text h printed w = no_with options None h printed w
@@ -111,13 +117,13 @@ no_of options Explained text h printed w = no_with options (Some w.0) h printed 
 no_of options Each text h printed w = no_each options None h printed w
 no_of options EachExplained text h printed w = no_each options (Some w.0) h printed w.2
 
-sound : (options : Options) (form : AnswerForm) (text : List ℕ) (status : Status) (printed : List ℕ) → Prints options form text status printed → IsSound form options.stats text status printed
-sound options form text Yes printed p = (p.0, p.1, yes_of options form text p.0 printed p.2)
-sound options form text No printed p = (p.0, p.1, no_of options form text p.0 printed p.2)
-sound options form text Undecided printed p = tt
-sound options form text Refused printed p = tt
+sound : LocalityLaw → (options : Options) (form : AnswerForm) (text : List ℕ) (status : Status) (printed : List ℕ) → Prints options form text status printed → IsSound form options.stats text status printed
+sound law options form text Yes printed p = (p.0, p.1, yes_of law options form text p.0 printed p.1 p.2)
+sound law options form text No printed p = (p.0, p.1, no_of options form text p.0 printed p.2)
+sound law options form text Undecided printed p = tt
+sound law options form text Refused printed p = tt
 
 -- What a run writes is sound.
-pub sound_run : (options : Options) (form : AnswerForm) (source old new : Option (List ℕ)) (result : Result Status RunFault) → RanFrom options form source old new result → IsSoundRun form options.stats source old new result
-sound_run options form source old new (Ok status) r = (r.0, r.1, r.2.0, sound options form r.0 status r.2.0 r.2.1, r.2.2)
-sound_run options form source old new (Err fault) r = tt
+pub sound_run : LocalityLaw → (options : Options) (form : AnswerForm) (source old new : Option (List ℕ)) (result : Result Status RunFault) → RanFrom options form source old new result → IsSoundRun form options.stats source old new result
+sound_run law options form source old new (Ok status) r = (r.0, r.1, r.2.0, sound law options form r.0 status r.2.0 r.2.1, r.2.2)
+sound_run law options form source old new (Err fault) r = tt

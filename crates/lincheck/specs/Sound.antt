@@ -1,13 +1,13 @@
 -- What most readers want of a run, in words that know only linearizations of the whole (Herlihy and Wing 1990): it follows from
 -- what a run writes (`Ran`).
-use Rattle.std.specs.Prelude.{◌≡◌, ℕ, ◌<◌, Bool, false, Option, IfSome, List, [], ◌++◌, length, Result, Ok, Err}
+use Rattle.std.specs.Prelude.{◌≡◌, ℕ, Bool, false, Option, IfSome, List, [], ◌++◌, Result, Ok, Err}
 use Rattle.std.specs.Io.KnownBytes.{Appends}
 use Rattle.lin_object.specs.declared.reply.Reply.{Reply}
 use Rattle.lin_history.specs.declared.locality.placed.Placed.{Placed}
-use Rattle.lin_history.specs.Problems.Linearizations.{IsLinearization}
 use Rattle.lin_history.specs.Recorder.RecordedHistory.{RecordedHistory}
 use Rattle.lin_history.specs.Locality.Whole.{IsLinearizationOfWhole}
-use Rattle.lin_history.specs.Locality.RecordedWhole.{whole_of, part_of}
+use Rattle.lin_history.specs.Locality.RecordedWhole.{whole_of}
+use Rattle.lin_history.specs.Locality.LocalityLaw.{HasWhole, HasEach}
 use Rattle.lin_text.specs.Text.{MeansHistory}
 use Rattle.lincheck.specs.declared.answer_form.AnswerForm.{AnswerForm}
 use Rattle.lincheck.specs.declared.answer_form.AnswerForm.TheVariants.{Report, Explained, Each, EachExplained}
@@ -21,16 +21,12 @@ abbrev pub ReportsLinearization : Bool → RecordedHistory → List ℕ → Type
 ReportsLinearization stats h printed =
     (l : List (Placed Reply)) × IsLinearizationOfWhole (whole_of h) l × (more : List ℕ) × (printed ≡ yes_report h l ++ more) × (stats ≡ false → more ≡ [])
 
--- Each object by itself has a linearization.
-abbrev pub HasEach : RecordedHistory → Type 0
-HasEach h = (object : ℕ) → object < length h.objects → (l : List ℕ) × IsLinearization (part_of h object) l
-
--- What is so at `Yes`, in each form.
+-- What is so at `Yes`, in each form: with a line for each object nothing of an order is printed, but there is one.
 abbrev pub IsSoundYes : AnswerForm → Bool → RecordedHistory → List ℕ → Type 0
 IsSoundYes Report stats h printed = ReportsLinearization stats h printed
 IsSoundYes Explained stats h printed = ReportsLinearization stats h printed
-IsSoundYes Each stats h printed = HasEach h
-IsSoundYes EachExplained stats h printed = HasEach h
+IsSoundYes Each stats h printed = HasEach h × HasWhole h
+IsSoundYes EachExplained stats h printed = HasEach h × HasWhole h
 
 -- At `Yes` the text means a history and this is so; at `No` it means a history that has no linearization, in every form.
 abbrev pub IsSound : AnswerForm → Bool → List ℕ → Status → List ℕ → Type 0

@@ -11,20 +11,20 @@ pub(crate) const VERSION: &str = "0.1.0";
 
 /// What `--workers` is good for.
 pub(crate) const WORKERS: &str =
-    "Search each object with N workers, 1 to 64 [default: 4], but at most one per core. The
-answer is the same for every N; more workers speed up only the longest searches, and
-need many shards";
+    "Search each object with N workers, 1 to 64 [default: 4], but at most one per core.
+Without --limit and --seconds the answer is the same for every N; more workers speed up
+only the longest searches, and need many shards";
 
 /// What `--shards` is good for.
 pub(crate) const SHARDS: &str =
-    "Keep what the workers share in N shards, 1 to 256 [default: 16]. The answer is the
-same for every N; the more workers, the more shards they need to stay out of each
-other's way";
+    "Keep what the workers share in N shards, 1 to 256 [default: 16]. Without --limit and
+--seconds the answer is the same for every N; the more workers, the more shards they
+need to stay out of each other's way";
 
 /// What `--limit` is good for.
 pub(crate) const LIMIT: &str =
     "Try at most N calls in each part of a search, 1 to 1000000000000 [default: no limit].
-A search that would take for ever then ends with the answer `undecided`";
+A search that might never finish then ends with the answer `undecided`";
 
 /// What `--seconds` is good for.
 pub(crate) const SECONDS: &str =

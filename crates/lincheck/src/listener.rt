@@ -63,7 +63,7 @@ pub trait Listener {
     /// The check has ended with something undecided, and took this.
     fn leave_undecided(&self, _spent: &Spent<'_>) {}
 
-    /// The text is refused, for this.
+    /// The text is refused, for this. It is called once the answer is made, so no memory can be refused after it.
     fn refuse(&self, _text: &[u8], _fault: &TextFault) {}
 }
 

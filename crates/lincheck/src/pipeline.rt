@@ -21,7 +21,7 @@ use crate::lines::with_stats;
 use crate::listener::{Listener, NoListener};
 use crate::status::Status;
 use crate::verdict::Verdict;
-use lin_history::History;
+use lin_history::{History, locality_law};
 use lin_text::{
     Cause, MAX_INPUT_BYTES, TextFault, read_history, read_history_and_lines, write_cause,
 };
@@ -63,7 +63,7 @@ fn read_text<S: Source>(alloc: Global, source: &mut S) -> Result<Vec<u8>, RunFau
     Ok(text)
 }
 
-// The answer to a text that is no history. The listener is told.
+// The answer to a text that is no history. The listener is told once it is made.
 fn refused<L: Listener>(
     alloc: Global,
     text: &[u8],
@@ -76,9 +76,9 @@ fn refused<L: Listener>(
     if fault.cause == Cause::OutOfMemory {
         return Err(AllocError);
     }
-    listener.refuse(text, fault);
     let mut printed = Vec::new(alloc);
     write_cause(alloc, fault, &mut printed)?;
+    listener.refuse(text, fault);
     Ok((Status::Refused, printed))
 }
 
@@ -277,6 +277,7 @@ pub fn run_with<R: AllocGlobal + Threads + Clock + Sync, S: Source, W: Sink, L: 
     ensures source { S.failed source.new ≡ is_fault is_read result }
     ensures sink { W.failed sink.new ≡ is_fault is_write result }
 {
+    locality_law();
     let text = match read_text(rt.alloc(), source) {
         Ok(text) => text,
         Err(fault) => return Err(fault),
@@ -332,6 +333,8 @@ pub fn run_explained<R: AllocGlobal + Threads + Clock + Sync, S: Source, W: Sink
     requires sink { W.failed sink.old ≡ false }
     ensures ran { RanFrom options.now AnswerForm.Explained (S.remaining source.old)
         (W.contents sink.old) (W.contents sink.new) result }
+    ensures sound { IsSoundRun AnswerForm.Explained options.now.stats (S.remaining source.old)
+        (W.contents sink.old) (W.contents sink.new) result }
     ensures taken { TakesAtMost ENOUGH (S.remaining source.old) (S.remaining source.new) }
     ensures source { S.failed source.new ≡ is_fault is_read result }
     ensures sink { W.failed sink.new ≡ is_fault is_write result }
@@ -348,8 +351,8 @@ pub fn run_explained<R: AllocGlobal + Threads + Clock + Sync, S: Source, W: Sink
 
 /// Does what `run` does, but prints a line for each object in the order of declaration, in place of the report: `x: linearizable`,
 /// `x: not linearizable` or `x: undecided`. Each object is searched, also after one that is not linearizable or not decided. The
-/// status is `No` where an object is not linearizable, else `Undecided` where one is not decided, else `Yes`. Conditions, faults
-/// and what is left after them are those of `run`.
+/// status is `No` where an object is not linearizable, else `Undecided` where one is not decided, else `Yes`; at `Yes` the whole
+/// history has a linearization. Conditions, faults and what is left after them are those of `run`.
 pub fn run_each<R: AllocGlobal + Threads + Clock + Sync, S: Source, W: Sink>(
     rt: &R,
     source: &mut S,
@@ -359,6 +362,8 @@ pub fn run_each<R: AllocGlobal + Threads + Clock + Sync, S: Source, W: Sink>(
     requires source { S.failed source.old ≡ false }
     requires sink { W.failed sink.old ≡ false }
     ensures ran { RanFrom options.now AnswerForm.Each (S.remaining source.old)
+        (W.contents sink.old) (W.contents sink.new) result }
+    ensures sound { IsSoundRun AnswerForm.Each options.now.stats (S.remaining source.old)
         (W.contents sink.old) (W.contents sink.new) result }
     ensures taken { TakesAtMost ENOUGH (S.remaining source.old) (S.remaining source.new) }
     ensures source { S.failed source.new ≡ is_fault is_read result }

@@ -24,4 +24,4 @@ pub returns-clause-sink : goal.returns-clause-sink
 returns-clause-sink g c = rw c.ended.ensures (rw c.requires.sink at c.write_answer-written.ensures.failed ∙ sym (is_written c.in-Ok-answer.status c.write_answer-written.result))
 
 pub returns-clause-sound : goal.returns-clause-sound
-returns-clause-sound g c = sound_run c.args.options.now c.args.form _ _ _ _ (returns-clause-ran g c)
+returns-clause-sound g c = sound_run c.locality_law.ensures c.args.options.now c.args.form _ _ _ _ (returns-clause-ran g c)
