@@ -63,6 +63,9 @@ pub trait Listener {
     /// The check has ended with something undecided, and took this.
     fn leave_undecided(&self, _spent: &Spent<'_>) {}
 
+    /// The history has no calls. It is called once the answer is made.
+    fn find_no_calls(&self) {}
+
     /// The text is refused, for this. It is called once the answer is made, so no memory can be refused after it.
     fn refuse(&self, _text: &[u8], _fault: &TextFault) {}
 }

@@ -94,6 +94,13 @@ fn status_of(verdict: &Verdict) -> Status
     }
 }
 
+// Tells the listener of a history without calls.
+fn tell_if_empty<L: Listener>(history: &History, listener: &L) {
+    if history.call_count() == 0 {
+        listener.find_no_calls();
+    }
+}
+
 // What a history is answered: the status, and what is printed, with what explains it where the lines of the events are given.
 fn verdict_printed<R: AllocGlobal + Threads + Clock + Sync, L: Listener + Sync>(
     rt: &R,
@@ -111,6 +118,7 @@ fn verdict_printed<R: AllocGlobal + Threads + Clock + Sync, L: Listener + Sync>(
     };
     let explained = report_explained(rt.alloc(), history, &checked.verdict, lines)?;
     let printed = with_stats(rt.alloc(), explained, options.stats(), checked.stored)?;
+    tell_if_empty(history, listener);
     Ok((status_of(&checked.verdict), printed))
 }
 
@@ -171,6 +179,7 @@ fn each_printed<R: AllocGlobal + Threads + Clock + Sync, L: Listener + Sync>(
     let statuses = checked.statuses.as_slice();
     let told = report_each_explained(rt.alloc(), history, statuses, lines)?;
     let printed = with_stats(rt.alloc(), told, options.stats(), checked.stored)?;
+    tell_if_empty(history, listener);
     Ok((status_of_all(statuses), printed))
 }
 

@@ -28,11 +28,28 @@ fn seen_and(alloc: Global, value: &Value, key: &str, allowed: &str) -> Result<St
     format!(in alloc; "{seen}; {allowed}")
 }
 
+// Whether something stands in the line under a key.
+fn has(value: &Value, key: &str) -> bool {
+    value.get(key).is_some()
+}
+
 // What helps with an event that is none.
 fn hint_of_event(alloc: Global, value: &Value) -> Result<String, AllocError> {
     match word_at(value, "event") {
         Some("fail") => said(alloc, "\"fail\" needs {\"format\":2} as the first line"),
         Some("info") => said(alloc, "\"info\" needs {\"format\":2} as the first line"),
+        None if has(value, "type") && has(value, "f") => {
+            said(
+                alloc,
+                "this looks like an event of Jepsen; bin/from-jepsen makes a history of such events",
+            )
+        }
+        None if has(value, "ClientId") => {
+            said(
+                alloc,
+                "this looks like an operation of Porcupine; bin/from-porcupine makes a history of such operations",
+            )
+        }
         _ => seen_and(alloc, value, "event", EVENTS),
     }
 }

@@ -49,12 +49,25 @@ fn say_what_helps(rt: &HostRuntime) {
     }
 }
 
+// What is asked for by words that cannot be read: nothing, where one of them is not UTF-8.
+fn request_of_error(rt: &HostRuntime, kind: io::ErrorKind) -> Result<Request, RunFault> {
+    match kind {
+        io::ErrorKind::OutOfMemory => Err(RunFault::Memory),
+        io::ErrorKind::InvalidData => {
+            match format!(in rt.alloc(); "error: an argument is not UTF-8\n") {
+                Ok(text) => Ok(Request::Refused(text)),
+                Err(_) => Err(RunFault::Memory),
+            }
+        }
+        _ => Err(RunFault::Read),
+    }
+}
+
 // What the user asks for.
 fn request(rt: &HostRuntime) -> Result<Request, RunFault> {
     match words(rt) {
         Ok(words) => options_of(rt.alloc(), words.as_slice()).map_err(|_| RunFault::Memory),
-        Err(error) if error.kind() == io::ErrorKind::OutOfMemory => Err(RunFault::Memory),
-        Err(_) => Err(RunFault::Read),
+        Err(error) => request_of_error(rt, error.kind()),
     }
 }
 

@@ -106,6 +106,12 @@ impl<'a, E: AllocGlobal + Eprint + Sync> Listener for OnStandardError<'a, E> {
         }
     }
 
+    fn find_no_calls(&self) {
+        let _ = eprintln!(self.rt;
+            "lincheck: no calls: such a history is linearizable; a recorder that ends too early leaves one"
+        );
+    }
+
     fn refuse(&self, text: &[u8], fault: &TextFault) {
         if let Ok(hint) = hint_of(self.rt.alloc(), text, fault) {
             let _ = eprintln!(self.rt; "lincheck: {hint}");

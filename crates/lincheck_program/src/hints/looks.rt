@@ -39,7 +39,7 @@ fn look_of_text(text: &[u8]) -> Option<Look> {
 
 // What a line looks like, without spaces at its ends.
 fn look_of_line(line: &[u8]) -> Look {
-    if line.starts_with(b"{:") || line.starts_with(b"#") || line.starts_with(b"[{:") {
+    if line.starts_with(b"{:") || line.starts_with(b"[{:") || line.starts_with(b"#jepsen.") {
         Look::Edn
     } else if line.starts_with(b"[") {
         Look::Array
@@ -71,11 +71,9 @@ impl Look {
             }
             Look::Utf16 => "the text is UTF-16; write it as UTF-8",
             Look::Gzip => "the text is compressed: gzip -dc HISTORY | lincheck",
-            Look::Edn => {
-                "this looks like EDN; write each event as a JSON object on a line of its own"
-            }
+            Look::Edn => "this looks like EDN; bin/from-jepsen makes a history of one of Jepsen's",
             Look::Array => {
-                "this looks like a JSON array; write each event on a line of its own, without brackets and commas"
+                "this looks like a JSON array; write each event on a line of its own, without brackets and commas; bin/from-porcupine makes a history of one of Porcupine's"
             }
             Look::Comma => "the line ends with a comma; end it with a line feed alone",
             Look::SingleQuotes => "JSON has its names and words in double quotes",
