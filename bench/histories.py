@@ -591,6 +591,33 @@ def tries(count):
     yield returned(1, "m", OKAY)
 
 
+def free_tries(count):
+    """So many tries at once to take a mutex that nobody holds, each answered no."""
+    yield declared("m", "mutex")
+    for process in range(1, count + 1):
+        yield call(process, "m", "try_lock")
+    for process in range(1, count + 1):
+        yield returned(process, "m", "false")
+
+
+def rounds_and_tries(tries):
+    """So many calls of one process that takes a mutex and gives it back, again and again, and then so many tries at once that were
+    answered no."""
+
+    def history(calls):
+        yield declared("m", "mutex")
+        for _ in range(calls // 2):
+            for op in ("lock", "unlock"):
+                yield call(0, "m", op)
+                yield returned(0, "m", OKAY)
+        for process in range(1, tries + 1):
+            yield call(process, "m", "try_lock")
+        for process in range(1, tries + 1):
+            yield returned(process, "m", "false")
+
+    return history
+
+
 def register(processes):
     return lambda calls: lines("x", "register", simulated(Register(), processes, calls))
 
@@ -1034,6 +1061,8 @@ FAMILIES = {
         f"mutex_{processes}": Family(f"a mutex, {processes} processes, every third taken by `try_lock`", "calls", MORE_CALLS[:-1] + [16000], 0, mutex(processes, 30))
         for processes in (5, 30)
     },
+    "mutex_free_tries": Family("tries at once to take a mutex that nobody holds, each answered no", "calls", [500, 1000, 4000], 1, free_tries),
+    "mutex_rounds_and_tries": Family("a mutex taken and given back in turn, then 16 tries at once, each answered no", "calls", [900, 1000, 4000, 16000], 1, rounds_and_tries(16)),
     "mutex_unknown": Family("a mutex, 10 processes, 5 in 100 calls never return", "calls", [2000, 16000], 0, mutex(10, 30, 5)),
     **{
         f"mutex_two_{tenth}": Family(f"the same, 5 processes, and after {tenth} tenths a second holder", "calls", [500, 1000], 1, mutex(5, 30, 2, tenth))

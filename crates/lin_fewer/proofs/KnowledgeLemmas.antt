@@ -4,6 +4,7 @@ use Rattle.std.specs.Prelude.{slice_get}
 use Rattle.std.proofs.lemmas.List.{length-replicate}
 use Rattle.std.specs.Cmp.{IsEquivalence}
 use Rattle.lin_history.specs.Problems.Problem.{Problem}
+use Rattle.lin_history.specs.Problems.LegalLists.{next}
 use Rattle.lin_history.specs.Problems.Precedence.{IsCompleted}
 use Rattle.lin_history.specs.Problems.Continuations.{has, IsCompletion}
 use Rattle.lin_search.specs.AlikeLemmas.{AreAlike, turned, like_completion}
@@ -15,7 +16,7 @@ use Rattle.lin_search.specs.FirstCallLemmas.{completion_join, none_completes, ne
 use Rattle.lin_search.specs.NextCall.{IsNext, HasEveryCompleted}
 use Rattle.lin_search.specs.Answer.{HasNoCompletion}
 use Rattle.lin_fewer.specs.Fewer.{UsedFewer, IsNoWorse, FewerLaw}
-use Rattle.lin_fewer.specs.Knowledge.{IsBorne, HasEvery, ArePending, ArePendingTo, IsEveryTo, HaveCompletions, HaveNoCompletions}
+use Rattle.lin_fewer.specs.Knowledge.{IsBorne, IsStandIn, HasEvery, ArePending, ArePendingTo, IsEveryTo, HaveCompletions, HaveNoCompletions}
 use Rattle.lin_fewer.specs.Nodes.{BearsBy}
 use Rattle.lin_fewer.proofs.ReadLemmas.{get_end, has_past}
 use Rattle.lin_fewer.proofs.FrontLemmas.{completed_within, least_or}
@@ -113,6 +114,55 @@ module _ {State Op Reply : Type 0} (p : Problem State Op Reply) where
         outside = out;
         preceded = λ a before. (let h = b.next.preceded a before in sym (has_other new c a (λ e. apart a h e)) ∙ ap (λ (s : List Bool). has s a) with_ ∙ b.bears.fewer.subset a (has_still x.lifted c a c_within h));
         step = b.next.step;
+      }
+
+  -- without one that is identical to the call that led to it
+  pub borne_instead : AreAlike p p → (x : Configuration State) (c d : ℕ) (old new : List Bool) → length x.lifted ≡ length p.calls → (b : BearsBy p x c old) → IsStandIn p x.lifted c d old → with_call new d ≡ old → has new d ≡ false → IsBorne p x.lifted x.state new
+  borne_instead alike x c d old new flags b stand with_ out = record {
+    flags = same_length ∙ old_length;
+    fewer = record {
+      subset = λ e h. elim (same_or_not e d) [
+        | inl q ↦ absurd (let o = stand.minimal.outside in let k : has x.lifted d ≡ true = subst (λ (n : ℕ). has x.lifted n ≡ true) q h in cc)
+        | inr n ↦ sym (has_other new d e n) ∙ old_has e h
+      ];
+      completed = λ e done h. elim (has_with x.lifted c e (b.bears.fewer.completed e done (sym (ap (λ (a : List Bool). has a e) with_) ∙ has_still new d e new_within h))) [
+        | inl q ↦ absurd (stand.pending (subst (λ (n : ℕ). IsCompleted p n) q done))
+        | inr k ↦ k
+      ];
+    };
+    completes = (
+      d ∷ b.bears.completes.0,
+      completion_join p new x.state d b.bears.completes.0 after.0 (same_length ∙ old_length) next_new
+          (subst (λ (a : List Bool). IsCompletion p a after.0 b.bears.completes.0) (sym with_) (like_completion alike.there old b.state after.0 b.bears.completes.0 after.2 b.bears.completes.1)),
+    );
+  }
+    where
+      old_length : length old ≡ length p.calls
+      old_length = b.bears.flags
+
+      same_length : length new ≡ length old
+      same_length = sym (length_calls new (d ∷ [])) ∙ ap length with_
+
+      c_within : c < length x.lifted
+      c_within = let h = next_within p x.state b.state c b.next.step in omega (arith, h, flags)
+
+      new_within : d < length new
+      new_within = let h = stand.minimal.within in omega (arith, h, same_length, old_length)
+
+      old_has : (e : ℕ) → has x.lifted e ≡ true → has (with_call new d) e ≡ true
+      old_has e h = ap (λ (a : List Bool). has a e) with_ ∙ b.bears.fewer.subset e (has_still x.lifted c e c_within h)
+
+      after : (w : State) × (next p x.state d ≡ Some w) × (p.same_state b.state w ≡ true)
+      after = (stand.stands x.state b.next.outside).later x.state b.state b.next.step
+
+      apart : (a : ℕ) → has x.lifted a ≡ true → a ≡ d → ⊥
+      apart a h e = let o = stand.minimal.outside in let k : has x.lifted d ≡ true = subst (λ (n : ℕ). has x.lifted n ≡ true) e h in absurd (cc)
+
+      next_new : IsNext p new x.state d after.0
+      next_new = record {
+        outside = out;
+        preceded = λ a before. (let h = stand.minimal.preceded a before in sym (has_other new d a (λ e. apart a h e)) ∙ old_has a h);
+        step = after.1;
       }
 
   -- what is borne gives a completion

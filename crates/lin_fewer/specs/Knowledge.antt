@@ -4,6 +4,7 @@ use Rattle.lin_history.specs.Problems.Problem.{Problem}
 use Rattle.lin_history.specs.Problems.Precedence.{IsCompleted}
 use Rattle.lin_history.specs.Problems.Continuations.{has, IsCompletion}
 use Rattle.lin_search.specs.Configuration.{Configuration}
+use Rattle.lin_search.specs.Entries.{IsMinimal}
 use Rattle.lin_search.specs.NeedlessCalls.{StandsFor}
 use Rattle.lin_search.specs.Answer.{HasNoCompletion}
 use Rattle.lin_fewer.specs.Fewer.{UsedFewer}
@@ -13,6 +14,13 @@ pub record IsBorne {State Op Reply : Type 0} (p : Problem State Op Reply) (set :
   pub flags : length borne ≡ length p.calls
   pub fewer : UsedFewer p set borne
   pub completes : (l : List ℕ) × IsCompletion p borne s l
+
+-- The other call is pending as this one is, identical to it, may follow the set, and is in what is borne.
+pub record IsStandIn {State Op Reply : Type 0} (p : Problem State Op Reply) (set : List Bool) (c other : ℕ) (borne : List Bool) : Type 0 where
+  pub pending : IsCompleted p c → ⊥
+  pub minimal : IsMinimal p set other
+  pub there : has borne other ≡ true
+  pub stands : (s : State) → has set c ≡ false → StandsFor p set s c other
 
 -- An identical call of a lower number is not in the set.
 pub record HasEarlier {State Op Reply : Type 0} (p : Problem State Op Reply) (set : List Bool) (c : ℕ) : Type 0 where

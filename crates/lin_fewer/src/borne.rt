@@ -1,35 +1,106 @@
 //! What the nodes bear, once one of them leads to a configuration that has a completion.
 
-ghost use Rattle.std.specs.Prelude.{◌≡◌, ℕ, List, ◌<◌, length, OnOk};
+ghost use Rattle.std.specs.Prelude.{◌≡◌, ℕ, List, ◌<◌, length, IsTrue, OnOk};
 ghost use Rattle.lin_history.specs.Problems.Problem.{problem_of};
 ghost use Rattle.lin_history.specs.Problems.Continuations.{IsCompletion};
 ghost use Rattle.lin_history.specs.Problems.Configurations.{IsReachable};
-ghost use Rattle.lin_fewer.specs.Knowledge.{IsBorne};
+ghost use Rattle.lin_fewer.specs.Fronts.{IsFirstLeft, IsLeastReturn};
+ghost use Rattle.lin_fewer.specs.Knowledge.{IsBorne, IsStandIn};
 ghost use Rattle.lin_fewer.specs.Nodes.{AreNodes, BearsBy, IsAt};
 
+use crate::front::{is_completed, is_later, least_return};
 use crate::laws::fewer_law;
 use crate::node::{Node, at};
 use crate::rules::Rules;
 use crate::search::{Search, key_of};
 use lin_history::Problem;
 use lin_object::{SeqObject, lawful};
-use lin_search::{CallSet, Config};
+use lin_search::{CallSet, Config, repeats};
 use std::alloc::AllocError;
 
-// Takes the call out of what its child bears: so much the configuration bears.
-fn take_out<O: SeqObject>(
+// The last pending call behind this one that is identical to it, was called by the event, and is in the set and not in the
+// configuration; or else the call itself. It is a hint.
+fn last_twin<O: SeqObject, R: Rules<O>>(
+    search: &Search<'_, O, R>,
+    config: &Config<O>,
+    call: usize,
+    bound: u32,
+    borne: &CallSet,
+) -> usize {
+    let problem = search.problem();
+    let mut last = call;
+    let mut here = call;
+    for _ in 0..problem.len() {
+        let next = search.twins().behind(here);
+        if next <= here || next >= problem.len() {
+            return last;
+        }
+        if is_later(problem, next, bound) {
+            return last;
+        }
+        if borne.has(next) && !config.has(next) {
+            last = next;
+        }
+        here = next;
+    }
+    last
+}
+
+// Whether the other call, which is in the set, may follow the configuration in place of this one.
+fn stands_in<O: SeqObject>(
     problem: &Problem<O>,
     config: &Config<O>,
+    bound: u32,
+    call: usize,
+    other: usize,
+    borne: &CallSet,
+) -> bool
+    requires call { call < length problem.now.calls }
+    requires bound { IsLeastReturn (problem_of O.after O.State.eq O.Reply.eq problem.now) config.now.lifted bound }
+    ensures { IsTrue result → IsStandIn (problem_of O.after O.State.eq O.Reply.eq problem.now)
+        config.now.lifted call other borne.now }
+{
+    if other <= call || other >= problem.len() {
+        return false;
+    }
+    if is_completed(problem, call) || config.has(other) || !borne.has(other) {
+        return false;
+    }
+    if is_later(problem, other, bound) {
+        return false;
+    }
+    repeats(problem, call, other)
+}
+
+// Takes the call out of what its child bears, or one that is identical to it, the last one: so much the configuration bears. What is
+// left says more of others where the last one goes, since the first of identical calls are tried first.
+fn take_out<O: SeqObject, R: Rules<O>>(
+    search: &Search<'_, O, R>,
+    node: &Node<O>,
     call: usize,
     borne: &mut CallSet,
 ) -> Result<(), AllocError>
-    requires reachable { IsReachable (problem_of O.after O.State.eq O.Reply.eq problem.now)
-        config.now.lifted config.now.state }
-    requires bears { BearsBy (problem_of O.after O.State.eq O.Reply.eq problem.now) config.now call
+    requires reachable { IsReachable (problem_of O.after O.State.eq O.Reply.eq search.now)
+        node.now.config.lifted node.now.config.state }
+    requires first { IsFirstLeft (problem_of O.after O.State.eq O.Reply.eq search.now)
+        node.now.config.lifted node.now.first }
+    requires bears { BearsBy (problem_of O.after O.State.eq O.Reply.eq search.now) node.now.config call
         borne.old }
-    ensures { OnOk result (IsBorne (problem_of O.after O.State.eq O.Reply.eq problem.now)
-        config.now.lifted config.now.state borne.new) }
+    ensures { OnOk result (IsBorne (problem_of O.after O.State.eq O.Reply.eq search.now)
+        node.now.config.lifted node.now.config.state borne.new) }
 {
+    lawful::<O>();
+    if search.twins().behind(call) == call {
+        borne.remove(call)?;
+        return Ok(());
+    }
+    let config = node.config();
+    let bound = least_return(search.problem(), config.lifted(), node.first());
+    let other = last_twin(search, config, call, bound, borne);
+    if stands_in(search.problem(), config, bound, call, other, borne) {
+        borne.remove(other)?;
+        return Ok(());
+    }
     borne.remove(call)?;
     Ok(())
 }
@@ -75,12 +146,12 @@ pub(crate) fn note_borne<O: SeqObject, R: Rules<O>>(
     fewer_law(search.problem());
     let mut borne = borne;
     let mut k = index;
-    take_out(search.problem(), at(nodes, k).config(), call, &mut borne)?;
+    take_out(search, at(nodes, k), call, &mut borne)?;
     note_base(search, nodes, k, &borne)?;
     while k > 0 {
         let link = at(nodes, k).link();
         k = link.from;
-        take_out(search.problem(), at(nodes, k).config(), link.by, &mut borne)?;
+        take_out(search, at(nodes, k), link.by, &mut borne)?;
         note_base(search, nodes, k, &borne)?;
     }
     Ok(())

@@ -7,6 +7,7 @@
 //!   on the way back.
 //! - `node`: the configurations that a search has open; `search`: what it knows; `known`: configurations found by keys; `seen` and
 //!   `verdict`: what is known of one configuration.
+//! - `twins`: pending calls that are identical.
 //! - `any_adds`: orders of a counter's completed calls, whatever the pending ones add.
 //! - `front`: which calls may be next; `laws`: the law that all this rests on.
 //!
@@ -23,7 +24,8 @@
 //!   completed call leads from the block to a configuration with a completion, the base has none. Only bases are remembered, since
 //!   within a block the other one may still be open.
 //! - A base that has a completion is remembered with the largest set of used calls with which this completion still goes on. That
-//!   holds downwards, as a refutation holds upwards.
+//!   holds downwards, as a refutation holds upwards. Of identical pending calls the last one leaves that set on the way back, since
+//!   the first ones are tried first.
 //! - The least linearization comes from asking at each configuration which is the least call that leads to one with a completion.
 //!   `Found` is the least linearization; `Refuted` is returned only if there is none. If it tells nothing, no clause says why, nor
 //!   how many steps it takes. No longest run is read off it: of what is passed over only the completions are known.
@@ -76,6 +78,7 @@ mod search;
 mod seen;
 mod sum_hints;
 mod sums;
+mod twins;
 mod verdict;
 mod waiting;
 

@@ -12,10 +12,11 @@ use crate::front::is_completed;
 use crate::known::Known;
 use crate::laws::fewer_law;
 use crate::rules::Rules;
+use crate::twins::Twins;
 use crate::waiting::Waiting;
 use lin_history::Problem;
 use lin_object::{SeqObject, lawful};
-use lin_search::{CallSet, Config, IdenticalCalls, repeats};
+use lin_search::{CallSet, Config, repeats};
 use std::alloc::{AllocError, Global};
 use std::hash::{FoldHasher, Hash, Hasher};
 use std::marker::Model;
@@ -33,7 +34,7 @@ pub(crate) struct Search<'p, O: SeqObject, R> {
     waiting: Waiting<'p, O>,
     pending: CallSet,
     all: CallSet,
-    identical: IdenticalCalls,
+    twins: Twins,
     refuted: Known<O>,
     good: Known<O>,
     left: u64,
@@ -120,7 +121,7 @@ impl<'p, O: SeqObject, R: Rules<O>> Search<'p, O, R> {
     {
         let all = every_call(alloc, problem)?;
         let pending = pending_calls(alloc, problem)?;
-        let identical = IdenticalCalls::of(alloc, problem)?;
+        let twins = Twins::of(alloc, problem)?;
         Ok(Search {
             alloc,
             problem,
@@ -128,7 +129,7 @@ impl<'p, O: SeqObject, R: Rules<O>> Search<'p, O, R> {
             waiting: Waiting::of(alloc, problem)?,
             pending,
             all,
-            identical,
+            twins,
             refuted: Known::new(alloc),
             good: Known::new(alloc),
             left: steps,
@@ -273,15 +274,18 @@ impl<'p, O: SeqObject, R: Rules<O>> Search<'p, O, R> {
         Ok(())
     }
 
+    /// The pending calls that are identical.
+    pub(crate) fn twins(&self) -> &Twins {
+        &self.twins
+    }
+
     /// Whether an identical call of a lower number is not in the set, as far as one is found.
     pub(crate) fn has_earlier(&self, set: &CallSet, call: usize) -> bool
         requires { call < length self.now.calls }
         ensures { IsTrue result → HasEarlier (problem_of O.after O.State.eq O.Reply.eq self.now)
             set.now call }
     {
-        let Some(earlier) = self.identical.repeated_by(call) else {
-            return false;
-        };
+        let earlier = self.twins.before(call);
         if earlier >= call {
             return false;
         }

@@ -1,27 +1,11 @@
 //! Lists of calls, by their numbers in a part and in the whole.
 
-ghost use Rattle.std.specs.Prelude.{◌≡◌, ◌<◌, ◌≤◌, IfOk, IfSome, length, ℕ, true, false, slice_index_or};
+ghost use Rattle.std.specs.Prelude.{◌≡◌, ◌<◌, ◌≤◌, IfOk, IfSome, length, ℕ};
 ghost use Rattle.lin_history.specs.Problems.Lists.{In};
 ghost use Rattle.lin_parts.specs.Parts.{IsFilled, name, named};
 
+use crate::call_flags::flags_of;
 use std::alloc::{AllocError, Global};
-
-// A flag for each number below n, set where it is in the list.
-fn flags_of(alloc: Global, calls: &[usize], n: usize) -> Result<Vec<bool>, AllocError>
-    ensures length { IfOk result (λ flags. length flags.items ≡ n) }
-    ensures set { IfOk result (λ flags. (c : ℕ) → slice_index_or flags.items c false ≡ true
-        → In c calls.now) }
-    ensures each { IfOk result (λ flags. (c : ℕ) → In c calls.now → c < n
-        → slice_index_or flags.items c false ≡ true) }
-{
-    let mut flags = vec![in alloc; false; n]?;
-    for c in calls {
-        if *c < n {
-            flags[*c] = true;
-        }
-    }
-    Ok(flags)
-}
 
 /// Puts behind the calls those below n that they lack, in increasing order. `AllocError` where memory was refused.
 pub fn fill(alloc: Global, calls: &mut Vec<usize>, n: usize) -> Result<(), AllocError>

@@ -15,5 +15,5 @@ pub(crate) mod key_parts;
 pub(crate) mod key_search;
 mod merge;
 mod orders_told;
-mod part_order;
+pub(crate) mod part_order;
 mod part_orders;

@@ -1,7 +1,9 @@
 //! Parts of a problem, each searched as a problem of its own, and what they tell of the whole (this project's own).
 //!
+//! - `call_flags`: calls by flags.
 //! - `call_lists`: lists of calls, by their numbers in a part and in the whole.
 //! - `keys`: maps and sets, part by part: the calls of each key are a problem of their own.
+//! - `taken_event`: events that a problem takes or refuses.
 //!
 //! What it promises the crates above, by the contracts of `search_by_key`:
 //!
@@ -15,9 +17,14 @@
 //!   make lifts, or if the stop answered.
 #![tactic(auto)]
 
+mod call_flags;
 mod call_lists;
 mod keys;
+mod taken_event;
 
+pub use call_flags::{flags_of, has_flag};
 pub use call_lists::{fill, with_names};
 pub use keys::key_parts::{is_part, same_call};
 pub use keys::key_search::search_by_key;
+pub use keys::part_order::STEPS_FOR_A_LIFT;
+pub use taken_event::was_taken;

@@ -1,6 +1,8 @@
 pub mod Prefixes
 pub mod Crossing
 pub mod Freed
+pub mod Marked
 pub mod OnlyReplies
 pub mod PartAnswer
+pub mod RunsTold
 pub mod WholeAnswer

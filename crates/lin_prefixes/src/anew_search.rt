@@ -11,8 +11,9 @@ ghost use Rattle.lin_search.specs.Told.{IsRightOf};
 
 use crate::call_lists::kept_calls;
 use crate::crossed_calls::some_cross;
+use crate::marks::Marks;
 use crate::open_takers::open_takers;
-use crate::part_search::PartSearch;
+use crate::part_search::{PartSearch, RunsTold};
 use crate::parts_anew::{Loosened, Wanted, is_loose_prefix, made_anew};
 use crate::untold_groups::UntoldGroups;
 use lin_ahead::{
@@ -22,7 +23,7 @@ use lin_ahead::{
 use lin_fewer::{SumRules, has_many_pending, is_refuted_with_any_adds, least_linearization};
 use lin_history::{Problem, ProblemEvent};
 use lin_object::{AnyObject, ObjState};
-use lin_parts::{is_part, search_by_key};
+use lin_parts::{STEPS_FOR_A_LIFT, is_part, search_by_key};
 use lin_search::{AtTimes, Stop, Told, search_for_order};
 use std::alloc::{AllocError, Global};
 
@@ -40,11 +41,9 @@ const ROUNDS_FOR_A_BOUND: usize = 2;
 
 const ROUNDS_FOR_A_GROUP: usize = 1;
 
-// How many steps count as a lift of a search that tries pending calls only between completed ones: a step takes a quarter of the time
-// of a lift. Of a bound or a group more, since these searches have few rounds, and what they tell saves many others.
-const STEPS_FOR_A_LIFT: u64 = 16;
-
-const STEPS_FOR_A_LIFT_OF_A_BOUND: u64 = 64;
+// How many times as many steps a search makes, for each lift, that tries pending calls only between completed ones and is made for a bound
+// or a group: these searches have few rounds, and what they tell saves many others.
+const TIMES_FOR_A_BOUND: u64 = 4;
 
 // How many of these steps are taken off the lifts that are left as one.
 const STEPS_LIKE_A_LIFT: u64 = 32;
@@ -109,7 +108,7 @@ fn most_steps_times_calls(part: &Problem<AnyObject>) -> u64 {
 fn steps_for(wish: Wish, lifts: u64, part: &Problem<AnyObject>) -> Option<u64> {
     let for_a_lift = match wish {
         Wish::Order => STEPS_FOR_A_LIFT,
-        Wish::Bound | Wish::Group => STEPS_FOR_A_LIFT_OF_A_BOUND,
+        Wish::Bound | Wish::Group => STEPS_FOR_A_LIFT * TIMES_FOR_A_BOUND,
     };
     let steps = lifts.saturating_mul(for_a_lift);
     if steps.saturating_mul(part.len() as u64) > most_steps_times_calls(part) {
@@ -419,11 +418,14 @@ impl<'a, S: Stop> AnewSearch<'a, S> {
         requires { IsRising kept.now }
         ensures { IfOk result (IsPartAnswer (any_problem problem.now) kept.now) }
     {
+        if !self.may_search() {
+            return Ok(Told::Nothing);
+        }
+        let marks = Marks::new(alloc, problem, &[], &[])?;
         let wanted = Wanted {
             calls: kept,
             until: u64::MAX,
-            returned: &[],
-            takers: &[],
+            marks: &marks,
         };
         let Some(part) = made_anew(alloc, problem, self.events.as_slice(), wanted)? else {
             return Ok(Told::Nothing);
@@ -450,11 +452,11 @@ impl<'a, S: Stop> AnewSearch<'a, S> {
         let _calls = problem.calls();
         let kept = kept_calls(alloc, call, &[])?;
         let takers = open_takers(alloc, problem, call, calls)?;
+        let marks = Marks::new(alloc, problem, calls, takers.as_slice())?;
         let wanted = Wanted {
             calls: kept.as_slice(),
             until: u64::from(problem.call(call).called),
-            returned: calls,
-            takers: takers.as_slice(),
+            marks: &marks,
         };
         let Some(part) = made_anew(alloc, problem, self.events.as_slice(), wanted)? else {
             return Ok(false);
@@ -463,6 +465,7 @@ impl<'a, S: Stop> AnewSearch<'a, S> {
             call,
             kept: calls,
             takers: takers.as_slice(),
+            marks: &marks,
         };
         if !is_loose_prefix(problem, loosened, &part) {
             return Ok(false);
@@ -490,23 +493,26 @@ impl<'a, S: Stop> PartSearch<AnyObject> for AnewSearch<'a, S> {
         self.answer_to_part(alloc, problem, kept)
     }
 
-    fn has_no_run_with(
+    fn runs_with(
         &mut self,
         alloc: Global,
         problem: &Problem<AnyObject>,
         call: usize,
         calls: &[usize],
-    ) -> Result<bool, AllocError> {
+    ) -> Result<RunsTold, AllocError> {
         let looks = looks_at(&self.untold, calls);
         self.take(looks / LOOKS_FOR_A_LIFT);
-        if self.untold.has(call, calls) {
-            return Ok(false);
+        if !self.may_search() {
+            return Ok(RunsTold::Ended);
         }
-        let none = self.has_none_with(alloc, problem, call, calls)?;
-        if !none {
-            self.untold.add(alloc, call, calls)?;
+        if self.untold.has(alloc, call, calls)? {
+            return Ok(RunsTold::Nothing);
         }
-        Ok(none)
+        if self.has_none_with(alloc, problem, call, calls)? {
+            return Ok(RunsTold::NoRun);
+        }
+        self.untold.add(alloc, call, calls)?;
+        Ok(RunsTold::Nothing)
     }
 
     fn stand_ins(

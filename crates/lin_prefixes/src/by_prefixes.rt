@@ -11,7 +11,7 @@ ghost use Rattle.lin_prefixes.specs.Prefixes.{IsBeaten, IsConflict, IsRunOf, Are
 
 use crate::choices::{Choice, try_open};
 use crate::conflicts::{Conflict, Cut, first_conflicts, least_lacking};
-use crate::part_search::PartSearch;
+use crate::part_search::{PartSearch, RunsTold};
 use lin_history::{Order, Problem};
 use lin_object::SeqObject;
 use std::alloc::{AllocError, Global};
@@ -197,7 +197,9 @@ fn try_cut<O: SeqObject, S: PartSearch<O>>(
     if !may_be_best(best, cut.call, cut.spared.len()) {
         return Ok(true);
     }
-    let mut conflicts = first_conflicts(alloc, problem, search, cut, hints.as_slice())?;
+    let Some(mut conflicts) = first_conflicts(alloc, problem, search, cut, hints.as_slice())? else {
+        return Ok(false);
+    };
     let known = try_levels(alloc, problem, search, cut, &mut conflicts, best)?;
     *hints = conflicts;
     Ok(known)
@@ -234,28 +236,28 @@ fn try_call<O: SeqObject, S: PartSearch<O>>(
     try_cut(alloc, problem, search, cut, hints, best)
 }
 
-// A number of calls from which on no call has a run.
+// A number of calls from which on no call has a run. `None` where the search has come to its end.
 fn calls_with_runs<O: SeqObject, S: PartSearch<O>>(
     alloc: Global,
     problem: &Problem<O>,
     search: &mut S,
-) -> Result<usize, AllocError>
-    ensures within { IfOk result (λ n. n ≤ length problem.now.calls) }
-    ensures none { IfOk result (λ n. (k : ℕ) → n ≤ k → k < length problem.now.calls
-        → HasNoRunOf (problem_of O.after O.State.eq O.Reply.eq problem.now) k) }
+) -> Result<Option<usize>, AllocError>
+    ensures within { IfOk result (λ answer. IfSome answer (λ n. n ≤ length problem.now.calls)) }
+    ensures none { IfOk result (λ answer. IfSome answer (λ n. (k : ℕ) → n ≤ k → k < length problem.now.calls
+        → HasNoRunOf (problem_of O.after O.State.eq O.Reply.eq problem.now) k)) }
 {
     let _calls = problem.calls();
     let mut low: usize = 0;
     let mut high = problem.len();
     while low < high {
         let middle = low + (high - low) / 2;
-        if search.has_no_run_with(alloc, problem, middle, &[])? {
-            high = middle;
-        } else {
-            low = middle + 1;
+        match search.runs_with(alloc, problem, middle, &[])? {
+            RunsTold::NoRun => high = middle,
+            RunsTold::Nothing => low = middle + 1,
+            RunsTold::Ended => return Ok(None),
         }
     }
-    Ok(high)
+    Ok(Some(high))
 }
 
 /// The first, in lexicographic order, of the longest runs of the problem, by searches of parts of it. `None` where a search
@@ -273,7 +275,9 @@ pub(crate) fn longest_by_prefixes<O: SeqObject, S: PartSearch<O>>(
     let mut best = Order::new(Vec::new(alloc));
     let mut hints = Vec::new(alloc);
     let until = search.stand_ins(alloc, problem)?;
-    let mut left = calls_with_runs(alloc, problem, search)?;
+    let Some(mut left) = calls_with_runs(alloc, problem, search)? else {
+        return Ok(None);
+    };
     while left > 0 && best.calls().len() <= left {
         left -= 1;
         let last = LastCall {

@@ -45,19 +45,22 @@ fn try_dropped<O: SeqObject, S: PartSearch<O>>(
         → IsRunLacking (problem_of O.after O.State.eq O.Reply.eq problem.now) choice.entry.cut.call
         choice.entry.dropped.now choice.entry.late.now 0 r → IsBeaten best.new r) }
 {
-    if some_missed(conflicts.as_slice(), choice.dropped, &[]) {
+    let count = problem.len();
+    if some_missed(alloc, count, conflicts.as_slice(), choice.dropped, &[])? {
         return Ok(true);
     }
-    let kept = without(alloc, choice.cut.others, choice.dropped)?;
-    add_conflict(
+    let kept = without(alloc, count, choice.cut.others, choice.dropped)?;
+    if !add_conflict(
         alloc,
         problem,
         search,
         choice.cut.call,
         kept.as_slice(),
         conflicts,
-    )?;
-    if some_missed(conflicts.as_slice(), choice.dropped, &[]) {
+    )? {
+        return Ok(false);
+    }
+    if some_missed(alloc, count, conflicts.as_slice(), choice.dropped, &[])? {
         return Ok(true);
     }
     try_part(
@@ -101,15 +104,17 @@ pub(crate) fn try_open<O: SeqObject, S: PartSearch<O>>(
     if choice.lacking == 0 {
         return try_dropped(alloc, problem, search, choice, conflicts, best);
     }
+    let count = problem.len();
     let mut late = Vec::from_slice(alloc, choice.late)?;
     while !late.is_empty() {
         if !search.may_go_on(looks(conflicts.as_slice(), late.as_slice())) {
             return Ok(false);
         }
-        if some_missed(conflicts.as_slice(), choice.dropped, late.as_slice()) {
+        let known = conflicts.as_slice();
+        if some_missed(alloc, count, known, choice.dropped, late.as_slice())? {
             return Ok(true);
         }
-        let place = next_place(conflicts.as_slice(), choice.dropped, late.as_slice());
+        let place = next_place(alloc, count, known, choice.dropped, late.as_slice())?;
         let next = late.remove(place.min(late.len() - 1));
         let more = with_one(alloc, choice.dropped, next)?;
         let without_next = Choice {

@@ -4,12 +4,13 @@
 ghost use Rattle.std.specs.Prelude.{◌≡◌, ◌<◌, ◌≤◌, ◌^◌, ◌+◌, ◌∷◌, [], ℕ, List, All, IfOk, IfSome, IsTrue, length};
 ghost use Rattle.lin_history.specs.Problems.Lists.{In};
 ghost use Rattle.lin_history.specs.Problems.Problem.{problem_of};
-ghost use Rattle.lin_prefixes.specs.Prefixes.{AreCompletedUpTo, IsConflict, IsMissed, IsRunOf, IsSingle, Lacks, SomeMissed};
+ghost use Rattle.lin_prefixes.specs.Prefixes.{AreCompletedUpTo, IsConflict, IsRunOf, IsSingle, IsUnset, Lacks, SomeMissed};
 
-use crate::call_lists::has_call;
-use crate::part_search::PartSearch;
+use crate::call_lists::is_unset;
+use crate::part_search::{PartSearch, RunsTold};
 use lin_history::Problem;
 use lin_object::SeqObject;
+use lin_parts::{flags_of, has_flag};
 use std::alloc::{AllocError, Global};
 use std::marker::Model;
 
@@ -69,28 +70,7 @@ fn are_completed_up_to<O: SeqObject>(problem: &Problem<O>, calls: &[usize], call
     true
 }
 
-// These calls as a conflict of the call, where it is known that they are one.
-fn conflict_of<O: SeqObject, S: PartSearch<O>>(
-    alloc: Global,
-    problem: &Problem<O>,
-    search: &mut S,
-    call: usize,
-    calls: &[usize],
-) -> Result<Option<Conflict>, AllocError>
-    requires { call < length problem.now.calls }
-    ensures { IfOk result (λ answer. IfSome answer (IsConflict
-        (problem_of O.after O.State.eq O.Reply.eq problem.now) call)) }
-{
-    if !are_completed_up_to(problem, calls, call)
-        || !search.has_no_run_with(alloc, problem, call, calls)?
-    {
-        return Ok(None);
-    }
-    let conflict = Conflict::new(alloc, calls)?;
-    Ok(Some(conflict))
-}
-
-// Adds these calls as a conflict, where it is known that they are one.
+// Adds these calls as a conflict, where it is told that they are one: whether the search goes on.
 fn add_known<O: SeqObject, S: PartSearch<O>>(
     alloc: Global,
     problem: &Problem<O>,
@@ -98,22 +78,29 @@ fn add_known<O: SeqObject, S: PartSearch<O>>(
     call: usize,
     calls: &[usize],
     conflicts: &mut Vec<Conflict>,
-) -> Result<(), AllocError>
+) -> Result<bool, AllocError>
     requires call { call < length problem.now.calls }
     requires conflicts { All (IsConflict (problem_of O.after O.State.eq O.Reply.eq problem.now) call)
         conflicts.old.items }
-    ensures { IfOk result (λ done. All
+    ensures { IfOk result (λ goes_on. All
         (IsConflict (problem_of O.after O.State.eq O.Reply.eq problem.now) call)
         conflicts.new.items) }
 {
-    let Some(conflict) = conflict_of(alloc, problem, search, call, calls)? else {
-        return Ok(());
-    };
+    if !are_completed_up_to(problem, calls, call) {
+        return Ok(true);
+    }
+    match search.runs_with(alloc, problem, call, calls)? {
+        RunsTold::NoRun => {}
+        RunsTold::Nothing => return Ok(true),
+        RunsTold::Ended => return Ok(false),
+    }
+    let conflict = Conflict::new(alloc, calls)?;
     conflicts.push(conflict)?;
-    Ok(())
+    Ok(true)
 }
 
-// How many of the first calls are known to be a conflict, as few as are, but at least `needed`. The calls together are one.
+// How many of the first calls are known to be a conflict, as few as are, but at least `needed`. The calls together are one. `None`
+// where the search has come to its end.
 fn fewest_in_conflict<O: SeqObject, S: PartSearch<O>>(
     alloc: Global,
     problem: &Problem<O>,
@@ -121,49 +108,52 @@ fn fewest_in_conflict<O: SeqObject, S: PartSearch<O>>(
     call: usize,
     calls: &[usize],
     needed: usize,
-) -> Result<usize, AllocError>
+) -> Result<Option<usize>, AllocError>
     requires { call < length problem.now.calls }
 {
     let mut low = needed;
     let mut high = calls.len();
     while low < high {
         let middle = low + (high - low) / 2;
-        if search.has_no_run_with(alloc, problem, call, &calls[..middle])? {
-            high = middle;
-        } else {
-            low = middle + 1;
+        match search.runs_with(alloc, problem, call, &calls[..middle])? {
+            RunsTold::NoRun => high = middle,
+            RunsTold::Nothing => low = middle + 1,
+            RunsTold::Ended => return Ok(None),
         }
     }
-    Ok(high)
+    Ok(Some(high))
 }
 
-// Of calls that are a conflict few that still are, by halving.
+// Of calls that are a conflict few that still are, by halving. `None` where the search has come to its end.
 fn few_in_conflict<O: SeqObject, S: PartSearch<O>>(
     alloc: Global,
     problem: &Problem<O>,
     search: &mut S,
     call: usize,
     calls: &[usize],
-) -> Result<Vec<usize>, AllocError>
+) -> Result<Option<Vec<usize>>, AllocError>
     requires { call < length problem.now.calls }
 {
     let mut few = Vec::from_slice(alloc, calls)?;
     for needed in 0..calls.len() {
-        let count = fewest_in_conflict(alloc, problem, search, call, few.as_slice(), needed)?;
+        let Some(count) = fewest_in_conflict(alloc, problem, search, call, few.as_slice(), needed)?
+        else {
+            return Ok(None);
+        };
         few.truncate(count);
         if count <= needed {
-            return Ok(few);
+            return Ok(Some(few));
         }
         // the last one is needed: it goes to the front, and those behind are halved again
         if let Some(last) = few.pop() {
             few.insert(0, last)?;
         }
     }
-    Ok(few)
+    Ok(Some(few))
 }
 
 /// Adds a conflict among these calls, where one is known: as few of them as still are one. Of no calls it is not asked: a try of what is
-/// left without the open calls tells as much.
+/// left without the open calls tells as much. `false` where the search has come to its end.
 pub(crate) fn add_conflict<O: SeqObject, S: PartSearch<O>>(
     alloc: Global,
     problem: &Problem<O>,
@@ -171,23 +161,30 @@ pub(crate) fn add_conflict<O: SeqObject, S: PartSearch<O>>(
     call: usize,
     calls: &[usize],
     conflicts: &mut Vec<Conflict>,
-) -> Result<(), AllocError>
+) -> Result<bool, AllocError>
     requires call { call < length problem.now.calls }
     requires conflicts { All (IsConflict (problem_of O.after O.State.eq O.Reply.eq problem.now) call)
         conflicts.old.items }
-    ensures { IfOk result (λ done. All
+    ensures { IfOk result (λ goes_on. All
         (IsConflict (problem_of O.after O.State.eq O.Reply.eq problem.now) call)
         conflicts.new.items) }
 {
-    if calls.is_empty() || !search.has_no_run_with(alloc, problem, call, calls)? {
-        return Ok(());
+    if calls.is_empty() {
+        return Ok(true);
     }
-    let few = few_in_conflict(alloc, problem, search, call, calls)?;
+    match search.runs_with(alloc, problem, call, calls)? {
+        RunsTold::NoRun => {}
+        RunsTold::Nothing => return Ok(true),
+        RunsTold::Ended => return Ok(false),
+    }
+    let Some(few) = few_in_conflict(alloc, problem, search, call, calls)? else {
+        return Ok(false);
+    };
     add_known(alloc, problem, search, call, few.as_slice(), conflicts)
 }
 
 // Adds those of the calls that no run has, as far as that is known, each as a conflict of its own: the calls are halved where no
-// run has all of them.
+// run has all of them. `false` where the search has come to its end.
 fn add_single_conflicts<O: SeqObject, S: PartSearch<O>>(
     alloc: Global,
     problem: &Problem<O>,
@@ -195,45 +192,51 @@ fn add_single_conflicts<O: SeqObject, S: PartSearch<O>>(
     call: usize,
     calls: &[usize],
     conflicts: &mut Vec<Conflict>,
-) -> Result<(), AllocError>
+) -> Result<bool, AllocError>
     requires call { call < length problem.now.calls }
     requires conflicts { All (IsConflict (problem_of O.after O.State.eq O.Reply.eq problem.now) call)
         conflicts.old.items }
-    ensures { IfOk result (λ done. All
+    ensures { IfOk result (λ goes_on. All
         (IsConflict (problem_of O.after O.State.eq O.Reply.eq problem.now) call)
         conflicts.new.items) }
 {
     if calls.is_empty() {
-        return Ok(());
+        return Ok(true);
     }
     if calls.len() == 1 {
         return add_known(alloc, problem, search, call, calls, conflicts);
     }
-    if !search.has_no_run_with(alloc, problem, call, calls)? {
-        return Ok(());
+    match search.runs_with(alloc, problem, call, calls)? {
+        RunsTold::NoRun => {}
+        RunsTold::Nothing => return Ok(true),
+        RunsTold::Ended => return Ok(false),
     }
     let (first, second) = calls.split_at(calls.len() / 2);
-    add_single_conflicts(alloc, problem, search, call, first, conflicts)?;
+    if !add_single_conflicts(alloc, problem, search, call, first, conflicts)? {
+        return Ok(false);
+    }
     add_single_conflicts(alloc, problem, search, call, second, conflicts)
 }
 
-// Those of the conflicts that are conflicts of this call too.
+// Those of the conflicts that are conflicts of this call too. `None` where the search has come to its end.
 fn conflicts_again<O: SeqObject, S: PartSearch<O>>(
     alloc: Global,
     problem: &Problem<O>,
     search: &mut S,
     call: usize,
     hints: &[Conflict],
-) -> Result<Vec<Conflict>, AllocError>
+) -> Result<Option<Vec<Conflict>>, AllocError>
     requires { call < length problem.now.calls }
-    ensures { IfOk result (λ conflicts. All
-        (IsConflict (problem_of O.after O.State.eq O.Reply.eq problem.now) call) conflicts.items) }
+    ensures { IfOk result (λ answer. IfSome answer (λ conflicts. All
+        (IsConflict (problem_of O.after O.State.eq O.Reply.eq problem.now) call) conflicts.items)) }
 {
     let mut conflicts = Vec::new(alloc);
     for hint in hints {
-        add_known(alloc, problem, search, call, hint.calls(), &mut conflicts)?;
+        if !add_known(alloc, problem, search, call, hint.calls(), &mut conflicts)? {
+            return Ok(None);
+        }
     }
-    Ok(conflicts)
+    Ok(Some(conflicts))
 }
 
 // The calls of the list that are no conflicts of their own.
@@ -252,22 +255,24 @@ fn not_single(
 }
 
 /// The conflicts of the cut to begin with: those that are given as hints, of another one, and are conflicts here too; and those of the
-/// open calls, but for the spared ones, that no run has, as far as that is known.
+/// open calls, but for the spared ones, that no run has, as far as that is known. `None` where the search has come to its end.
 pub(crate) fn first_conflicts<O: SeqObject, S: PartSearch<O>>(
     alloc: Global,
     problem: &Problem<O>,
     search: &mut S,
     cut: Cut<'_>,
     hints: &[Conflict],
-) -> Result<Vec<Conflict>, AllocError>
+) -> Result<Option<Vec<Conflict>>, AllocError>
     requires { cut.call < length problem.now.calls }
-    ensures { IfOk result (λ conflicts. All
+    ensures { IfOk result (λ answer. IfSome answer (λ conflicts. All
         (IsConflict (problem_of O.after O.State.eq O.Reply.eq problem.now) cut.entry.call)
-        conflicts.items) }
+        conflicts.items)) }
 {
-    let mut conflicts = conflicts_again(alloc, problem, search, cut.call, hints)?;
+    let Some(mut conflicts) = conflicts_again(alloc, problem, search, cut.call, hints)? else {
+        return Ok(None);
+    };
     let left = not_single(alloc, cut.others, conflicts.as_slice())?;
-    add_single_conflicts(
+    let goes_on = add_single_conflicts(
         alloc,
         problem,
         search,
@@ -275,7 +280,10 @@ pub(crate) fn first_conflicts<O: SeqObject, S: PartSearch<O>>(
         left.as_slice(),
         &mut conflicts,
     )?;
-    Ok(conflicts)
+    if !goes_on {
+        return Ok(None);
+    }
+    Ok(Some(conflicts))
 }
 
 // Whether the conflict has no other call than this one.
@@ -324,63 +332,74 @@ pub(crate) fn least_lacking<O: SeqObject>(
     least
 }
 
-// Whether no call of the conflict is in either list.
-fn is_missed(conflict: &Conflict, dropped: &[usize], late: &[usize]) -> bool
-    ensures { IsTrue result → IsMissed conflict.now dropped.now late.now }
+// Whether no call of the conflict has a flag in either list.
+fn is_missed(conflict: &Conflict, dropped: &[bool], late: &[bool]) -> bool
+    ensures { IsTrue result → (c : ℕ) → In c conflict.now → IsUnset dropped.now c × IsUnset late.now c }
 {
     let calls = conflict.calls();
     for c in calls {
-        if has_call(dropped, *c) || has_call(late, *c) {
+        if !is_unset(dropped, *c) || !is_unset(late, *c) {
             return false;
         }
     }
     true
 }
 
-/// Whether some conflict has no call in either list.
-pub(crate) fn some_missed(conflicts: &[Conflict], dropped: &[usize], late: &[usize]) -> bool
-    ensures { IsTrue result → SomeMissed conflicts.now dropped.now late.now }
+/// Whether some conflict has no call in either list, which have calls of a problem of so many calls.
+pub(crate) fn some_missed(
+    alloc: Global,
+    count: usize,
+    conflicts: &[Conflict],
+    dropped: &[usize],
+    late: &[usize],
+) -> Result<bool, AllocError>
+    ensures { IfOk result (λ missed. IsTrue missed → SomeMissed conflicts.now dropped.now late.now) }
 {
+    let dropped_flags = flags_of(alloc, dropped, count)?;
+    let late_flags = flags_of(alloc, late, count)?;
     for conflict in conflicts {
-        if is_missed(conflict, dropped, late) {
-            return true;
+        if is_missed(conflict, dropped_flags.as_slice(), late_flags.as_slice()) {
+            return Ok(true);
         }
     }
-    false
+    Ok(false)
 }
 
-// How many calls of the conflict are in the list.
-fn count_in(conflict: &Conflict, late: &[usize]) -> usize {
+// How many calls of the conflict have a flag.
+fn count_in(conflict: &Conflict, flags: &[bool]) -> usize {
     conflict
         .calls()
         .iter()
-        .filter(|c| has_call(late, **c))
+        .filter(|c| has_flag(flags, **c))
         .count()
 }
 
 /// The place of a call in the list that is to be left out next: one of a conflict that has none of those dropped, of which few
 /// are in the list. That is a hint.
-pub(crate) fn next_place(conflicts: &[Conflict], dropped: &[usize], late: &[usize]) -> usize {
-    let mut best = 0;
+pub(crate) fn next_place(
+    alloc: Global,
+    count: usize,
+    conflicts: &[Conflict],
+    dropped: &[usize],
+    late: &[usize],
+) -> Result<usize, AllocError> {
+    let dropped = flags_of(alloc, dropped, count)?;
+    let late_flags = flags_of(alloc, late, count)?;
+    let mut best: &[usize] = &[];
     let mut fewest = usize::MAX;
     for conflict in conflicts {
-        if is_missed(conflict, dropped, &[]) {
-            let count = count_in(conflict, late);
-            if count < fewest {
-                fewest = count;
-                best = first_place(conflict, late);
+        if count_in(conflict, dropped.as_slice()) == 0 {
+            let few = count_in(conflict, late_flags.as_slice());
+            if few < fewest {
+                fewest = few;
+                best = conflict.calls();
             }
         }
     }
-    best
-}
-
-// The first place in the list of a call of the conflict.
-fn first_place(conflict: &Conflict, late: &[usize]) -> usize {
-    for place in 0..late.len() {
-        if has_call(conflict.calls(), late[place]) {
-            return place;
-        }
-    }
-    0
+    let flags = flags_of(alloc, best, count)?;
+    Ok(
+        late.iter()
+            .position(|c| has_flag(flags.as_slice(), *c))
+            .unwrap_or(0),
+    )
 }

@@ -12,6 +12,7 @@
 //! - `parts_anew`: parts of a problem, made anew by their events; `anew_search`: searches of them, with a budget of lifts.
 //! - `conflicts`: groups of calls of which each run lacks one; `choices`: which calls are left out, by conflicts.
 //! - `untold_groups`: groups of calls that are not asked of again.
+//! - `marks`: which calls a part has as they are, and which may stay out.
 //! - `open_takers`: open dequeues and pops that may stay out of a run of a queue or a stack.
 //! - `only_replies`: pending calls that can have one reply only.
 //! - `crossed_calls`: two calls of which each would have to come before the other.
@@ -41,7 +42,7 @@
 //!   first: they are in none of the runs that are tried. `PartSearch::stand_ins` says so by a number for each call, which
 //!   `held_until` finds.
 //! - `PartSearch` is the contract of the search of a part. If one does not know, the whole ends with `None`, so `Some` is right for
-//!   any problem. The budget covers all work, and the stop is asked within it. Two calls that *cross* (one returned before the
+//!   any problem. One that has come to its end says so (`RunsTold::Ended`), and nobody asks it again. The budget covers all work, and the stop is asked within it. Two calls that *cross* (one returned before the
 //!   other was called, and yet needs it; `some_cross` answers exactly whether there are such) and the cases of 'in vain' refute a
 //!   part before any search.
 //!
@@ -87,6 +88,7 @@ mod candidate;
 mod choices;
 mod conflicts;
 mod crossed_calls;
+mod marks;
 mod only_replies;
 mod open_takers;
 mod part_search;

@@ -9,6 +9,7 @@ ghost use Rattle.lin_history.specs.Problems.AnyProblem.{any_problem};
 ghost use Rattle.lin_prefixes.specs.OnlyReplies.{HasOnlyReply, HasSameRuns, IsBehind, IsReplied};
 
 use crate::call_lists::kept_calls;
+use crate::marks::Marks;
 use crate::parts_anew::{Wanted, made_anew, same_start};
 use lin_history::Problem;
 use lin_object::{AnyObject, Op, Reply};
@@ -57,11 +58,11 @@ fn copied(
 {
     let events = problem.timeline(alloc)?;
     let all = kept_calls(alloc, problem.len().saturating_sub(1), &[])?;
+    let marks = Marks::new(alloc, problem, &[], &[])?;
     let wanted = Wanted {
         calls: all.as_slice(),
         until: u64::MAX,
-        returned: &[],
-        takers: &[],
+        marks: &marks,
     };
     made_anew(alloc, problem, events.as_slice(), wanted)
 }

@@ -1,14 +1,17 @@
 //! Open dequeues and pops that may stay out of a run of a queue or a stack. Without one, and without the call that put in what it
 //! took, a run stays one: all others take what they took.
-ghost use Rattle.std.specs.Prelude.{◌≡◌, ◌↔◌, ◌<◌, ℕ, ℤ, Some, [], IsTrue, length};
+ghost use Rattle.std.specs.Prelude.{◌≡◌, ◌↔◌, ◌<◌, ℕ, ℤ, Some, [], IfOk, IsTrue, OnOk, length};
+ghost use Rattle.std.specs.Ordering.{int_eq};
+ghost use Rattle.indexmap.specs.IndexSet.{contains};
 ghost use Rattle.lin_history.specs.Problems.Lists.{In};
 ghost use Rattle.lin_history.specs.Problems.AnyProblem.{any_problem};
 ghost use Rattle.lin_ahead.specs.Items.Impossible.{AddsItem};
-ghost use Rattle.lin_prefixes.specs.Freed.{AreTakers, HasReturned, IsFreed, TookOut};
+ghost use Rattle.lin_prefixes.specs.Freed.{AreTakers, HasReturned, TookOut};
 
-use crate::call_lists::has_call;
+use indexmap::IndexSet;
 use lin_history::{Problem, ProblemCall};
 use lin_object::{AnyObject, Items, ObjState, Op, Reply};
+use lin_parts::{flags_of, has_flag};
 use std::alloc::{AllocError, Global};
 
 // Whether there is no item.
@@ -59,34 +62,49 @@ pub(crate) fn are_takers(problem: &Problem<AnyObject>, takers: &[usize]) -> bool
     }
 }
 
-// Whether the call may have returned with the item.
-fn may_have_taken(problem: &Problem<AnyObject>, call: usize, item: i64) -> bool
-    ensures { TookOut (any_problem problem.now) call item → IsTrue result }
+// The item with which the call returned.
+fn item_taken(problem: &Problem<AnyObject>, call: usize) -> Option<i64>
+    ensures { (w : ℤ) → TookOut (any_problem problem.now) call w → result ≡ Some w }
 {
     if call >= problem.len() {
-        return true;
+        return None;
     }
     match &problem.call(call).returned {
-        Some((_, Reply::Int(taken))) => *taken == item,
-        _ => false,
+        Some((_, Reply::Int(item))) => Some(*item),
+        _ => None,
     }
 }
 
-// Whether some of the calls may have returned with the item.
-fn some_may_have_taken(problem: &Problem<AnyObject>, takers: &[usize], item: i64) -> bool
-    ensures { (g : ℕ) → In g takers.now → TookOut (any_problem problem.now) g item
-        → IsTrue result }
+// Adds the item, where there is one.
+fn add_item(items: &mut IndexSet<i64>, item: Option<i64>) -> Result<(), AllocError>
+    ensures there { OnOk result ((w : ℤ) → item ≡ Some w → IsTrue (contains int_eq items.new w)) }
+    ensures more { OnOk result ((w : ℤ) → IsTrue (contains int_eq items.old w)
+        → IsTrue (contains int_eq items.new w)) }
 {
-    for taker in takers {
-        if may_have_taken(problem, *taker, item) {
-            return true;
-        }
+    if let Some(item) = item {
+        items.insert(item)?;
     }
-    false
+    Ok(())
 }
 
-// The item that the call puts in.
-fn item_put(problem: &Problem<AnyObject>, call: usize) -> Option<i64>
+/// The items with which the calls returned.
+pub(crate) fn items_taken(
+    alloc: Global,
+    problem: &Problem<AnyObject>,
+    takers: &[usize],
+) -> Result<IndexSet<i64>, AllocError>
+    ensures { IfOk result (λ items. (g : ℕ) → In g takers.now → (w : ℤ)
+        → TookOut (any_problem problem.now) g w → IsTrue (contains int_eq items w)) }
+{
+    let mut items = IndexSet::new(alloc);
+    for taker in takers {
+        add_item(&mut items, item_taken(problem, *taker))?;
+    }
+    Ok(items)
+}
+
+/// The item that the call puts in.
+pub(crate) fn item_put(problem: &Problem<AnyObject>, call: usize) -> Option<i64>
     requires { call < length problem.now.calls }
     ensures { (w : ℤ) → AddsItem (any_problem problem.now) call w → result ≡ Some w }
 {
@@ -94,20 +112,6 @@ fn item_put(problem: &Problem<AnyObject>, call: usize) -> Option<i64>
         Op::Enqueue(item) => Some(*item),
         Op::Push(item) => Some(*item),
         _ => None,
-    }
-}
-
-/// Whether the call is one of the takers, or may put in what one of them took.
-pub(crate) fn may_be_freed(problem: &Problem<AnyObject>, takers: &[usize], call: usize) -> bool
-    requires { call < length problem.now.calls }
-    ensures { IsFreed (any_problem problem.now) takers.now call → IsTrue result }
-{
-    if has_call(takers, call) {
-        return true;
-    }
-    match item_put(problem, call) {
-        Some(item) => some_may_have_taken(problem, takers, item),
-        None => false,
     }
 }
 
@@ -142,11 +146,12 @@ pub(crate) fn open_takers(
     let Some(last) = problem.calls().get(call) else {
         return Ok(takers);
     };
+    let kept = flags_of(alloc, kept, problem.len())?;
     for (c, made) in problem.calls().iter().enumerate() {
         if let Some(event) = taken_at(made)
             && c <= call
             && event >= last.called
-            && !has_call(kept, c)
+            && !has_flag(kept.as_slice(), c)
         {
             takers.push(c)?;
         }

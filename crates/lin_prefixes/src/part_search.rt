@@ -1,16 +1,27 @@
 //! A search of the problem of some of a problem's calls.
-ghost use Rattle.std.specs.Prelude.{◌≡◌, ◌<◌, ◌≤◌, ℕ, length, IfOk, IsTrue};
+ghost use Rattle.std.specs.Prelude.{◌≡◌, ◌<◌, ◌≤◌, ℕ, length, IfOk};
 ghost use Rattle.lin_history.specs.Problems.Lists.{In};
 ghost use Rattle.lin_history.specs.Problems.Problem.{problem_of};
 ghost use Rattle.lin_ahead.specs.Mutexes.HeldUntil.{AreStandIns};
 ghost use Rattle.lin_parts.specs.Parts.{IsRising};
-ghost use Rattle.lin_prefixes.specs.Prefixes.{HasNoRunWith};
+ghost use Rattle.lin_prefixes.specs.RunsTold.{IsToldOfRuns};
 ghost use Rattle.lin_prefixes.specs.PartAnswer.{IsPartAnswer};
 
 use lin_history::Problem;
 use lin_object::SeqObject;
 use lin_search::Told;
 use std::alloc::{AllocError, Global};
+
+/// What a search tells of the runs of a call that have all of some calls.
+#[derive(Clone, Copy)]
+pub enum RunsTold {
+    /// There is none.
+    NoRun,
+    /// It is not known whether there is one.
+    Nothing,
+    /// The search has come to its end: it has made as many lifts as it may, or was stopped. There is no use in asking it more.
+    Ended,
+}
 
 /// A search that is asked for parts of a problem. It may end for whatever reason with nothing known, as where it has made
 /// as many lifts as it may.
@@ -30,19 +41,19 @@ pub trait PartSearch<O: SeqObject> {
         ensures { IfOk result (IsPartAnswer (problem_of O.after O.State.eq O.Reply.eq problem.now)
             kept.now) };
 
-    /// Whether it is known that there is no run with calls up to this one alone, with every call that precedes it and with each
-    /// of these calls. `AllocError` where memory was refused.
+    /// What is told of the runs with calls up to this one alone, with every call that precedes it and with each of these calls.
+    /// `AllocError` where memory was refused.
     ///
     /// Condition: it is a call of the problem.
-    fn has_no_run_with(
+    fn runs_with(
         &mut self,
         alloc: Global,
         problem: &Problem<O>,
         call: usize,
         calls: &[usize],
-    ) -> Result<bool, AllocError>
+    ) -> Result<RunsTold, AllocError>
         requires { call < length problem.now.calls }
-        ensures { IfOk result (λ none. IsTrue none → HasNoRunWith
+        ensures { IfOk result (IsToldOfRuns
             (problem_of O.after O.State.eq O.Reply.eq problem.now) call calls.now) };
 
     /// A number for each of the first calls, and 0 for the others: a run with calls up to `k` alone that has an open call whose number

@@ -3,12 +3,13 @@
 ghost use Rattle.std.specs.Prelude.{◌≡◌, ◌⊎◌, ◌+◌, ◌<◌, ◌≤◌, ◌^◌, ℕ, None, Some, IfOk, IfSome, IsTrue, IsSome, IsSomeAnd, length, slice_get, slice_index};
 ghost use Rattle.lin_history.specs.Problems.AnyProblem.{any_problem};
 ghost use Rattle.lin_prefixes.specs.Freed.{IsLoosened, IsLoosePrefix};
+ghost use Rattle.lin_prefixes.specs.Marked.{AreMarked};
 
-use crate::call_lists::has_call;
-use crate::open_takers::{are_takers, may_be_freed};
+use crate::marks::Marks;
+use crate::open_takers::are_takers;
 use lin_history::{Problem, ProblemCall, ProblemEvent};
 use lin_object::{AnyObject, Op, Reply, SeqObject};
-use lin_parts::same_call;
+use lin_parts::{same_call, was_taken};
 use std::alloc::{AllocError, Global};
 
 // Whether both calls are the same but for their returns.
@@ -21,12 +22,13 @@ pub(crate) fn same_start(a: &ProblemCall<Op, Reply>, b: &ProblemCall<Op, Reply>)
 }
 
 /// The calls up to one, those of them that are to stay as they are, though they do not precede it, and the dequeues that are to
-/// stay out.
+/// stay out; and the marks of both.
 #[derive(Clone, Copy)]
 pub(crate) struct Loosened<'a> {
     pub(crate) call: usize,
     pub(crate) kept: &'a [usize],
     pub(crate) takers: &'a [usize],
+    pub(crate) marks: &'a Marks,
 }
 
 // Whether the part has the whole's call as it is, where it has to be there; or made pending; or, in place of a dequeue that is to
@@ -39,16 +41,17 @@ fn is_loosened(
 ) -> bool
     requires last { loosened.call < length problem.now.calls }
     requires call { c < length problem.now.calls }
+    requires marks { AreMarked (any_problem problem.now) loosened.kept.now loosened.takers.now loosened.marks.now }
     ensures { IsTrue result → IsLoosened (any_problem problem.now) loosened.entry.call
         loosened.entry.kept.now loosened.entry.takers.now c own.now }
 {
     let call = problem.call(c);
     match &own.returned {
-        None => has_call(loosened.takers, c) || same_start(own, call),
+        None => loosened.marks.is_taker(c) || same_start(own, call),
         Some((number, _)) => {
             same_call(own, call)
-                && (*number < problem.call(loosened.call).called || has_call(loosened.kept, c))
-                && !may_be_freed(problem, loosened.takers, c)
+                && (*number < problem.call(loosened.call).called || loosened.marks.is_kept(c))
+                && !loosened.marks.may_be_freed(problem, c)
         }
     }
 }
@@ -59,7 +62,8 @@ pub(crate) fn is_loose_prefix(
     loosened: Loosened<'_>,
     part: &Problem<AnyObject>,
 ) -> bool
-    requires { loosened.call < length problem.now.calls }
+    requires last { loosened.call < length problem.now.calls }
+    requires marks { AreMarked (any_problem problem.now) loosened.kept.now loosened.takers.now loosened.marks.now }
     ensures { IsTrue result → IsLoosePrefix (any_problem problem.now) loosened.entry.call
         loosened.entry.kept.now loosened.entry.takers.now part.now.calls }
 {
@@ -95,13 +99,13 @@ fn place_of(kept: &[usize], call: usize) -> Option<usize> {
 }
 
 /// Which calls a part has, in increasing order, and which of their returns: those before the event `until`, and those of the
-/// calls that are to have theirs; but none of the takers, which never make a step, and of the calls that put in what these took.
+/// calls that are marked to keep theirs; but none of the takers, which never make a step, and of the calls that put in what these
+/// took.
 #[derive(Clone, Copy)]
 pub(crate) struct Wanted<'a> {
     pub(crate) calls: &'a [usize],
     pub(crate) until: u64,
-    pub(crate) returned: &'a [usize],
-    pub(crate) takers: &'a [usize],
+    pub(crate) marks: &'a Marks,
 }
 
 // An operation with no step at a queue or a stack.
@@ -109,10 +113,10 @@ const NO_STEP: Op = Op::Read;
 
 // Whether the return of the call, at this event, is one of those wanted.
 fn has_return(problem: &Problem<AnyObject>, wanted: Wanted<'_>, call: usize, event: u32) -> bool {
-    if call >= problem.len() || may_be_freed(problem, wanted.takers, call) {
+    if call >= problem.len() || wanted.marks.may_be_freed(problem, call) {
         return false;
     }
-    u64::from(event) < wanted.until || has_call(wanted.returned, call)
+    u64::from(event) < wanted.until || wanted.marks.is_kept(call)
 }
 
 // Adds the event of the whole's call, if it is one of those wanted. `false` where it was refused.
@@ -121,43 +125,43 @@ fn add_event(
     problem: &Problem<AnyObject>,
     wanted: Wanted<'_>,
     event: &ProblemEvent,
-) -> bool
+) -> Result<bool, AllocError>
     ensures { part.new.start ≡ part.old.start }
 {
     match event {
         ProblemEvent::Call(call) => {
             let Some(made) = problem.calls().get(*call) else {
-                return false;
+                return Ok(false);
             };
             if place_of(wanted.calls, *call).is_none() {
-                return true;
+                return Ok(true);
             }
-            let op = if has_call(wanted.takers, *call) {
+            let op = if wanted.marks.is_taker(*call) {
                 NO_STEP
             } else {
                 made.op
             };
-            part.add_call(made.process, op, made.called).is_ok()
+            was_taken(part.add_call(made.process, op, made.called))
         }
         ProblemEvent::Return(call) => {
             let Some(made) = problem.calls().get(*call) else {
-                return false;
+                return Ok(false);
             };
             let Some(index) = place_of(wanted.calls, *call) else {
-                return true;
+                return Ok(true);
             };
             match &made.returned {
                 Some((number, reply)) if has_return(problem, wanted, *call, *number) => {
-                    part.add_return(index, *reply, *number).is_ok()
+                    was_taken(part.add_return(index, *reply, *number))
                 }
-                _ => true,
+                _ => Ok(true),
             }
         }
     }
 }
 
 // The problem of these calls and returns, by the events of the whole in the order of their numbers. `None` where an event was
-// refused.
+// refused. `AllocError` where memory was refused.
 pub(crate) fn made_anew(
     alloc: Global,
     problem: &Problem<AnyObject>,
@@ -169,7 +173,7 @@ pub(crate) fn made_anew(
     let start = problem.object().copy_state(alloc, problem.start())?;
     let mut part = Problem::new(alloc, AnyObject, start);
     for event in events {
-        if !add_event(&mut part, problem, wanted, event) {
+        if !add_event(&mut part, problem, wanted, event)? {
             return Ok(None);
         }
     }

@@ -1,7 +1,7 @@
 //! Groups of calls of which a search did not tell that no run of a call has them all. Of fewer of them it is not asked: what is
 //! not told of many is seldom told of few. All of it is a hint.
 
-use crate::call_lists::has_call;
+use lin_parts::{flags_of, has_flag};
 use std::alloc::{AllocError, Global};
 
 /// Groups of calls, by their numbers, that were asked of for one call.
@@ -25,17 +25,23 @@ impl UntoldGroups {
         self.groups.len()
     }
 
-    /// Whether some group of the call has all of these calls.
-    pub(crate) fn has(&self, call: usize, calls: &[usize]) -> bool {
-        if call != self.call {
-            return false;
+    /// Whether some group of the call has all of these calls, which are different ones up to the call.
+    pub(crate) fn has(
+        &self,
+        alloc: Global,
+        call: usize,
+        calls: &[usize],
+    ) -> Result<bool, AllocError> {
+        if call != self.call || self.groups.is_empty() {
+            return Ok(false);
         }
+        let flags = flags_of(alloc, calls, call.saturating_add(1))?;
         for group in &self.groups {
-            if are_among(calls, group.as_slice()) {
-                return true;
+            if count_of(flags.as_slice(), group.as_slice()) == calls.len() {
+                return Ok(true);
             }
         }
-        false
+        Ok(false)
     }
 
     /// Adds a group of the call. Those of another call go.
@@ -55,12 +61,7 @@ impl UntoldGroups {
     }
 }
 
-// Whether all of the calls are in the group.
-fn are_among(calls: &[usize], group: &[usize]) -> bool {
-    for c in calls {
-        if !has_call(group, *c) {
-            return false;
-        }
-    }
-    true
+// How many calls of the group have a flag.
+fn count_of(flags: &[bool], group: &[usize]) -> usize {
+    group.iter().filter(|c| has_flag(flags, **c)).count()
 }

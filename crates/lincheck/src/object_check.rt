@@ -73,14 +73,9 @@ const LIFTS_BY_PREFIXES_OF_REFUTED: u64 = 512;
 // The most lifts of searches of prefixes for each call. What they do not tell with so many is left to the full search.
 const MOST_BY_PREFIXES: u64 = 1_000;
 
-// The same of a mutex. If it is held twice at one moment late in a history, many calls that never returned are open there. With 4,003
-// calls, 91 of them pending, these searches find the run in 18 seconds and 10 megabytes, but not with 1,000 lifts for each call; the
-// full search takes gigabytes.
-const MOST_BY_PREFIXES_OF_A_MUTEX: u64 = 20_000;
-
-// How many calls a map, a set or a mutex has at least that is left to searches of prefixes, where it is known that it has no
-// linearization. Each lift of the full search of a map or a set copies all of its keys, and that of a mutex keeps each choice of the
-// locks that never returned.
+// How many calls a map, a set or a mutex has at least for which searches of prefixes make all their lifts in the first turn, where it is
+// known that it has no linearization. Each lift of the full search of a map or a set copies all of its keys, and that of a mutex keeps
+// each choice of the locks that never returned. So the full search goes on for a short while there, and then waits.
 const CALLS_LEFT_TO_PREFIXES: usize = 1_000;
 
 // How many turns there are at most: from the least to the most lifts of searches of prefixes, twice as many each time.
@@ -121,11 +116,11 @@ fn asks_no_run(question: Question) -> bool
     }
 }
 
-// How far the ways go in one turn: how long the full search goes on, which may not have its turn, whether a core is looked for then,
-// and how many lifts searches of prefixes make.
+// How far the ways go in one turn: how long the full search goes on, whether a core is looked for then, and how many lifts searches of
+// prefixes make.
 #[derive(Clone, Copy)]
 struct Turn {
-    patience: Option<Patience>,
+    patience: Patience,
     looks_for_core: bool,
     lifts: u64,
 }
@@ -151,11 +146,7 @@ fn is_left_to_prefixes(problem: &Problem<AnyObject>) -> bool {
 
 // How many lifts searches of prefixes make at most.
 fn most_by_prefixes(problem: &Problem<AnyObject>) -> u64 {
-    let for_a_call = match problem.start() {
-        ObjState::Mutex(_) => MOST_BY_PREFIXES_OF_A_MUTEX,
-        _ => MOST_BY_PREFIXES,
-    };
-    for_a_call.saturating_mul(problem.len() as u64)
+    MOST_BY_PREFIXES.saturating_mul(problem.len() as u64)
 }
 
 // Whether the problem is that of a counter of which many calls are pending. A search that tries these only between completed ones
@@ -167,9 +158,22 @@ fn is_counter_with_many_pending(problem: &Problem<AnyObject>) -> bool {
     }
 }
 
+// How many lifts the full search makes in its first turn. Of a large map or set without a linearization the fewer the more calls there
+// are, since each lift copies its keys.
+fn lifts_at_first(problem: &Problem<AnyObject>, asked: &Asked) -> u64 {
+    let calls = problem.len() as u64;
+    match problem.start() {
+        ObjState::Map(_) | ObjState::Set(_)
+            if asked.is_refuted && calls >= CALLS_LEFT_TO_PREFIXES as u64 => {
+            FIRST_TURN * CALLS_LEFT_TO_PREFIXES as u64 / calls
+        }
+        _ => FIRST_TURN.max(calls),
+    }
+}
+
 // How long the full search goes on in its first turn.
 fn first_patience(problem: &Problem<AnyObject>, asked: &Asked) -> Patience {
-    let lifts = FIRST_TURN.max(problem.len() as u64);
+    let lifts = lifts_at_first(problem, asked);
     if is_counter_with_many_pending(problem) {
         Patience::ForLifts(lifts)
     } else {
@@ -189,17 +193,15 @@ fn first_lifts(problem: &Problem<AnyObject>, is_refuted: bool) -> u64 {
 
 // The first turn, with as many lifts by prefixes at most.
 fn first_turn(problem: &Problem<AnyObject>, asked: &Asked, most: u64) -> Turn {
-    if asked.is_refuted && is_left_to_prefixes(problem) {
-        return Turn {
-            patience: None,
-            looks_for_core: false,
-            lifts: most,
-        };
-    }
+    let lifts = if asked.is_refuted && is_left_to_prefixes(problem) {
+        most
+    } else {
+        first_lifts(problem, asked.is_refuted).min(most)
+    };
     Turn {
-        patience: Some(first_patience(problem, asked)),
+        patience: first_patience(problem, asked),
         looks_for_core: true,
-        lifts: first_lifts(problem, asked.is_refuted).min(most),
+        lifts,
     }
 }
 
@@ -210,7 +212,7 @@ fn next_turn(before: Turn, asked: &Asked, most: u64) -> Option<Turn> {
     }
     let lifts = before.lifts.saturating_mul(2);
     Some(Turn {
-        patience: Some(patience_for(lifts, asked)),
+        patience: patience_for(lifts, asked),
         looks_for_core: false,
         lifts: lifts.min(most),
     })
@@ -275,13 +277,13 @@ fn told_ahead<W: Watcher>(
 
 // ---- the full search, over a memo that names a problem with the same runs
 
-// What the calling thread tells by itself, with at most so many lifts where there is a limit. Without patience it does nothing.
+// What the calling thread tells by itself, with at most so many lifts where there is a limit.
 fn search_alone<R: AllocGlobal, G: Gate, W: Watcher>(
     setting: &Setting<'_, '_, R, G, W>,
     problem: &Problem<AnyObject>,
     full: &Problem<AnyObject>,
     memo: &mut OwnMemo<'_, AnyObject>,
-    patience: Option<Patience>,
+    patience: Patience,
     limit: Option<u64>,
 ) -> Result<Alone, AllocError>
     requires runs { HasRunsOf (any_problem problem.now) (any_problem full.now) }
@@ -289,9 +291,6 @@ fn search_alone<R: AllocGlobal, G: Gate, W: Watcher>(
     ensures told { IfOk result (IsToldAlone (any_problem problem.now) setting.now.bounds) }
     ensures memo { memo.new.problem ≡ memo.old.problem }
 {
-    let Some(patience) = patience else {
-        return Ok(Alone::Stalled(0));
-    };
     let bounds = Bounds::new(limit, setting.bounds.watcher());
     bounds.watcher().enter(Way::Full);
     check_alone(setting.rt.alloc(), full, memo, patience, &bounds)
@@ -451,6 +450,13 @@ fn answer_by_prefixes<W: Watcher>(
     }
 }
 
+// What a turn leaves: whether it is known that there is no linearization, and how many lifts searches of prefixes made at most.
+#[derive(Clone, Copy)]
+struct Known {
+    is_refuted: bool,
+    lifts: u64,
+}
+
 // The same after a core was looked for, with the number of configurations that the memo has. An answer for which that is not told is
 // left to workers.
 fn told_by_prefixes<R: AllocGlobal, G: Gate, W: Watcher>(
@@ -459,16 +465,19 @@ fn told_by_prefixes<R: AllocGlobal, G: Gate, W: Watcher>(
     memo: &OwnMemo<'_, AnyObject>,
     asked: Asked,
     turn: Turn,
-) -> Result<ControlFlow<(ObjectAnswer, u64), bool>, AllocError>
+) -> Result<ControlFlow<(ObjectAnswer, u64), Known>, AllocError>
     requires runs { HasRunsOf (any_problem problem.now) (any_problem memo.now.problem) }
     requires refuted { IsTrue asked.is_refuted → HasNoOrder (any_problem problem.now) }
     ensures answer { IfOk result (λ told. ForBreak told
         (IsAnswered (any_problem problem.now) asked.question setting.now.bounds)) }
-    ensures refuted { IfOk result (λ told. ForContinue told (λ refuted.
-        IsTrue refuted → HasNoOrder (any_problem problem.now))) }
+    ensures refuted { IfOk result (λ told. ForContinue told (λ known.
+        IsTrue known.is_refuted → HasNoOrder (any_problem problem.now))) }
 {
     let Some(stored) = stored_now(problem, memo) else {
-        return Ok(ControlFlow::Continue(asked.is_refuted));
+        return Ok(ControlFlow::Continue(Known {
+            is_refuted: asked.is_refuted,
+            lifts: turn.lifts,
+        }));
     };
     let alloc = setting.rt.alloc();
     let watcher = setting.bounds.watcher();
@@ -483,7 +492,9 @@ fn told_by_prefixes<R: AllocGlobal, G: Gate, W: Watcher>(
     watcher.enter(Way::Prefixes);
     match answer_by_prefixes(alloc, problem, &setting.bounds, asked, lifts)? {
         ControlFlow::Break(answer) => Ok(ControlFlow::Break((answer, stored))),
-        ControlFlow::Continue(is_refuted) => Ok(ControlFlow::Continue(is_refuted)),
+        ControlFlow::Continue(is_refuted) => {
+            Ok(ControlFlow::Continue(Known { is_refuted, lifts }))
+        }
     }
 }
 
@@ -530,7 +541,6 @@ fn by_turns<R: AllocGlobal, G: Gate, W: Watcher>(
         let Some(turn) = turn_after(before, problem, &asked, setting.bounds.limit()) else {
             return Ok(ControlFlow::Continue(Rest { is_refuted, limit }));
         };
-        before = Some(turn);
         let alone = search_alone(setting, problem, full, memo, turn.patience, limit)?;
         match answer_alone(alone, is_refuted) {
             ControlFlow::Break(answer) => return Ok(ControlFlow::Break(answer)),
@@ -541,7 +551,13 @@ fn by_turns<R: AllocGlobal, G: Gate, W: Watcher>(
         }
         match told_by_prefixes(setting, problem, memo, asked, turn)? {
             ControlFlow::Break(answer) => return Ok(ControlFlow::Break(answer)),
-            ControlFlow::Continue(known) => is_refuted = known,
+            ControlFlow::Continue(known) => {
+                is_refuted = known.is_refuted;
+                before = Some(Turn {
+                    lifts: known.lifts,
+                    ..turn
+                });
+            }
         }
     }
     Ok(ControlFlow::Continue(Rest { is_refuted, limit }))
@@ -577,7 +593,7 @@ fn to_the_end<R: AllocGlobal + Threads + Sync, G: Gate, W: Watcher>(
     ensures { IfOk result (IsAnswered (any_problem problem.now) asked.question setting.now.bounds) }
 {
     if limit != Some(0) {
-        let patience = Some(patience_of(&setting.options));
+        let patience = patience_of(&setting.options);
         let alone = search_alone(setting, problem, full, memo, patience, limit)?;
         if let ControlFlow::Break(answer) = answer_alone(alone, asked.is_refuted) {
             return Ok(answer);

@@ -25,9 +25,9 @@ const LIFTS_FOR_A_CALL: u64 = 300;
 
 const MORE_LIFTS: u64 = 4_000;
 
-// How many steps that search makes for each of these lifts which tries pending calls only between completed ones: a step takes a quarter
-// of the time of a lift.
-const STEPS_FOR_A_LIFT: u64 = 4;
+/// How many steps a search makes that tries pending calls only between completed ones (`lin_fewer`), for each lift of another that goes
+/// beside it. A step takes about a quarter of the time of a lift, and such a search mostly takes fewer.
+pub const STEPS_FOR_A_LIFT: u64 = 16;
 
 /// So many lifts, but never more than the limit.
 pub(crate) fn within(lifts: u64, limit: Option<u64>) -> u64

@@ -19,11 +19,11 @@ loop-alloc-init g t c = record {
   tried = λ r w. inr (rw c.in_ok-late.ensures.items w);
 }
 
-pub returns-then-some_missed-clause-known : goal.returns-then-some_missed-clause-known
-returns-then-some_missed-clause-known g t c =
+pub returns-then-branch-clause-known : goal.returns-then-branch-clause-known
+returns-then-branch-clause-known g t c =
     λ yes r w. elim (c.loop-alloc.invariant.tried r w) [
       | inl beaten ↦ beaten
-      | inr left ↦ absurd (missed_none (problem_of g.O.SeqObject.after g.O.State.PartialEq.eq g.O.Reply.PartialEq.eq c.args.problem.now) c.args.choice.cut.call c.loop-alloc.conflicts.items c.args.choice.dropped.now c.loop-alloc.late.items c.args.choice.lacking r c.loop-alloc.invariant.conflicts (rw (c.as_slice-in-loop-alloc-2.ensures.value, c.as_slice-in-loop-alloc-3.ensures.value) at (c.some_missed.ensures c.if-some_missed.true)) left)
+      | inr left ↦ absurd (missed_none (problem_of g.O.SeqObject.after g.O.State.PartialEq.eq g.O.Reply.PartialEq.eq c.args.problem.now) c.args.choice.cut.call c.loop-alloc.conflicts.items c.args.choice.dropped.now c.loop-alloc.late.items c.args.choice.lacking r c.loop-alloc.invariant.conflicts (rw (c.as_slice-known.ensures.value, c.as_slice-in-loop-alloc-2.ensures.value) at (c.in_ok-some_missed.ensures c.if-branch.true)) left)
     ]
 
 pub returns-then-not-branch-clause-better : goal.returns-then-not-branch-clause-better
@@ -37,10 +37,10 @@ loop-alloc-preserved g t c = record {
   tried = λ r w. elim (c.loop-alloc.invariant.tried r w) [
     | inl beaten ↦ inl (beaten_chain c.try_open.new.best c.loop-alloc.best r c.in_ok-try_open.ensures.better beaten)
     | inr left ↦ elim (lacking_at (problem_of g.O.SeqObject.after g.O.State.PartialEq.eq g.O.Reply.PartialEq.eq c.args.problem.now) c.args.choice.cut.call c.args.choice.dropped.now c.in_ok-more.more.items c.loop-alloc.late.items c.min.result c.remove-next.result c.args.choice.lacking (c.args.choice.lacking - 1) r
-        (let a = c.min.ensures in let b = c.len.ensures in let v = c.loop-alloc.late.ok.0 in let d = c.remove-next.ensures.len in place_within c.next_place-place.result c.len.result (length c.loop-alloc.late.items) c.min.result a (omega (arith, b, v)) (omega (arith, d, v)))
+        (let a = c.min.ensures in let b = c.len.ensures in let v = c.loop-alloc.late.ok.0 in let d = c.remove-next.ensures.len in place_within c.in_ok-place.place c.len.result (length c.loop-alloc.late.items) c.min.result a (omega (arith, b, v)) (omega (arith, d, v)))
         c.remove-next.ensures.value c.in_ok-more.ensures (let h = c.if-choice-eq0.false in omega (arith, h)) left) [
           | inl there ↦ inr (rw c.remove-next.ensures.items there)
-          | inr out ↦ inl (c.in_ok-try_open.ensures.known c.if-not-branch.false r (rw (c.as_slice-in-loop-alloc-6.ensures.value, c.as_slice-in-loop-alloc-7.ensures.value, c.remove-next.ensures.items) out))
+          | inr out ↦ inl (c.in_ok-try_open.ensures.known c.if-not-branch.false r (rw (c.as_slice-in-loop-alloc-4.ensures.value, c.as_slice-in-loop-alloc-5.ensures.value, c.remove-next.ensures.items) out))
         ]
   ];
 }

@@ -2,8 +2,8 @@ use Rattle.std.proofs.Common.{get_or, true, ◌∙◌, ℕ, List, subst, sym, ta
 use Rattle.lin_history.specs.Problems.Lists.{In}
 use Rattle.std.proofs.Math.ListN.{length-set}
 use Rattle.lin_parts.specs.ListLemmas.{in_at, flag_set, flag_more, flag_past}
-use Rattle.lin_parts.proofs.call_lists.flags_of.Goals as goal
-use Rattle.lin_parts.proofs.call_lists.flags_of.Goals.{then-c-n, else-c-n}
+use Rattle.lin_parts.proofs.call_flags.flags_of.Goals as goal
+use Rattle.lin_parts.proofs.call_flags.flags_of.Goals.{then-c-n, else-c-n}
 
 pub loop-c-preserved : goal.loop-c-preserved
 loop-c-preserved c =

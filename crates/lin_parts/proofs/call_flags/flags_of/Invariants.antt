@@ -1,7 +1,7 @@
 use Rattle.std.proofs.Common.{◌≡◌, ◌<◌, ℕ, true, false, length, take}
 use Rattle.std.specs.Prelude.{slice_index_or}
 use Rattle.lin_history.specs.Problems.Lists.{In}
-use Rattle.lin_parts.proofs.call_lists.flags_of.Given as goal
+use Rattle.lin_parts.proofs.call_flags.flags_of.Given as goal
 
 abbrev pub invariant-loop-c : goal.invariant-loop-c
 invariant-loop-c l = record {

@@ -1,8 +1,0 @@
-use Rattle.std.proofs.Common.{ℕ, drop, ◌⊎◌}
-use Rattle.lin_history.specs.Problems.Lists.{In}
-use Rattle.lin_history.specs.Problems.AnyProblem.{any_problem}
-use Rattle.lin_prefixes.specs.Freed.{TookOut}
-use Rattle.lin_prefixes.proofs.open_takers.some_may_have_taken.Given as goal
-
-abbrev pub invariant-loop-taker : goal.invariant-loop-taker
-invariant-loop-taker l = (b : ℕ) → In b l.takers → (TookOut (any_problem l.problem) b l.item → ⊥) ⊎ In b (drop l.taker-index l.takers)
