@@ -297,10 +297,12 @@ def earlier_calls(kind, core, calls):
 
 
 def begin(kind, core):
-    """The line from which on the other calls matter: 0, or that of a first call which gives anew and returned before the second."""
+    """The line from which on the other calls matter: 0, or that of a first call which gives anew, and is the only one or returned before
+    the second."""
     first, *more = core
     gives = first["op"] in ("write", "put") or kind == "set" and first["op"] == "add" and first["returned"] is not PENDING and first["returned"][1] is True
-    return first["lines"][0] if more and gives and first["returned"] is not PENDING and first["lines"][1] < more[0]["lines"][0] else 0
+    is_before = not more or first["returned"] is not PENDING and first["lines"][1] < more[0]["lines"][0]
+    return first["lines"][0] if gives and is_before else 0
 
 
 def has_step(call):

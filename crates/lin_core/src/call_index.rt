@@ -2,6 +2,7 @@
 
 use crate::call_places::{Place, is_idle, place_of, source_of};
 use crate::selection::{MapKey, Selection};
+use indexmap::IndexMap;
 use lin_history::{Problem, ProblemCall};
 use lin_object::{AnyObject, Op, Reply};
 use std::alloc::{AllocError, Global};
@@ -156,19 +157,15 @@ fn add_calls_by(
     Ok(())
 }
 
-// Appends what the calls of `cas` on the value expect and is not there yet.
+// Adds what the calls of `cas` on the value expect, where it is not there yet.
 fn add_sources(
-    values: &mut Vec<i64>,
+    values: &mut IndexMap<i64, ()>,
     problem: &Problem<AnyObject>,
     on_value: &[usize],
 ) -> Result<(), AllocError> {
     for index in on_value {
-        let Some(call) = problem.calls().get(*index) else {
-            continue;
-        };
-        match source_of(call) {
-            Some(source) if !values.contains(&source) => values.push(source)?,
-            _ => {}
+        if let Some(source) = problem.calls().get(*index).and_then(source_of) {
+            values.insert(source, ())?;
         }
     }
     Ok(())
@@ -181,17 +178,20 @@ pub(crate) fn with_sources(
     index: &CallIndex,
     values: &[i64],
 ) -> Result<Vec<i64>, AllocError> {
-    let mut closed = Vec::from_slice(alloc, values)?;
+    let mut all = IndexMap::new(alloc);
+    for value in values {
+        all.insert(*value, ())?;
+    }
     for i in 0..values.len().saturating_add(MOST_SOURCES) {
-        let Some(value) = closed.get(i) else {
+        let Some((value, _)) = all.get_index(i) else {
             break;
         };
         if let Some(on_value) = index.at(*value) {
-            add_sources(&mut closed, problem, on_value.calls.as_slice())?;
+            add_sources(&mut all, problem, on_value.calls.as_slice())?;
         }
     }
+    let mut closed: Vec<i64> = all.keys().copied().collect(alloc)?;
     closed.sort_unstable();
-    closed.dedup();
     Ok(closed)
 }
 

@@ -11,13 +11,14 @@ use crate::item_times::return_of;
 use crate::judge::{Judge, lifts_for};
 use crate::key_faults::forgotten;
 use crate::lock_faults::{around_try, tries_in_vain, two_holders};
+use crate::next_calls::NextCalls;
 use crate::refuted_part::{Core, core_of_calls};
 use crate::selection::{MapKey, Selection};
 use crate::smaller::{make_smaller, needs_all, rounds_but_for, without_rounds};
 use crate::value_faults::value_faults;
 use lin_history::Problem;
 use lin_object::{AnyObject, ObjState};
-use lin_search::Told;
+use lin_search::{Stop, Told};
 use std::alloc::{AllocError, Global};
 
 // An event after every other.
@@ -57,13 +58,14 @@ fn faults_of_key(
 
 // What a core is looked for with.
 #[derive(Drop)]
-struct Finder<'a> {
+struct Finder<'a, 's, S> {
     problem: &'a Problem<AnyObject>,
+    next: NextCalls<'a>,
     index: CallIndex,
-    judge: Judge<'a>,
+    judge: Judge<'a, 's, S>,
 }
 
-impl<'a> Finder<'a> {
+impl<'a, 's, S: Stop> Finder<'a, 's, S> {
     // The selection of all calls on these values, and on what the calls of `cas` on them expect.
     fn all_on(&self, alloc: Global, values: &[i64]) -> Result<Selection, AllocError> {
         let values = with_sources(alloc, self.problem, &self.index, values)?;
@@ -91,6 +93,9 @@ impl<'a> Finder<'a> {
         lists: &[Vec<i64>],
     ) -> Result<Option<Selection>, AllocError> {
         for values in lists {
+            if !self.judge.goes_on() {
+                break;
+            }
             if let Some(selection) = self.refuted_on(alloc, values.as_slice())? {
                 return Ok(Some(selection));
             }
@@ -117,6 +122,9 @@ impl<'a> Finder<'a> {
         let mut families = Vec::new(alloc);
         families.push(values)?;
         for _ in 0..MOST_FAMILIES {
+            if !self.judge.goes_on() {
+                break;
+            }
             let Some(values) = families.pop() else {
                 break;
             };
@@ -126,7 +134,7 @@ impl<'a> Finder<'a> {
                 .answer(alloc, selection.calls.as_slice(), selection.event)?
             {
                 Told::Refuted => return Ok(Some(selection)),
-                Told::Nothing if values.len() > 1 && !self.judge.is_tired() => {
+                Told::Nothing if values.len() > 1 => {
                     for half in values.as_slice().chunks(values.len() - values.len() / 2) {
                         families.push(list_of(alloc, half)?)?;
                     }
@@ -143,7 +151,7 @@ impl<'a> Finder<'a> {
         let mut best: Option<Selection> = None;
         let mut tried = 0;
         for key in &keys {
-            if tried >= MOST_KEYS {
+            if tried >= MOST_KEYS || !self.judge.goes_on() {
                 break;
             }
             if let Some(selection) = self.refuted_on(alloc, &[*key])? {
@@ -172,6 +180,9 @@ impl<'a> Finder<'a> {
         };
         let calls = on_key.calls.as_slice();
         for selection in faults_of_key(alloc, self.problem, calls, key)? {
+            if !self.judge.goes_on() {
+                break;
+            }
             if self.judge.refutes_selection(alloc, &selection)? {
                 return Ok(Some(selection));
             }
@@ -187,7 +198,7 @@ impl<'a> Finder<'a> {
         selection: Selection,
     ) -> Result<Selection, AllocError> {
         let mut selection = selection;
-        make_smaller(alloc, self.problem, &mut self.judge, &mut selection)?;
+        make_smaller(alloc, &self.next, &mut self.judge, &mut selection)?;
         match best {
             Some(best) if best.calls.len() <= selection.calls.len() => Ok(best),
             _ => Ok(selection),
@@ -196,7 +207,7 @@ impl<'a> Finder<'a> {
 
     // The calls of two processes that held a mutex at one moment, without all their other rounds.
     fn refuted_holders(&mut self, alloc: Global) -> Result<Option<Selection>, AllocError> {
-        let Some(two) = two_holders(alloc, self.problem)? else {
+        let Some(two) = two_holders(alloc, &self.next)? else {
             return Ok(None);
         };
         let calls = self.problem.calls();
@@ -207,8 +218,8 @@ impl<'a> Finder<'a> {
         let Some(selection) = self.refuted_on(alloc, &values)? else {
             return Ok(None);
         };
-        let rounds = rounds_but_for(alloc, self.problem, &selection, &[two.first, two.second])?;
-        let less = without_rounds(alloc, self.problem, &selection, rounds.as_slice())?;
+        let rounds = rounds_but_for(alloc, &self.next, &selection, &[two.first, two.second])?;
+        let less = without_rounds(alloc, &self.next, &selection, rounds.as_slice())?;
         if self.judge.refutes_selection(alloc, &less)? {
             Ok(Some(less))
         } else {
@@ -219,14 +230,17 @@ impl<'a> Finder<'a> {
     // A `try_lock` that answered 'no', with the calls that may hold the mutex meanwhile, which are refuted: as they stood when it
     // returned, or in the end.
     fn refuted_try(&mut self, alloc: Global) -> Result<Option<Selection>, AllocError> {
-        let tries = tries_in_vain(alloc, self.problem)?;
+        let tries = tries_in_vain(alloc, &self.next)?;
         for try_lock in &tries {
             let event = match self.problem.calls().get(*try_lock) {
                 Some(call) => return_of(call),
                 None => THE_END,
             };
             for event in [event, THE_END] {
-                let around = around_try(alloc, self.problem, *try_lock, event)?;
+                if !self.judge.goes_on() {
+                    return Ok(None);
+                }
+                let around = around_try(alloc, &self.next, *try_lock, event)?;
                 if self.judge.refutes_selection(alloc, &around)? {
                     return Ok(Some(around));
                 }
@@ -301,7 +315,7 @@ impl<'a> Finder<'a> {
             return Ok(found);
         };
         let mut least = less.copied(alloc)?;
-        make_smaller(alloc, self.problem, &mut self.judge, &mut least)?;
+        make_smaller(alloc, &self.next, &mut self.judge, &mut least)?;
         found.push(least)?;
         found.push(less)?;
         Ok(found)
@@ -312,7 +326,7 @@ impl<'a> Finder<'a> {
         let Some(mut selection) = self.refuted(alloc)? else {
             return Ok(Vec::new(alloc));
         };
-        make_smaller(alloc, self.problem, &mut self.judge, &mut selection)?;
+        make_smaller(alloc, &self.next, &mut self.judge, &mut selection)?;
         let mut found = if selection.key.is_none() && selection.calls.len() > FEW_CALLS {
             self.from_front(alloc, &selection)?
         } else {
@@ -324,16 +338,19 @@ impl<'a> Finder<'a> {
 }
 
 // Some calls that a search finds to have no linearization, made as few as can be: the fewest first.
-fn selections_found(
+fn selections_found<S: Stop>(
     alloc: Global,
     problem: &Problem<AnyObject>,
     work: u64,
+    stop: &mut S,
 ) -> Result<Vec<Selection>, AllocError> {
     let calls: Vec<usize> = (0..problem.len()).collect(alloc)?;
     let index = CallIndex::new(alloc, problem, calls.as_slice(), None)?;
-    let judge = Judge::new(problem, work);
+    let next = NextCalls::new(alloc, problem)?;
+    let judge = Judge::new(problem, work, stop);
     let mut finder = Finder {
         problem,
+        next,
         index,
         judge,
     };
@@ -341,22 +358,24 @@ fn selections_found(
 }
 
 /// A core of the problem; `None` where none is found: where the problem has a linearization, and else where all that is tried with so
-/// much work finds none. For each part that is tried one is taken for each of its calls, and one for each lift that a search
+/// much work finds none, or where the stop answers. For each part that is tried one is taken for each of its calls, and one for each lift that a search
 /// makes in vain. `AllocError` where memory was refused.
 ///
-/// It looks first for faults as practice has them, which takes O(n log n) for n calls, and then for any.
-pub fn core_of(
+/// It looks first for faults as practice has them, which takes O(n log n) for n calls, and then for any. The stop is asked before each
+/// part, and in its search.
+pub fn core_of<S: Stop>(
     alloc: Global,
     problem: &Problem<AnyObject>,
     work: u64,
+    stop: &mut S,
 ) -> Result<Option<Core>, AllocError>
     ensures core { IfOk result (λ answer. IfSome answer (λ core.
         IsCoreOf (any_problem problem.now) core.event core.key core.values.items core.calls.items core.firsts.items)) }
     ensures none { IfOk result (λ answer. IfSome answer (λ core. HasNone (any_problem problem.now))) }
 {
-    for selection in selections_found(alloc, problem, work)? {
+    for selection in selections_found(alloc, problem, work, stop)? {
         let lifts = lifts_for(selection.calls.len());
-        if let Some(core) = core_of_calls(alloc, problem, selection, lifts)? {
+        if let Some(core) = core_of_calls(alloc, problem, selection, lifts, stop)? {
             return Ok(Some(core));
         }
     }

@@ -16,6 +16,7 @@ use crate::value_tables::may_go;
 use lin_ahead::precedes;
 use lin_history::{Problem, ProblemCall};
 use lin_object::{AnyObject, Op, Reply};
+use lin_search::Stop;
 use std::alloc::{AllocError, Global};
 
 // Whether the operation puts the item in.
@@ -105,11 +106,22 @@ fn is_even(problem: &Problem<AnyObject>, item: i64, these: &[usize]) -> bool
     count_puts(problem, item, these) == count_takes(problem, item, these)
 }
 
-/// Whether as many of these calls put each of the items in as took it out. It takes O(n) for n calls and each item.
-pub(crate) fn are_even(problem: &Problem<AnyObject>, items: &[i64], these: &[usize]) -> bool
-    ensures { result ≡ list_all (is_even problem.now.calls these.now) items.now }
+/// Whether as many of these calls put each of the items in as took it out; not where the stop answers. It takes O(n) for n calls and
+/// each item.
+pub(crate) fn are_even<S: Stop>(
+    problem: &Problem<AnyObject>,
+    items: &[i64],
+    these: &[usize],
+    stop: &mut S,
+) -> bool
+    ensures { IsTrue result → list_all (is_even problem.now.calls these.now) items.now ≡ true }
 {
-    items.iter().all(|item| is_even(problem, *item, these))
+    for item in items {
+        if stop.ask().is_some() || !is_even(problem, *item, these) {
+            return false;
+        }
+    }
+    true
 }
 
 /// Whether each of the calls returned before this one was called.

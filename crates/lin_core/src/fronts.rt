@@ -8,6 +8,7 @@ use crate::selection::Selection;
 use indexmap::IndexMap;
 use lin_history::{Problem, ProblemCall};
 use lin_object::{AnyObject, ObjState, Op, Reply};
+use lin_search::Stop;
 use std::alloc::{AllocError, Global};
 
 // How many such places are tried, or calls looked at for one that begins anew: the last ones.
@@ -132,14 +133,17 @@ fn fronts(
 }
 
 /// The selection from its last such place on that leaves calls which have no linearization, if there is one.
-pub(crate) fn from_front(
+pub(crate) fn from_front<S: Stop>(
     alloc: Global,
     problem: &Problem<AnyObject>,
-    judge: &mut Judge<'_>,
+    judge: &mut Judge<'_, '_, S>,
     selection: &Selection,
 ) -> Result<Option<Selection>, AllocError> {
     let places = fronts(alloc, problem, selection)?;
     for place in places.iter().rev().take(MOST_FRONTS) {
+        if !judge.goes_on() {
+            break;
+        }
         let mut less = selection.copied(alloc)?;
         less.calls = selection.calls.iter().skip(*place).copied().collect(alloc)?;
         if judge.refutes_selection(alloc, &less)? {

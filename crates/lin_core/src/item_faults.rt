@@ -61,11 +61,12 @@ fn there_when_empty(
     found: &mut Vec<Vec<i64>>,
 ) -> Result<(), AllocError> {
     let most = found.len().saturating_add(MOST);
+    let reach = spans.reach(alloc)?;
     for (called, returned) in empties {
         if found.len() >= most {
             break;
         }
-        if let Some(chain) = spans.cover(alloc, *called, *returned)? {
+        if let Some(chain) = spans.cover(alloc, reach.as_slice(), *called, *returned)? {
             found.push(chain)?;
         }
     }

@@ -4,8 +4,9 @@
 use crate::call_places::is_idle;
 use crate::item_faults::MOST;
 use crate::item_times::{NEVER, return_of};
+use crate::next_calls::NextCalls;
 use crate::refused_tries::is_refused;
-use crate::rounds::{next_of_process, round_from, takes};
+use crate::rounds::takes;
 use crate::selection::Selection;
 use crate::spans::{Span, Spans};
 use lin_ahead::precedes;
@@ -21,13 +22,17 @@ pub(crate) struct TwoHolders {
 }
 
 // When the call, which took the mutex, surely held it: from its return to the next call of its process, if that gives it back.
-fn held_from(problem: &Problem<AnyObject>, call: usize) -> Option<Span> {
-    let taker = problem.calls().get(call)?;
+fn held_from(next: &NextCalls<'_>, call: usize) -> Option<Span> {
+    let calls = next.problem().calls();
+    let taker = calls.get(call)?;
     if !takes(taker) || taker.returned.is_none() {
         return None;
     }
-    let until = match next_of_process(problem, call).and_then(|next| problem.calls().get(next)) {
-        Some(next) if next.op == Op::Unlock => next.called,
+    let until = match next
+        .next_of_process(call)
+        .and_then(|index| calls.get(index))
+    {
+        Some(other) if other.op == Op::Unlock => other.called,
         _ => NEVER,
     };
     Some(Span {
@@ -37,15 +42,14 @@ fn held_from(problem: &Problem<AnyObject>, call: usize) -> Option<Span> {
     })
 }
 
-/// Two calls that each took the mutex while the other surely held it, if there are any. It takes O(n log n) for n calls of a
-/// history in which no process waits long for its next call.
+/// Two calls that each took the mutex while the other surely held it, if there are any. It takes O(n log n) for n calls.
 pub(crate) fn two_holders(
     alloc: Global,
-    problem: &Problem<AnyObject>,
+    next: &NextCalls<'_>,
 ) -> Result<Option<TwoHolders>, AllocError> {
     let mut held = Vec::new(alloc);
-    for call in 0..problem.len() {
-        if let Some(span) = held_from(problem, call) {
+    for call in 0..next.problem().len() {
+        if let Some(span) = held_from(next, call) {
             held.push(span)?;
         }
     }
@@ -72,12 +76,13 @@ fn holders(first: i64, second: i64) -> Option<TwoHolders> {
 
 // From when to when the call, which may have taken the mutex, may have held it: from its call to the return of the unlock behind
 // it.
-fn may_hold(problem: &Problem<AnyObject>, call: usize) -> Option<Span> {
-    let taker = problem.calls().get(call)?;
+fn may_hold(next: &NextCalls<'_>, call: usize) -> Option<Span> {
+    let calls = next.problem().calls();
+    let taker = calls.get(call)?;
     if is_idle(taker) || taker.op == Op::Unlock {
         return None;
     }
-    let until = match round_from(problem, call).and_then(|last| problem.calls().get(last)) {
+    let until = match next.round_from(call).and_then(|last| calls.get(last)) {
         Some(last) => return_of(last),
         None => NEVER,
     };
@@ -99,15 +104,12 @@ fn is_alone(problem: &Problem<AnyObject>, holds: &Spans, call: usize) -> bool {
     }
 }
 
-/// Calls of `try_lock` that answered 'no', first those while which nobody may hold the mutex. It takes O(n log n) for n calls of
-/// a history in which no process waits long for its next call.
-pub(crate) fn tries_in_vain(
-    alloc: Global,
-    problem: &Problem<AnyObject>,
-) -> Result<Vec<usize>, AllocError> {
+/// Calls of `try_lock` that answered 'no', first those while which nobody may hold the mutex. It takes O(n log n) for n calls.
+pub(crate) fn tries_in_vain(alloc: Global, next: &NextCalls<'_>) -> Result<Vec<usize>, AllocError> {
+    let problem = next.problem();
     let is_try = |call: &usize| problem.calls().get(*call).is_some_and(is_refused);
     let tries: Vec<usize> = (0..problem.len()).filter(is_try).collect(alloc)?;
-    let spans = (0..problem.len()).filter_map(|call| may_hold(problem, call));
+    let spans = (0..problem.len()).filter_map(|call| may_hold(next, call));
     let holds = Spans::new(alloc, spans.collect(alloc)?)?;
     let is_alone = |call: &usize| is_alone(problem, &holds, *call);
     let mut found: Vec<usize> = tries
@@ -148,10 +150,11 @@ fn is_apart(problem: &Problem<AnyObject>, call: usize, first: usize, last: usize
 /// before it or began after it.
 pub(crate) fn around_try(
     alloc: Global,
-    problem: &Problem<AnyObject>,
+    next: &NextCalls<'_>,
     try_lock: usize,
     event: u32,
 ) -> Result<Selection, AllocError> {
+    let problem = next.problem();
     let values = processes_by(alloc, problem, event)?;
     let mut around = Selection::new(alloc, event, None, values, Vec::new(alloc));
     let mut unlocks = vec![in alloc; false; problem.len()]?;
@@ -160,7 +163,7 @@ pub(crate) fn around_try(
         if call.called > event {
             break;
         }
-        match round_from(problem, index) {
+        match next.round_from(index) {
             Some(last) if last < unlocks.len() && is_apart(problem, try_lock, index, last) => {
                 unlocks[last] = true;
                 around.firsts.push(index)?;

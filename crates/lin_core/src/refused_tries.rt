@@ -15,6 +15,7 @@ use crate::value_tables::has_process;
 use lin_ahead::precedes;
 use lin_history::{Problem, ProblemCall};
 use lin_object::{AnyObject, ObjState, Op, Reply};
+use lin_search::Stop;
 
 /// Whether the call is a `try_lock` that answered 'no'.
 pub(crate) fn is_refused(call: &ProblemCall<Op, Reply>) -> bool
@@ -44,14 +45,22 @@ fn is_free(state: &ObjState) -> bool
     }
 }
 
-// Whether the mutex is free at the start, and only these processes may take it by the event.
-fn are_all_takers(problem: &Problem<AnyObject>, event: u32, values: &[i64]) -> bool
+/// Whether the mutex is free at the start, and only these processes may take it by the event; not where the stop answers.
+pub(crate) fn are_all_takers<S: Stop>(
+    problem: &Problem<AnyObject>,
+    event: u32,
+    values: &[i64],
+    stop: &mut S,
+) -> bool
     ensures { IsTrue result → AreAllTakers (any_problem problem.now) event values.now }
 {
     if !is_free(problem.start()) {
         return false;
     }
     for c in 0..problem.len() {
+        if stop.ask().is_some() {
+            return false;
+        }
         let call = problem.call(c);
         if call.called <= event && may_take(&call.op) && !has_process(values, call.process) {
             return false;
@@ -76,21 +85,21 @@ fn is_apart(problem: &Problem<AnyObject>, firsts: &[usize], lasts: &[usize], cal
 }
 
 /// Whether the call, which has this number in the whole, is a `try_lock` that answered 'no', by the processes of all that may
-/// take the mutex, and each round that is left out ended before it or began after it.
+/// take the mutex, and each round that is left out ended before it or began after it: where it is known whether these are all.
 pub(crate) fn is_try_apart(
     problem: &Problem<AnyObject>,
     selection: &Selection,
+    are_all: bool,
     number: usize,
     call: &ProblemCall<Op, Reply>,
 ) -> bool
-    requires { length selection.now.lasts.items ≡ length selection.now.firsts.items }
+    requires all { IsTrue are_all → AreAllTakers (any_problem problem.now) selection.now.event
+        selection.now.values.items }
+    requires pairs { length selection.now.lasts.items ≡ length selection.now.firsts.items }
     ensures { IsTrue result → IsTryApart (any_problem problem.now) selection.now.event
         selection.now.values.items selection.now.firsts.items selection.now.lasts.items number call.now }
 {
     let firsts = selection.firsts.as_slice();
     let lasts = selection.lasts.as_slice();
-    if !is_refused(call) || !is_apart(problem, firsts, lasts, number) {
-        return false;
-    }
-    are_all_takers(problem, selection.event, selection.values.as_slice())
+    are_all && is_refused(call) && is_apart(problem, firsts, lasts, number)
 }

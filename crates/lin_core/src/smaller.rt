@@ -4,11 +4,12 @@
 use crate::call_index::CallIndex;
 use crate::call_places::{Place, is_idle, place_of, source_of};
 use crate::judge::Judge;
+use crate::next_calls::NextCalls;
 use crate::refused_tries::is_refused;
-use crate::rounds::round_from;
 use crate::selection::{MapKey, Selection};
 use lin_history::{Problem, ProblemCall};
 use lin_object::{AnyObject, Op, Reply};
+use lin_search::Stop;
 use std::alloc::{AllocError, Global};
 
 // How often all ways are tried, and how often a number below 2^32 can be halved.
@@ -113,19 +114,19 @@ fn with_fewer_values(
 // The calls of the selection that may be left out one by one, or with which such a round begins.
 fn removable(
     alloc: Global,
-    problem: &Problem<AnyObject>,
+    next: &NextCalls<'_>,
     selection: &Selection,
     way: Way,
 ) -> Result<Vec<usize>, AllocError> {
     let mut found = Vec::new(alloc);
     for index in &selection.calls {
-        let Some(call) = problem.calls().get(*index) else {
+        let Some(call) = next.problem().calls().get(*index) else {
             continue;
         };
         let may_go = match way {
             Way::Values => false,
             Way::IdleCalls => is_idle(call),
-            Way::Rounds => round_from(problem, *index).is_some(),
+            Way::Rounds => next.round_from(*index).is_some(),
         };
         if may_go {
             found.push(*index)?;
@@ -148,14 +149,14 @@ fn without_calls(alloc: Global, calls: &[usize], gone: &[usize]) -> Result<Vec<u
 /// The selection without the rounds that begin with these calls.
 pub(crate) fn without_rounds(
     alloc: Global,
-    problem: &Problem<AnyObject>,
+    next: &NextCalls<'_>,
     selection: &Selection,
     first_calls: &[usize],
 ) -> Result<Selection, AllocError> {
     let mut less = selection.copied(alloc)?;
     let mut gone = Vec::new(alloc);
     for first in first_calls {
-        if let Some(last) = round_from(problem, *first) {
+        if let Some(last) = next.round_from(*first) {
             gone.push(*first)?;
             gone.push(last)?;
             less.firsts.push(*first)?;
@@ -170,19 +171,19 @@ pub(crate) fn without_rounds(
 // The selection without these of the calls that may go this way: so many from a place on. `None` where that can't be.
 fn with_fewer(
     alloc: Global,
-    problem: &Problem<AnyObject>,
+    next: &NextCalls<'_>,
     selection: &Selection,
     way: Way,
     from: usize,
     count: usize,
 ) -> Result<Option<Selection>, AllocError> {
     if way == Way::Values {
-        return with_fewer_values(alloc, problem, selection, from, count);
+        return with_fewer_values(alloc, next.problem(), selection, from, count);
     }
-    let all = removable(alloc, problem, selection, way)?;
+    let all = removable(alloc, next, selection, way)?;
     let gone: Vec<usize> = all.iter().skip(from).take(count).copied().collect(alloc)?;
     if way == Way::Rounds {
-        return Ok(Some(without_rounds(alloc, problem, selection, gone.as_slice())?));
+        return Ok(Some(without_rounds(alloc, next, selection, gone.as_slice())?));
     }
     let mut less = selection.copied(alloc)?;
     less.calls = without_calls(alloc, selection.calls.as_slice(), gone.as_slice())?;
@@ -192,20 +193,20 @@ fn with_fewer(
 // How many of its values, calls or rounds may be left out this way.
 fn count_of(
     alloc: Global,
-    problem: &Problem<AnyObject>,
+    next: &NextCalls<'_>,
     selection: &Selection,
     way: Way,
 ) -> Result<usize, AllocError> {
     if way == Way::Values {
         return Ok(selection.values.len());
     }
-    Ok(removable(alloc, problem, selection, way)?.len())
+    Ok(removable(alloc, next, selection, way)?.len())
 }
 
 // Takes the smaller selection where a search shows that it has no linearization. Whether it did.
-fn takes_smaller(
+fn takes_smaller<S: Stop>(
     alloc: Global,
-    judge: &mut Judge<'_>,
+    judge: &mut Judge<'_, '_, S>,
     selection: &mut Selection,
     less: Option<Selection>,
 ) -> Result<bool, AllocError> {
@@ -220,20 +221,20 @@ fn takes_smaller(
 }
 
 // Leaves out so many at once, wherever that can be.
-fn leave_out_by(
+fn leave_out_by<S: Stop>(
     alloc: Global,
-    problem: &Problem<AnyObject>,
-    judge: &mut Judge<'_>,
+    next: &NextCalls<'_>,
+    judge: &mut Judge<'_, '_, S>,
     selection: &mut Selection,
     way: Way,
     size: usize,
 ) -> Result<(), AllocError> {
     let mut from = 0;
-    for _ in 0..count_of(alloc, problem, selection, way)? {
-        if from >= count_of(alloc, problem, selection, way)? || judge.is_tired() {
+    for _ in 0..count_of(alloc, next, selection, way)? {
+        if !judge.goes_on() || from >= count_of(alloc, next, selection, way)? {
             break;
         }
-        let less = with_fewer(alloc, problem, selection, way, from, size)?;
+        let less = with_fewer(alloc, next, selection, way, from, size)?;
         if !takes_smaller(alloc, judge, selection, less)? {
             from = from.saturating_add(size);
         }
@@ -242,17 +243,20 @@ fn leave_out_by(
 }
 
 // Leaves out this way what can be: halves first, and one by one at last.
-fn leave_out(
+fn leave_out<S: Stop>(
     alloc: Global,
-    problem: &Problem<AnyObject>,
-    judge: &mut Judge<'_>,
+    next: &NextCalls<'_>,
+    judge: &mut Judge<'_, '_, S>,
     selection: &mut Selection,
     way: Way,
 ) -> Result<(), AllocError> {
-    let mut size = count_of(alloc, problem, selection, way)?;
+    let mut size = count_of(alloc, next, selection, way)?;
     for _ in 0..HALVINGS {
+        if !judge.goes_on() {
+            break;
+        }
         size -= size / 2;
-        leave_out_by(alloc, problem, judge, selection, way, size)?;
+        leave_out_by(alloc, next, judge, selection, way, size)?;
         if size <= 1 {
             break;
         }
@@ -301,17 +305,17 @@ fn calls_by(
 
 // The least return after which the selection has no linearization, where it has none now. A cut at an event has one wherever a cut at a
 // later one has.
-fn first_refuted_return(
+fn first_refuted_return<S: Stop>(
     alloc: Global,
     problem: &Problem<AnyObject>,
-    judge: &mut Judge<'_>,
+    judge: &mut Judge<'_, '_, S>,
     selection: &Selection,
 ) -> Result<Option<u32>, AllocError> {
     let returns = returns_by(alloc, problem, selection)?;
     let mut low = 0;
     let mut high = returns.len().saturating_sub(1);
     for _ in 0..HALVINGS {
-        if low >= high {
+        if low >= high || !judge.goes_on() {
             break;
         }
         let middle = low + (high - low) / 2;
@@ -329,10 +333,10 @@ fn first_refuted_return(
 }
 
 // Cuts the selection at the least return after which it has no linearization.
-fn cut_early(
+fn cut_early<S: Stop>(
     alloc: Global,
     problem: &Problem<AnyObject>,
-    judge: &mut Judge<'_>,
+    judge: &mut Judge<'_, '_, S>,
     selection: &mut Selection,
 ) -> Result<(), AllocError> {
     if let Some(event) = first_refuted_return(alloc, problem, judge, selection)? {
@@ -369,22 +373,22 @@ pub(crate) fn needs_all(problem: &Problem<AnyObject>, selection: &Selection) -> 
         .any(|index| problem.calls().get(*index).is_some_and(needs_all))
 }
 
-/// Makes a selection that has no linearization smaller, as long as there is work left.
-pub(crate) fn make_smaller(
+/// Makes a selection that has no linearization smaller, as long as the judge goes on.
+pub(crate) fn make_smaller<S: Stop>(
     alloc: Global,
-    problem: &Problem<AnyObject>,
-    judge: &mut Judge<'_>,
+    next: &NextCalls<'_>,
+    judge: &mut Judge<'_, '_, S>,
     selection: &mut Selection,
 ) -> Result<(), AllocError> {
     for _ in 0..TURNS {
         let before = size_of(selection);
-        cut_early(alloc, problem, judge, selection)?;
-        if !needs_all(problem, selection) {
-            leave_out(alloc, problem, judge, selection, Way::Values)?;
-            leave_out(alloc, problem, judge, selection, Way::Rounds)?;
+        cut_early(alloc, next.problem(), judge, selection)?;
+        if !needs_all(next.problem(), selection) {
+            leave_out(alloc, next, judge, selection, Way::Values)?;
+            leave_out(alloc, next, judge, selection, Way::Rounds)?;
         }
-        leave_out(alloc, problem, judge, selection, Way::IdleCalls)?;
-        if size_of(selection) == before {
+        leave_out(alloc, next, judge, selection, Way::IdleCalls)?;
+        if size_of(selection) == before || !judge.goes_on() {
             break;
         }
     }
@@ -394,11 +398,11 @@ pub(crate) fn make_smaller(
 /// The first calls of the rounds of a selection but for these calls.
 pub(crate) fn rounds_but_for(
     alloc: Global,
-    problem: &Problem<AnyObject>,
+    next: &NextCalls<'_>,
     selection: &Selection,
     calls: &[usize],
 ) -> Result<Vec<usize>, AllocError> {
-    let mut firsts = removable(alloc, problem, selection, Way::Rounds)?;
+    let mut firsts = removable(alloc, next, selection, Way::Rounds)?;
     firsts.retain(|first| !calls.contains(first));
     Ok(firsts)
 }

@@ -49,27 +49,64 @@ impl Spans {
         self.spans.get(*index).copied()
     }
 
-    /// Names of spans that cover all moments from the one event to the other; `None` where they leave one out.
+    // Of the spans that began by the event the one that ends last, by its place, if it ends later.
+    fn over(&self, event: u32) -> Option<usize> {
+        let count = self.spans.partition_point(|span| span.from <= event);
+        let place = *self.last.get(count.checked_sub(1)?)?;
+        if self.spans.get(place)?.until > event {
+            Some(place)
+        } else {
+            None
+        }
+    }
+
+    /// How far spans go on from each span without leaving a moment out, by its place. It takes O(n log n) for n spans.
+    pub(crate) fn reach(&self, alloc: Global) -> Result<Vec<u32>, AllocError> {
+        let mut reach: Vec<u32> = self.spans.iter().map(|span| span.until).collect(alloc)?;
+        let mut places: Vec<usize> = (0..self.spans.len()).collect(alloc)?;
+        places.sort_by_key(|place| self.until_at(*place))?;
+        for place in places.iter().rev() {
+            let next = self.over(self.until_at(*place));
+            let further = next.and_then(|next| reach.get(next).copied());
+            if let (Some(further), Some(slot)) = (further, reach.get_mut(*place)) {
+                *slot = further;
+            }
+        }
+        Ok(reach)
+    }
+
+    // When the span of this place ends.
+    fn until_at(&self, place: usize) -> u32 {
+        self.spans.get(place).map_or(0, |span| span.until)
+    }
+
+    /// Names of spans that cover all moments from the one event to the other, where it is known how far spans go on from each. `None`
+    /// where they leave a moment out: that takes O(log n) for n spans.
     pub(crate) fn cover(
         &self,
         alloc: Global,
+        reach: &[u32],
         from: u32,
         until: u32,
     ) -> Result<Option<Vec<i64>>, AllocError> {
-        let mut names = Vec::new(alloc);
-        let mut at = from;
-        for _ in 0..self.spans.len() {
-            match self.last_before(at.saturating_add(1)) {
-                Some(span) if span.until > at => {
-                    names.push(span.name)?;
-                    at = span.until;
-                }
-                _ => return Ok(None),
-            }
-            if at >= until {
-                return Ok(Some(names));
-            }
+        let Some(first) = self.over(from) else {
+            return Ok(None);
+        };
+        if reach.get(first).copied().unwrap_or(0) < until {
+            return Ok(None);
         }
-        Ok(None)
+        let mut names = Vec::new(alloc);
+        let mut next = Some(first);
+        for _ in 0..self.spans.len() {
+            let Some(span) = next.and_then(|place| self.spans.get(place)) else {
+                break;
+            };
+            names.push(span.name)?;
+            if span.until >= until {
+                break;
+            }
+            next = self.over(span.until);
+        }
+        Ok(Some(names))
     }
 }

@@ -8,6 +8,7 @@ ghost use Rattle.lin_core.specs.Sums.{IsSumFault};
 use crate::sum_faults::{SumFault, sum_fault};
 use lin_history::{Problem, ProblemEvent};
 use lin_object::{AnyObject, ObjState, Op, Reply};
+use lin_search::{AtTimes, Stop};
 use std::alloc::{AllocError, Global};
 
 // How many events before a get are looked at for an earlier one whose reply it can't follow. Before a few gets that are known to
@@ -235,12 +236,15 @@ impl<'a> Timeline<'a> {
     }
 
     // The guess with the fewest events: of each get over the nearest events before it, and of the first gets that are known to have
-    // a fault over all.
-    fn best(&self, alloc: Global) -> Result<Option<Guess>, AllocError> {
+    // a fault over all. `None` where the stop answers.
+    fn best<S: Stop>(&self, alloc: Global, stop: &mut S) -> Result<Option<Guess>, AllocError> {
         let mut rooms = Rooms::new(alloc, self)?;
         let mut known = 0;
         let mut best = None;
         for event in &self.events {
+            if stop.ask().is_some() {
+                return Ok(None);
+            }
             match event {
                 ProblemEvent::Call(call) => rooms.note_call(*call),
                 ProblemEvent::Return(get) => {
@@ -361,25 +365,32 @@ impl Rooms {
 }
 
 // The gets that are guessed first.
-fn best_guess(alloc: Global, problem: &Problem<AnyObject>) -> Result<Option<Guess>, AllocError> {
+fn best_guess<S: Stop>(
+    alloc: Global,
+    problem: &Problem<AnyObject>,
+    stop: &mut S,
+) -> Result<Option<Guess>, AllocError> {
     match problem.start() {
-        ObjState::Counter(start) => Timeline::new(alloc, problem, *start)?.best(alloc),
+        ObjState::Counter(start) => {
+            Timeline::new(alloc, problem, *start)?.best(alloc, &mut AtTimes::new(stop))
+        }
         _ => Ok(None),
     }
 }
 
 /// A get of a counter for whose reply the adds leave no room, counted from the start or from an earlier get: of those that are found
-/// the one with the fewest events to look at. `None` where none is found. It takes O(n) for n calls. `AllocError` where memory was
+/// the one with the fewest events to look at. `None` where none is found, or where the stop answers. It takes O(n) for n calls. `AllocError` where memory was
 /// refused.
-pub fn sum_fault_of(
+pub fn sum_fault_of<S: Stop>(
     alloc: Global,
     problem: &Problem<AnyObject>,
+    stop: &mut S,
 ) -> Result<Option<SumFault>, AllocError>
     ensures fault { IfOk result (λ answer. IfSome answer (λ fault.
         IsSumFault (any_problem problem.now) fault)) }
     ensures none { IfOk result (λ answer. IfSome answer (λ fault. HasNone (any_problem problem.now))) }
 {
-    match best_guess(alloc, problem)? {
+    match best_guess(alloc, problem, stop)? {
         Some(guess) => Ok(sum_fault(problem, guess.from, guess.get, guess.up)),
         None => Ok(None),
     }

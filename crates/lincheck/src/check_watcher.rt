@@ -13,6 +13,9 @@ use std::time::{Clock, Duration, Instant};
 // How many seconds go from one time that it is shown how far a check has come to the next.
 const SECONDS_BETWEEN: u64 = 2;
 
+// How much time is left at least for what explains an answer, in microseconds: most cores are found in less.
+const TIME_TO_EXPLAIN: u64 = 100_000;
+
 /// The watcher of a check of a history. A clock that fails ends nothing, and shows nothing.
 #[derive(Drop)]
 pub(crate) struct CheckWatcher<'a, C, L> {
@@ -23,6 +26,8 @@ pub(crate) struct CheckWatcher<'a, C, L> {
     is_shown: bool,
     is_bounded: bool,
     begun: Option<Instant>,
+    // When the time is up, in microseconds.
+    end: AtomicU64,
     was_up: AtomicBool,
     // Which time it was last shown, the first after two seconds, the second after four, and how many calls were tried by then.
     turn: AtomicU64,
@@ -58,6 +63,10 @@ impl<'a, C: Clock, L: Listener> CheckWatcher<'a, C, L> {
             is_shown,
             is_bounded,
             begun: time_now(clock, is_bounded || is_shown),
+            end: AtomicU64::new(seconds.map_or(
+                u64::MAX,
+                |seconds| seconds.saturating_mul(1_000_000),
+            )),
             was_up: AtomicBool::new(false),
             turn: AtomicU64::new(0),
             tried_at_turn: AtomicU64::new(0),
@@ -146,6 +155,13 @@ impl<'a, C: Clock, L: Listener> CheckWatcher<'a, C, L> {
         });
     }
 
+    // The check has ended, and what explains its answer is looked for: a little time is left for that, also where the check took all.
+    pub(crate) fn begin_to_explain(&self) {
+        self.ways.enter(Way::Core, self.micros());
+        let least = self.micros().saturating_add(TIME_TO_EXPLAIN);
+        self.end.fetch_max(least, SeqCst);
+    }
+
     // Tells what the check took, which ended at the object that was searched last.
     pub(crate) fn end_here(&self) {
         self.tell(self.last());
@@ -165,12 +181,12 @@ fn micros_of(time: Duration) -> u64 {
         .saturating_add(micros)
 }
 
-// Whether so many seconds have gone, where a number is given and the clock says the time.
-fn is_over(seconds: Option<u64>, time: Option<Duration>) -> bool
+// Whether the time is up at so many microseconds, where it is bounded by seconds and the clock says how much has gone.
+fn is_over(seconds: Option<u64>, end: u64, time: Option<Duration>) -> bool
     ensures { IsTrue result → IsSome seconds }
 {
     match (seconds, time) {
-        (Some(seconds), Some(time)) => time.as_secs() >= seconds,
+        (Some(_), Some(time)) => micros_of(time) >= end,
         _ => false,
     }
 }
@@ -199,7 +215,7 @@ impl<'a, C: Clock + Sync, L: Listener + Sync> Watcher for CheckWatcher<'a, C, L>
         if self.is_shown {
             self.show_in_time(time);
         }
-        let is_up = is_over(self.seconds, time);
+        let is_up = is_over(self.seconds, self.end.load(SeqCst), time);
         if is_up {
             self.was_up.store(true, SeqCst);
         }

@@ -76,27 +76,33 @@ pub fn check_each<R: AllocGlobal + Threads + Clock + Sync, G: Gate>(
     ensures stored { IfOk result (λ checked. IsStoredTold history.now
         (length history.now.objects) checked.stored) }
 {
-    check_each_with(rt, history, options, gate, &NoListener)
+    let watcher = CheckWatcher::new(rt, history, options, &NoListener);
+    check_each_watched(rt, history, options, gate, &watcher)
 }
 
-/// Checks each object as `check_each` does, while a listener is told how far that has come.
-pub(crate) fn check_each_with<R: AllocGlobal + Threads + Clock + Sync, G: Gate, L: Listener + Sync>(
+/// Checks each object as `check_each` does, while a watcher is told how far that has come, and knows when the time is up: it began when
+/// the check did.
+pub(crate) fn check_each_watched<
+    R: AllocGlobal + Threads + Clock + Sync,
+    G: Gate,
+    L: Listener + Sync,
+>(
     rt: &R,
     history: &History,
     options: &Options,
     gate: &G,
-    listener: &L,
+    watcher: &CheckWatcher<'_, R, L>,
 ) -> Result<CheckedEach, CheckFault>
+    requires { watcher.now.seconds ≡ options.now.seconds }
     ensures statuses { IfOk result (λ checked. AreStatusesOf history.now (bounds_of options.now)
         (length history.now.objects) checked.statuses.items) }
     ensures stored { IfOk result (λ checked. IsStoredTold history.now
         (length history.now.objects) checked.stored) }
 {
-    let watcher = CheckWatcher::new(rt, history, options, listener);
     let setting = Setting {
         rt,
         options: options_here(rt, options, gate),
-        bounds: Bounds::new(options.limit(), &watcher),
+        bounds: Bounds::new(options.limit(), watcher),
         gate,
     };
     let checked = judge_each(&setting, history)?;

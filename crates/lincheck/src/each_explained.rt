@@ -12,15 +12,18 @@ use crate::witness::witness_of;
 use lin_explain::{Witness, write_witness};
 use lin_history::{History, Problem};
 use lin_object::AnyObject;
+use lin_search::Stop;
 use std::alloc::{AllocError, Global};
 
-// What is told behind the line of the object of this index, of which the problem is the part of the history on it.
-fn told_behind(
+// What is told behind the line of the object of this index, of which the problem is the part of the history on it: nothing once the
+// stop answers.
+fn told_behind<S: Stop>(
     alloc: Global,
     history: &History,
     object: usize,
     problem: &Problem<AnyObject>,
     status: Status,
+    stop: &mut S,
 ) -> Result<Witness, AllocError>
     requires start { option_map start_of (slice_get history.now.objects object)
         ≡ Some problem.now.start }
@@ -28,29 +31,37 @@ fn told_behind(
     ensures { IfOk result (λ told. IsToldBehind history.now object status told) }
 {
     match status {
-        Status::No => witness_of(alloc, history, object, problem),
+        Status::No => witness_of(alloc, history, object, problem, stop),
         Status::Yes => Ok(Witness::Nothing),
         Status::Undecided => Ok(Witness::Nothing),
         Status::Refused => Ok(Witness::Nothing),
     }
 }
 
-// The line of the object of this index, whose calls have these indices, with what is told behind it.
-fn told_of(
+// An object by its index, with its status.
+#[derive(Clone, Copy)]
+struct Judged {
+    object: usize,
+    status: Status,
+}
+
+// The line of the object, whose calls have these indices, with what is told behind it.
+fn told_of<S: Stop>(
     alloc: Global,
     history: &History,
-    object: usize,
+    judged: Judged,
     indices: &[usize],
-    status: Status,
     lines: &[u64],
+    stop: &mut S,
 ) -> Result<String, AllocError>
-    requires declared { object < length history.now.objects }
-    requires indices { indices.now ≡ indices_from object 0 history.now.calls }
-    ensures { IfOk result (λ text. (told : Told) × IsToldBehind history.now object status told
-        × (string_bytes text ≡ told_text history.now lines.now object status told)) }
+    requires declared { judged.object < length history.now.objects }
+    requires indices { indices.now ≡ indices_from judged.object 0 history.now.calls }
+    ensures { IfOk result (λ text. (told : Told) × IsToldBehind history.now judged.object judged.status told
+        × (string_bytes text ≡ told_text history.now lines.now judged.object judged.status told)) }
 {
+    let Judged { object, status } = judged;
     let problem = history.part(alloc, object, indices)?;
-    let told = told_behind(alloc, history, object, &problem, status)?;
+    let told = told_behind(alloc, history, object, &problem, status, stop)?;
     let mut out = String::new(alloc);
     write_status(&mut out, history, object, status)?;
     let name = history.object(object).name;
@@ -58,63 +69,69 @@ fn told_of(
     Ok(out)
 }
 
-// Appends the lines of the objects, each with what is told behind it.
-fn write_told(
+// The lines of the objects, whose calls have the indices in the lists, each with what is told behind it.
+fn told_lines<S: Stop>(
     alloc: Global,
-    out: &mut String,
     history: &History,
     lists: &[Vec<usize>],
     statuses: &[Status],
     lines: &[u64],
-) -> Result<(), AllocError>
+    stop: &mut S,
+) -> Result<String, AllocError>
     requires statuses { length statuses.now ≡ length history.now.objects }
     requires lists { length lists.now ≡ length history.now.objects }
     requires each { (object : ℕ) (v : _) → slice_get lists.now object ≡ Some v
         → v.items ≡ indices_from object 0 history.now.calls }
-    ensures { OnOk result ((all : List ℕ) × AreToldFrom history.now lines.now 0 statuses.now all
-        × (string_bytes out.new ≡ string_bytes out.old ++ all)) }
+    ensures { IfOk result (λ text. AreToldFrom history.now lines.now 0 statuses.now
+        (string_bytes text)) }
 {
+    let mut out = String::new(alloc);
     for (object, status) in statuses.iter().enumerate() {
         let indices = lists[object].as_slice();
-        let told = told_of(alloc, history, object, indices, *status, lines)?;
+        let judged = Judged {
+            object,
+            status: *status,
+        };
+        let told = told_of(alloc, history, judged, indices, lines, stop)?;
         out.push_str(told.as_str())?;
     }
-    Ok(())
+    Ok(out)
 }
 
 // The lines of the objects, each with what is told behind it.
-fn report_told(
+fn report_told<S: Stop>(
     alloc: Global,
     history: &History,
     statuses: &[Status],
     lines: &[u64],
+    stop: &mut S,
 ) -> Result<Vec<u8>, AllocError>
     requires { length statuses.now ≡ length history.now.objects }
     ensures { IfOk result (λ text. AreToldFrom history.now lines.now 0 statuses.now text.items) }
 {
     let lists = history.calls_by_object(alloc)?;
-    let mut out = String::new(alloc);
-    write_told(alloc, &mut out, history, lists.as_slice(), statuses, lines)?;
+    let out = told_lines(alloc, history, lists.as_slice(), statuses, lines, stop)?;
     Ok(out.into_bytes())
 }
 
 /// The lines of the objects of a history with these statuses, as `report_each` gives them; where the lines of the events are given,
-/// behind that of each object that is not linearizable with what lets a reader see that, where it is found. `AllocError` where memory was
-/// refused.
+/// behind that of each object that is not linearizable with what lets a reader see that, where it is found before the stop answers.
+/// `AllocError` where memory was refused.
 ///
 /// Condition: there is a status for each object.
-pub(crate) fn report_each_explained(
+pub(crate) fn report_each_explained<S: Stop>(
     alloc: Global,
     history: &History,
     statuses: &[Status],
     lines: Option<&[u64]>,
+    stop: &mut S,
 ) -> Result<Vec<u8>, AllocError>
     requires { length statuses.now ≡ length history.now.objects }
     ensures { IfOk result (λ text. AreStatusLines (option_map (λ l. l.now) lines.entry) history.now
         statuses.now text.items) }
 {
     match lines {
-        Some(lines) => report_told(alloc, history, statuses, lines),
+        Some(lines) => report_told(alloc, history, statuses, lines, stop),
         None => report_each(alloc, history, statuses),
     }
 }

@@ -17,6 +17,7 @@ use crate::witness::witness_of;
 use lin_explain::{Witness, write_run_explained, write_witness};
 use lin_history::{History, Placed, ProblemCall};
 use lin_object::{Op, Reply};
+use lin_search::Stop;
 use std::alloc::{AllocError, Global};
 
 // Appends the line that names an object without a linearization, and below it what lets a reader see that.
@@ -62,12 +63,13 @@ fn write_end(
 }
 
 // What is printed of an object without a linearization, with this longest run.
-fn no_explained(
+fn no_explained<S: Stop>(
     alloc: Global,
     history: &History,
     object: usize,
     run: &[Placed],
     lines: &[u64],
+    stop: &mut S,
 ) -> Result<Vec<u8>, AllocError>
     requires object { object < length history.now.objects }
     requires known { AreKnown (whole_of history.now) run.now }
@@ -78,7 +80,7 @@ fn no_explained(
         printed.items) }
 {
     let problem = history.problem(alloc, object)?;
-    let witness = witness_of(alloc, history, object, &problem)?;
+    let witness = witness_of(alloc, history, object, &problem, stop)?;
     let mut out = String::new(alloc);
     write_head(&mut out, history, object, problem.calls(), lines, &witness)?;
     write_end(alloc, &mut out, history, object, run, lines)?;
@@ -86,17 +88,18 @@ fn no_explained(
 }
 
 // What is printed of an object without a linearization whose longest run was not found in time.
-fn no_in_time_explained(
+fn no_in_time_explained<S: Stop>(
     alloc: Global,
     history: &History,
     object: usize,
     lines: &[u64],
+    stop: &mut S,
 ) -> Result<Vec<u8>, AllocError>
     requires { object < length history.now.objects }
     ensures { IfOk result (λ printed. WithoutRun (Some lines.now) history.now object printed.items) }
 {
     let problem = history.problem(alloc, object)?;
-    let witness = witness_of(alloc, history, object, &problem)?;
+    let witness = witness_of(alloc, history, object, &problem, stop)?;
     let mut out = String::new(alloc);
     write_head(&mut out, history, object, problem.calls(), lines, &witness)?;
     write_not_found(&mut out)?;
@@ -104,40 +107,45 @@ fn no_in_time_explained(
 }
 
 // What is printed of the verdict, with what explains it where it is no. Condition: the verdict is right.
-fn report_with_lines(
+fn report_with_lines<S: Stop>(
     alloc: Global,
     history: &History,
     verdict: &Verdict,
     lines: &[u64],
+    stop: &mut S,
 ) -> Result<Vec<u8>, AllocError>
     requires { (bounds : Bounds) × IsVerdict history.now bounds verdict.now }
     ensures { IfOk result (λ printed. IsExplained (Some lines.now) history.now verdict.now
         printed.items) }
 {
     match verdict {
-        Verdict::No { object, run } => no_explained(alloc, history, *object, run.as_slice(), lines),
-        Verdict::NoInTime { object } => no_in_time_explained(alloc, history, *object, lines),
+        Verdict::No { object, run } => {
+            no_explained(alloc, history, *object, run.as_slice(), lines, stop)
+        }
+        Verdict::NoInTime { object } => no_in_time_explained(alloc, history, *object, lines, stop),
         Verdict::Yes(_) => report(alloc, history, verdict),
         Verdict::Undecided { .. } => report(alloc, history, verdict),
     }
 }
 
 /// What is printed of the verdict: its report; where the lines of the events are given, of a verdict that is no with what lets a
-/// reader see that, where it is found, the last calls of the longest run, and why it ends. `AllocError` where memory was refused.
+/// reader see that, where it is found before the stop answers, the last calls of the longest run, and why it ends. `AllocError` where
+/// memory was refused.
 ///
 /// Condition: the verdict is right.
-pub(crate) fn report_explained(
+pub(crate) fn report_explained<S: Stop>(
     alloc: Global,
     history: &History,
     verdict: &Verdict,
     lines: Option<&[u64]>,
+    stop: &mut S,
 ) -> Result<Vec<u8>, AllocError>
     requires { (bounds : Bounds) × IsVerdict history.now bounds verdict.now }
     ensures { IfOk result (λ printed. IsExplained (option_map (λ l. l.now) lines.entry)
         history.now verdict.now printed.items) }
 {
     match lines {
-        Some(lines) => report_with_lines(alloc, history, verdict, lines),
+        Some(lines) => report_with_lines(alloc, history, verdict, lines, stop),
         None => report(alloc, history, verdict),
     }
 }

@@ -182,27 +182,29 @@ pub fn check<R: AllocGlobal + Threads + Clock + Sync, G: Gate>(
     ensures stored { IfOk result (λ checked. IsStoredTold history.now
         (judged_of history.now checked.verdict) checked.stored) }
 {
-    check_with(rt, history, options, gate, &NoListener)
+    let watcher = CheckWatcher::new(rt, history, options, &NoListener);
+    check_watched(rt, history, options, gate, &watcher)
 }
 
-/// Checks a history as `check` does, while a listener is told how far it has come.
-pub(crate) fn check_with<R: AllocGlobal + Threads + Clock + Sync, G: Gate, L: Listener + Sync>(
+/// Checks a history as `check` does, while a watcher is told how far it has come, and knows when the time is up: it began when the
+/// check did.
+pub(crate) fn check_watched<R: AllocGlobal + Threads + Clock + Sync, G: Gate, L: Listener + Sync>(
     rt: &R,
     history: &History,
     options: &Options,
     gate: &G,
-    listener: &L,
+    watcher: &CheckWatcher<'_, R, L>,
 ) -> Result<Checked, CheckFault>
+    requires { watcher.now.seconds ≡ options.now.seconds }
     ensures verdict { IfOk result (λ checked. IsVerdict history.now (bounds_of options.now)
         checked.verdict) }
     ensures stored { IfOk result (λ checked. IsStoredTold history.now
         (judged_of history.now checked.verdict) checked.stored) }
 {
-    let watcher = CheckWatcher::new(rt, history, options, listener);
     let setting = Setting {
         rt,
         options: options_here(rt, options, gate),
-        bounds: Bounds::new(options.limit(), &watcher),
+        bounds: Bounds::new(options.limit(), watcher),
         gate,
     };
     let checked = judge(&setting, history)?;

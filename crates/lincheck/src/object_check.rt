@@ -374,20 +374,25 @@ fn answer_alone(alone: Alone, is_refuted: bool) -> ControlFlow<(ObjectAnswer, u6
 
 // ---- faults that a reader can see
 
-// Whether the object has a core, or a get for whose reply the adds leave no room, as far as one is found.
-fn has_fault(alloc: Global, problem: &Problem<AnyObject>) -> Result<bool, AllocError>
+// Whether the object has a core, or a get for whose reply the adds leave no room, as far as one is found in time.
+fn has_fault<W: Watcher>(
+    alloc: Global,
+    problem: &Problem<AnyObject>,
+    bounds: &Bounds<'_, W>,
+) -> Result<bool, AllocError>
     ensures { IfOk result (λ has. IsTrue has → HasNoOrder (any_problem problem.now)) }
 {
-    match fault_of_object(alloc, problem)? {
+    match fault_of_object(alloc, problem, &mut UntilUp::new(bounds))? {
         Some(_fault) => Ok(true),
         None => Ok(false),
     }
 }
 
 // Whether it is known that there is no linearization, once a core was looked for in a turn that does so.
-fn is_refuted_by_core(
+fn is_refuted_by_core<W: Watcher>(
     alloc: Global,
     problem: &Problem<AnyObject>,
+    bounds: &Bounds<'_, W>,
     is_refuted: bool,
     turn: Turn,
 ) -> Result<bool, AllocError>
@@ -397,7 +402,7 @@ fn is_refuted_by_core(
     if is_refuted || !turn.looks_for_core {
         return Ok(is_refuted);
     }
-    has_fault(alloc, problem)
+    has_fault(alloc, problem, bounds)
 }
 
 // ---- searches of prefixes
@@ -482,7 +487,7 @@ fn told_by_prefixes<R: AllocGlobal, G: Gate, W: Watcher>(
     let alloc = setting.rt.alloc();
     let watcher = setting.bounds.watcher();
     watcher.enter(Way::Core);
-    let is_refuted = is_refuted_by_core(alloc, problem, asked.is_refuted, turn)?;
+    let is_refuted = is_refuted_by_core(alloc, problem, &setting.bounds, asked.is_refuted, turn)?;
     let asked = Asked {
         is_refuted,
         ..asked

@@ -8,6 +8,7 @@ ghost use Rattle.lincheck.specs.ObjectFaults.{IsFaultOf};
 use lin_core::{Core, SumFault, core_of, sum_fault_of};
 use lin_history::Problem;
 use lin_object::{AnyObject, Op};
+use lin_search::Stop;
 use std::alloc::{AllocError, Global};
 
 /// What lets a reader see that an object has no order.
@@ -37,13 +38,17 @@ fn work_for(calls: usize) -> u64 {
 }
 
 // A core of the object, if one is found.
-fn core_of_object(alloc: Global, problem: &Problem<AnyObject>) -> Result<Option<Core>, AllocError>
+fn core_of_object<S: Stop>(
+    alloc: Global,
+    problem: &Problem<AnyObject>,
+    stop: &mut S,
+) -> Result<Option<Core>, AllocError>
     ensures core { IfOk result (λ answer. IfSome answer (λ core.
         IsCoreOf (any_problem problem.now) core.event core.key core.values.items core.calls.items
         core.firsts.items)) }
     ensures none { IfOk result (λ answer. IfSome answer (λ core. HasNone (any_problem problem.now))) }
 {
-    core_of(alloc, problem, work_for(problem.len()))
+    core_of(alloc, problem, work_for(problem.len()), stop)
 }
 
 // Whether so few adds were called by the return of the get that a core is plainer than sums.
@@ -63,10 +68,11 @@ fn has_few_adds(problem: &Problem<AnyObject>, fault: &SumFault) -> bool {
 }
 
 // A core of a counter that has this fault, where one is found that is plainer.
-fn plainer_core(
+fn plainer_core<S: Stop>(
     alloc: Global,
     problem: &Problem<AnyObject>,
     fault: &SumFault,
+    stop: &mut S,
 ) -> Result<Option<Core>, AllocError>
     ensures core { IfOk result (λ answer. IfSome answer (λ core.
         IsCoreOf (any_problem problem.now) core.event core.key core.values.items core.calls.items
@@ -76,27 +82,28 @@ fn plainer_core(
     if !has_few_adds(problem, fault) {
         return Ok(None);
     }
-    core_of_object(alloc, problem)
+    core_of_object(alloc, problem, stop)
 }
 
 /// What lets a reader see that the object has no order: some of its calls that alone have none, or a get of a counter for whose reply
-/// the adds leave no room. `None` where neither is found with as much work as so many calls are worth. `AllocError` where memory
-/// was refused.
-pub(crate) fn fault_of_object(
+/// the adds leave no room. `None` where neither is found with as much work as so many calls are worth, or before the stop answers.
+/// `AllocError` where memory was refused.
+pub(crate) fn fault_of_object<S: Stop>(
     alloc: Global,
     problem: &Problem<AnyObject>,
+    stop: &mut S,
 ) -> Result<Option<ObjectFault>, AllocError>
     ensures fault { IfOk result (λ answer. IfSome answer (λ fault.
         IsFaultOf (any_problem problem.now) fault)) }
     ensures none { IfOk result (λ answer. IfSome answer (λ fault. HasNone (any_problem problem.now))) }
 {
-    let Some(sums) = sum_fault_of(alloc, problem)? else {
-        return match core_of_object(alloc, problem)? {
+    let Some(sums) = sum_fault_of(alloc, problem, stop)? else {
+        return match core_of_object(alloc, problem, stop)? {
             Some(core) => Ok(Some(ObjectFault::Core(core))),
             None => Ok(None),
         };
     };
-    match plainer_core(alloc, problem, &sums)? {
+    match plainer_core(alloc, problem, &sums, stop)? {
         Some(core) => Ok(Some(ObjectFault::Core(core))),
         None => Ok(Some(ObjectFault::Sums(sums))),
     }

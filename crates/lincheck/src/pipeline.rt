@@ -11,12 +11,13 @@ ghost use Rattle.lincheck.specs.Reading.{IsReadOf, TakesAtMost};
 ghost use Rattle.lincheck.specs.Sound.{IsSoundRun};
 
 use crate::answer_form::AnswerForm;
+use crate::check_watcher::CheckWatcher;
 use crate::device::{DeviceFault, Sink, Source};
-use crate::each::{check_each_with, status_of_all};
+use crate::each::{check_each_watched, status_of_all};
 use crate::each_explained::report_each_explained;
 use crate::explanation_lines::report_explained;
 use crate::fault::RunFault;
-use crate::judgement::check_with;
+use crate::judgement::check_watched;
 use crate::lines::with_stats;
 use crate::listener::{Listener, NoListener};
 use crate::status::Status;
@@ -25,7 +26,7 @@ use lin_history::{History, locality_law};
 use lin_text::{
     Cause, MAX_INPUT_BYTES, TextFault, read_history, read_history_and_lines, write_cause,
 };
-use lin_workers::{FreeGate, Options};
+use lin_workers::{Bounds, FreeGate, Options, UntilUp};
 use std::alloc::{AllocError, Global};
 use std::thread::Threads;
 use std::time::Clock;
@@ -113,10 +114,13 @@ fn verdict_printed<R: AllocGlobal + Threads + Clock + Sync, L: Listener + Sync>(
         → PrintsWith options.now (option_map (λ l. l.now) lines.entry) history.now answer.0
         answer.1.items) }
 {
-    let Ok(checked) = check_with(rt, history, options, &FreeGate, listener) else {
+    let watcher = CheckWatcher::new(rt, history, options, listener);
+    let Ok(checked) = check_watched(rt, history, options, &FreeGate, &watcher) else {
         return Err(AllocError);
     };
-    let explained = report_explained(rt.alloc(), history, &checked.verdict, lines)?;
+    watcher.begin_to_explain();
+    let mut stop = UntilUp::new(&Bounds::new(None, &watcher));
+    let explained = report_explained(rt.alloc(), history, &checked.verdict, lines, &mut stop)?;
     let printed = with_stats(rt.alloc(), explained, options.stats(), checked.stored)?;
     tell_if_empty(history, listener);
     Ok((status_of(&checked.verdict), printed))
@@ -173,11 +177,14 @@ fn each_printed<R: AllocGlobal + Threads + Clock + Sync, L: Listener + Sync>(
         → PrintsEach options.now (option_map (λ l. l.now) lines.entry) history.now answer.0
         answer.1.items) }
 {
-    let Ok(checked) = check_each_with(rt, history, options, &FreeGate, listener) else {
+    let watcher = CheckWatcher::new(rt, history, options, listener);
+    let Ok(checked) = check_each_watched(rt, history, options, &FreeGate, &watcher) else {
         return Err(AllocError);
     };
     let statuses = checked.statuses.as_slice();
-    let told = report_each_explained(rt.alloc(), history, statuses, lines)?;
+    watcher.begin_to_explain();
+    let mut stop = UntilUp::new(&Bounds::new(None, &watcher));
+    let told = report_each_explained(rt.alloc(), history, statuses, lines, &mut stop)?;
     let printed = with_stats(rt.alloc(), told, options.stats(), checked.stored)?;
     tell_if_empty(history, listener);
     Ok((status_of_all(statuses), printed))

@@ -10,6 +10,7 @@ use lin_core::{Core, SumFault};
 use lin_explain::{CoreCall, ShownSums, Witness};
 use lin_history::{History, Problem};
 use lin_object::AnyObject;
+use lin_search::Stop;
 use std::alloc::{AllocError, Global};
 
 // The call of this number, as the core takes it.
@@ -59,20 +60,21 @@ fn shown(fault: &SumFault) -> ShownSums
 }
 
 /// What lets a reader see that the object of this index has no order, of which the problem is the part of the history on it: the
-/// calls of a core, or a get for whose reply the adds leave no room; nothing where neither is found. `AllocError` where memory was
-/// refused.
-pub(crate) fn witness_of(
+/// calls of a core, or a get for whose reply the adds leave no room; nothing where neither is found before the stop answers. `AllocError`
+/// where memory was refused.
+pub(crate) fn witness_of<S: Stop>(
     alloc: Global,
     history: &History,
     object: usize,
     problem: &Problem<AnyObject>,
+    stop: &mut S,
 ) -> Result<Witness, AllocError>
     requires start { option_map start_of (slice_get history.now.objects object)
         ≡ Some problem.now.start }
     requires calls { problem.now.calls ≡ part_calls history.now object }
     ensures { IfOk result (λ witness. IsWitness history.now object witness) }
 {
-    match fault_of_object(alloc, problem)? {
+    match fault_of_object(alloc, problem, stop)? {
         Some(ObjectFault::Core(core)) => {
             let calls = told_of(alloc, problem, &core, core.calls.as_slice())?;
             Ok(Witness::Core(calls))

@@ -4,6 +4,7 @@ use super::searches::Event::{Call, Return};
 use super::searches::{Event, Part, READ_OF_NO_WRITTEN_VALUE, READ_OF_THE_LAST_VALUE, posed_by};
 use lin_core::core_of;
 use lin_object::{Kind, Op, Reply};
+use lin_search::NoStop;
 use std::alloc::{AllocError, Global};
 
 // Work that is enough for any of these histories.
@@ -23,7 +24,7 @@ const READ_OF_AN_OVERWRITTEN_VALUE: [Event; 8] = [
 
 // How many calls the core of the problem has; none where none is found.
 fn calls_in_core(alloc: Global, problem: &Part) -> Result<Option<usize>, AllocError> {
-    match core_of(alloc, problem, WORK)? {
+    match core_of(alloc, problem, WORK, &mut NoStop)? {
         Some(core) => Ok(Some(core.calls.len())),
         None => Ok(None),
     }

@@ -3,7 +3,7 @@ use Rattle.lin_core.proofs.CoreLemmas.{enough_as, enough_by_checks, stay_as, fla
 use Rattle.lin_core.proofs.part_check.are_enough_but_rounds.Goals as goal
 
 pub returns : goal.returns
-returns c = λ yes. enough_as (any_problem c.args.problem.now) c.args.selection.now.event c.args.part.now.calls c.as_slice-kept.result.now c.args.selection.now.calls.items c.as_slice-values.result.now c.args.selection.now.values.items c.as_slice-firsts.result.now c.args.selection.now.firsts.items c.as_slice-kept.ensures.value c.as_slice-values.ensures.value c.as_slice-firsts.ensures.value
+returns g c = λ yes. enough_as (any_problem c.args.problem.now) c.args.selection.now.event c.args.part.now.calls c.as_slice-kept.result.now c.args.selection.now.calls.items c.as_slice-values.result.now c.args.selection.now.values.items c.as_slice-firsts.result.now c.args.selection.now.firsts.items c.as_slice-kept.ensures.value c.as_slice-values.ensures.value c.as_slice-firsts.ensures.value
     (enough_by_checks (any_problem c.args.problem.now) c.args.selection.now.event c.as_slice-kept.result.now c.as_slice-firsts.result.now c.as_slice-lasts.result.now c.args.part.now.calls c.as_slice-values.result.now
     (c.is_rising.ensures c.if-not-is_rising.false)
     (c.has_calls_by.ensures.count c.if-not-has_calls_by.false)

@@ -8,4 +8,4 @@ use Rattle.lin_core.specs.Rounds.{MayStay}
 use Rattle.lin_core.proofs.part_check.may_all_stay.Given as goal
 
 abbrev pub invariant-loop-i : goal.invariant-loop-i
-invariant-loop-i l = (k : ℕ) (x : ProblemCall Op Reply) → k < l.i → slice_get l.part.calls k ≡ Some x → MayStay (any_problem l.problem) l.selection.event l.selection.values.items l.selection.firsts.items l.selection.lasts.items (slice_index l.selection.calls.items k) x
+invariant-loop-i g l = (k : ℕ) (x : ProblemCall Op Reply) → k < l.i → slice_get l.part.calls k ≡ Some x → MayStay (any_problem l.problem) l.selection.event l.selection.values.items l.selection.firsts.items l.selection.lasts.items (slice_index l.selection.calls.items k) x

@@ -9,7 +9,7 @@ use Rattle.lin_core.proofs.part_check.others_may_go.Goals as goal
 use Rattle.lin_core.proofs.part_check.others_may_go.Goals.{else-call-event-via-then-call-event+then-not-may_go+else-not-has, else-call-event-via-then-call-event+else-not-may_go, else-call-event-via-else-call-event}
 
 pub loop-c-preserved : goal.loop-c-preserved
-loop-c-preserved c = each_more c.args.problem.now.calls
+loop-c-preserved g c = each_more c.args.problem.now.calls
     (λ (k : ℕ) (x : ProblemCall Op Reply). x.called ≤ c.args.event → (IsOff c.args.values.now x) ⊎ ((slice_index_or c.args.standing.now.kept.items k false ≡ true) ⊎ ((slice_index_or c.args.standing.now.firsts.items k false ≡ true) ⊎ (slice_index_or c.args.standing.now.lasts.items k false ≡ true))))
     c.loop-c.c c.call-call.result.now c.call-call.ensures
     (elim c.else-call-event.branch [
@@ -20,4 +20,4 @@ loop-c-preserved c = each_more c.args.problem.now.calls
     c.loop-c.invariant
 
 pub returns : goal.returns
-returns c = λ yes k x e up. c.loop-c.invariant k x (let within = below c.args.problem.now.calls k x e in let a = c.loop-c-test.false in let b = c.loop-c.auto.c-end in let n = c.len-c-end.ensures in omega (arith, within, a, b, n)) e up
+returns g c = λ yes k x e up. c.loop-c.invariant k x (let within = below c.args.problem.now.calls k x e in let a = c.loop-c-test.false in let b = c.loop-c.auto.c-end in let n = c.len-c-end.ensures in omega (arith, within, a, b, n)) e up

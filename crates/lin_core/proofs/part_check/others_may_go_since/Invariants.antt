@@ -10,4 +10,4 @@ use Rattle.lin_core.specs.Laws.{IsOff}
 use Rattle.lin_core.proofs.part_check.others_may_go_since.Given as goal
 
 abbrev pub invariant-loop-c : goal.invariant-loop-c
-invariant-loop-c l = (k : ℕ) (x : ProblemCall Op Reply) → k < l.c → slice_get l.problem.calls k ≡ Some x → x.called ≤ l.event → In k l.kept ⊎ (IsOff l.values x ⊎ Before (any_problem l.problem) k (slice_index l.kept 0))
+invariant-loop-c g l = (k : ℕ) (x : ProblemCall Op Reply) → k < l.c → slice_get l.problem.calls k ≡ Some x → x.called ≤ l.event → In k l.kept ⊎ (IsOff l.values x ⊎ Before (any_problem l.problem) k (slice_index l.kept 0))

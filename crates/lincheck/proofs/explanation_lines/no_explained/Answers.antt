@@ -3,7 +3,7 @@ use Rattle.lincheck.proofs.ExplainedLemmas.{head_first}
 use Rattle.lincheck.proofs.explanation_lines.no_explained.Goals as goal
 
 pub returns : goal.returns
-returns c =
+returns g c =
     let end = c.in_ok-write_end.ensures in (
       c.in_ok-witness.witness,
       c.in_ok-witness.ensures,

@@ -6,7 +6,7 @@ use Rattle.lincheck.proofs.JudgeLemmas.{IsPart}
 use Rattle.lincheck.proofs.witness.witness_of.Goals as goal
 
 pub returns-in_ok-calls-in-Some-Core : goal.returns-in_ok-calls-in-Some-Core
-returns-in_ok-calls-in-Some-Core c =
+returns-in_ok-calls-in-Some-Core g c =
     let part : IsPart c.args.history.now c.args.object c.args.problem.now.calls c.args.problem.now.start = record { calls_are = c.requires.calls; start_is = c.requires.start } in
     let core = c.in-Some-Core.core in
     let are : c.in_ok-calls-in-Some-Core.calls.items ≡ map (told_in (any_problem c.args.problem.now) core.event) core.calls.items = c.in_ok-calls-in-Some-Core.ensures ∙ ap (λ (l : List ℕ). map (told_in (any_problem c.args.problem.now) core.event) l) c.as_slice.ensures.value in
@@ -14,7 +14,7 @@ returns-in_ok-calls-in-Some-Core c =
     (rw (c.in-Some-Core.is, c.in-Some-Core.field-0-is) at c.in_ok-core.ensures.fault) are
 
 pub returns-in-Some-Sums : goal.returns-in-Some-Sums
-returns-in-Some-Sums c =
+returns-in-Some-Sums g c =
     let part : IsPart c.args.history.now c.args.object c.args.problem.now.calls c.args.problem.now.start = record { calls_are = c.requires.calls; start_is = c.requires.start } in (
       c.in-Some-Sums.fault,
       sums_told c.args.history.now c.args.object c.args.problem.now.calls c.args.problem.now.start c.in-Some-Sums.fault part (rw (c.in-Some-Sums.is, c.in-Some-Sums.field-0-is) at c.in_ok-core.ensures.fault),

@@ -1,6 +1,0 @@
-use Rattle.std.proofs.Common.{string_bytes}
-use Rattle.lincheck.proofs.EachLemmas.{ToldWritten}
-use Rattle.lincheck.proofs.each_explained.write_told.Given as goal
-
-abbrev pub invariant-loop-object : goal.invariant-loop-object
-invariant-loop-object l = ToldWritten l.history l.lines l.statuses (string_bytes l.fn.out) (string_bytes l.out) l.object
