@@ -7,9 +7,9 @@
 Builds `bench/cores.program` by `bin/build_unproved.py` (two minutes), unless it is given, and runs it on each history. All orders
 of a core's calls are tried: there may be none. The calls left out may not be needed: each is none of the core's values, or
 changes nothing, or precedes the first, which begins anew; or it is one of some that precede them all and put each of the items
-into a queue or a stack as often as they took it out. A core can't be smaller: cut at an earlier return, without one of its
-values, without one call that changes nothing or, where it has many, without those before a moment at which each of its items was
-out, its calls have an order. Of small histories all orders of the whole are tried too: one with an order may have no core. The
+into a queue or a stack as often as they took it out; or the first returned with a reply that its operation never gives. A core can't
+be smaller: cut at an earlier return, without one of its values, without one call that changes nothing or, where it has many, without
+those before a moment at which each of its items was out, its calls have an order. Of small histories all orders of the whole are tried too: one with an order may have no core. The
 sums of a get for whose reply the adds leave no room are made anew; one has to be found exactly where some get has such a reply,
 counted from the start or from an earlier get. Prints how many cores have how many calls, and each object without an order of
 which no core was found. With --counters all random histories are of counters that add different numbers; with --items they are of
@@ -25,7 +25,7 @@ from pathlib import Path
 
 BENCH = Path(__file__).resolve().parent
 sys.path[:0] = [str(BENCH), str(BENCH.parent / "bin")]
-from explanations import PENDING, precedes, read, same
+from explanations import PENDING, gave_another, precedes, read, same
 from explanations import step as step_of_any_size
 
 # Histories of which all orders are tried, and cores: those with more calls are counted only. Of items that few calls put and take at
@@ -176,6 +176,8 @@ def check(kind, start, calls, core):
         return None
     if has_order(kind, start, part):
         return "its calls have an order"
+    if gave_another(kind, part[0]):
+        return None
     others = [c for k, c in enumerate(calls) if k not in kept and c["called"] <= event]
     needs_all = kind == "register" and any(is_refused_cas(calls[k]) for k in kept)
     needed = [c for c in others if not (is_idle(kind, c) if needs_all else may_go(kind, c, values, at))]

@@ -313,6 +313,18 @@ def has_step(call):
     return type(reply) is bool if call["op"] in ("cas", "remove", "contains") else True
 
 
+def gave_another(kind, call):
+    """Whether a call returned with a reply that its operation never gives."""
+    if call["returned"] is PENDING:
+        return False
+    op, reply = call["op"], call["returned"][1]
+    if op in ("write", "enq", "push", "lock", "unlock", "put") or (kind, op) == ("counter", "add"):
+        return reply != "ok"
+    if op == "read" or (kind, op) == ("counter", "get"):
+        return type(reply) is not int
+    return not (reply == "empty" or type(reply) is int) if op in ("deq", "pop", "get") else type(reply) is not bool
+
+
 def others(kind, core, calls, since, until):
     """What is said of the other calls that were called up to a line and not over before another, or that it is not so."""
     rest = [call for call in calls if call["lines"][0] <= until and call["called"] not in {one["called"] for one in core}]
@@ -393,9 +405,13 @@ def is_core(name, kind, start, calls, lines):
     if earlier := earlier_calls(kind, core, calls):
         since = core[0]["lines"][0]
         ending = f", and before line {since} each was taken as often as it was put"
-        is_told_so &= all(sum(is_of(call, item) for call in earlier) == 0 for item in set().union(*map(values_of, core)))
+        is_even = all(sum(is_of(call, item) for call in earlier) == 0 for item in set().union(*map(values_of, core)))
+        is_told_so &= is_even or any(gave_another(kind, call) for call in core)
     lines_told = f"from line {since} to line {last}" if since else f"up to line {last}"
-    is_told_so = is_told_so and end == f"no other call {lines_told} {others(kind, core, calls, since, last)}{ending}"
+    told_of_others = f"no other call {lines_told} {others(kind, core, calls, since, last)}{ending}"
+    if any(gave_another(kind, call) for call in core):
+        told_of_others = f"no other call up to line {last} helps"
+    is_told_so = is_told_so and end == told_of_others
     is_in_order = [call["called"] for call in core] == sorted({call["called"] for call in core})
     return is_told_so and is_in_order and all(until < returned for returned in after) and not has_order(kind, start, core)
 

@@ -13,6 +13,7 @@ use crate::key_faults::forgotten;
 use crate::lock_faults::{around_try, tries_in_vain, two_holders};
 use crate::next_calls::NextCalls;
 use crate::refuted_part::{Core, core_of_calls};
+use crate::replies::odd_reply;
 use crate::selection::{MapKey, Selection};
 use crate::smaller::{make_smaller, needs_all, rounds_but_for, without_rounds};
 use crate::value_faults::value_faults;
@@ -337,13 +338,19 @@ impl<'a, 's, S: Stop> Finder<'a, 's, S> {
     }
 }
 
-// Some calls that a search finds to have no linearization, made as few as can be: the fewest first.
+// A call that returned with a reply that its operation never gives; or else some calls that a search finds to have no linearization,
+// made as few as can be: the fewest first.
 fn selections_found<S: Stop>(
     alloc: Global,
     problem: &Problem<AnyObject>,
     work: u64,
     stop: &mut S,
 ) -> Result<Vec<Selection>, AllocError> {
+    if let Some(odd) = odd_reply(alloc, problem)? {
+        let mut found = Vec::new(alloc);
+        found.push(odd)?;
+        return Ok(found);
+    }
     let calls: Vec<usize> = (0..problem.len()).collect(alloc)?;
     let index = CallIndex::new(alloc, problem, calls.as_slice(), None)?;
     let next = NextCalls::new(alloc, problem)?;

@@ -1,5 +1,5 @@
 -- How calls are shown that alone have no order (this project's own).
-use Rattle.std.specs.Prelude.{ℕ, ℤ, ◌==◌, ◌++◌, ◌&&◌, ◌||◌, nat_lt, Bool, true, false, Option, Some, None, List, [], ◌∷◌, codes, length, slice_get, if◌then◌else◌}
+use Rattle.std.specs.Prelude.{ℕ, ℤ, ◌==◌, ◌++◌, ◌&&◌, ◌||◌, not, nat_lt, Bool, true, false, Option, Some, None, List, [], ◌∷◌, codes, length, slice_get, if◌then◌else◌}
 use Rattle.std.specs.List.{list_all, list_any}
 use Rattle.std.specs.Option.{option_and_then, option_map}
 use Rattle.std.specs.Ordering.{int_eq}
@@ -7,7 +7,7 @@ use Rattle.std.specs.Fmt.{decimal, signed_decimal}
 use Rattle.lin_object.specs.declared.op.Op.{Op}
 use Rattle.lin_object.specs.declared.op.Op.TheVariants as ops
 use Rattle.lin_object.specs.declared.reply.Reply.{Reply}
-use Rattle.lin_object.specs.declared.reply.Reply.TheVariants.{Int, Flag}
+use Rattle.lin_object.specs.declared.reply.Reply.TheVariants.{Okay, Int, Flag, Empty}
 use Rattle.lin_object.specs.PrintedForms.{op_text}
 use Rattle.lin_history.specs.declared.problems.problem.ProblemCall.{ProblemCall}
 use Rattle.lin_explain.specs.declared.core_text.CoreCall.{CoreCall}
@@ -204,10 +204,68 @@ before_text lines were_in first = codes "\n"
 abbrev pub before_text_of : List (ProblemCall Op Reply) → List ℕ → List CoreCall → List ℕ
 before_text_of calls lines core = before_text lines (has_earlier calls core (call_at calls core 0)) (call_at calls core 0)
 
--- The line below the calls: between which lines of the input no other call helps.
-abbrev pub others_line : List (ProblemCall Op Reply) → List ℕ → List CoreCall → List ℕ
-others_line calls lines core =
+-- The reply is that something was done; 'yes' or 'no'; a number; or a number, or that there was none.
+abbrev pub is_okay : Reply → Bool
+is_okay Okay = true
+is_okay reply = false
+
+abbrev pub is_flag : Reply → Bool
+is_flag (Flag b) = true
+is_flag reply = false
+
+abbrev pub is_number : Reply → Bool
+is_number (Int v) = true
+is_number reply = false
+
+abbrev pub is_number_or_none : Reply → Bool
+is_number_or_none (Int v) = true
+is_number_or_none Empty = true
+is_number_or_none reply = false
+
+-- The operation gives such a reply in some state.
+abbrev pub may_reply : Op → Reply → Bool
+may_reply (ops.Write v) reply = is_okay reply
+may_reply ops.Read reply = is_number reply
+may_reply (ops.Cas a b) reply = is_flag reply
+may_reply (ops.Add d) reply = is_okay reply
+may_reply ops.Get reply = is_number reply
+may_reply (ops.Enqueue v) reply = is_okay reply
+may_reply ops.Dequeue reply = is_number_or_none reply
+may_reply (ops.Push v) reply = is_okay reply
+may_reply ops.Pop reply = is_number_or_none reply
+may_reply (ops.Insert v) reply = is_flag reply
+may_reply (ops.Remove v) reply = is_flag reply
+may_reply (ops.Contains v) reply = is_flag reply
+may_reply ops.Lock reply = is_okay reply
+may_reply ops.Unlock reply = is_okay reply
+may_reply ops.TryLock reply = is_flag reply
+may_reply (ops.Put k v) reply = is_okay reply
+may_reply (ops.Lookup k) reply = is_number_or_none reply
+may_reply (ops.Delete k) reply = is_flag reply
+
+-- It is recorded that it gave another.
+abbrev pub gave_another : Op → Option (ℕ × Reply) → Bool
+gave_another op None = false
+gave_another op (Some recorded) = not (may_reply op recorded.1)
+
+abbrev pub gave_another_of : Option (ProblemCall Op Reply) → Bool
+gave_another_of None = false
+gave_another_of (Some call) = gave_another call.op call.returned
+
+-- A call of the core did.
+abbrev pub has_odd_reply : List (ProblemCall Op Reply) → List CoreCall → Bool
+has_odd_reply calls core = list_any (λ shown. gave_another_of (slice_get calls shown.call)) core
+
+-- The line below the calls: between which lines of the input no other call helps. Where one of them returned with a reply that its
+-- operation never gives, none helps whatever it does.
+abbrev pub others_line_if : Bool → List (ProblemCall Op Reply) → List ℕ → List CoreCall → List ℕ
+others_line_if true calls lines core =
+    codes "no other call up to line " ++ decimal (line_of lines (last_event calls 0 core)) ++ codes " helps\n"
+others_line_if false calls lines core =
     codes "no other call " ++ from_text_of calls lines core ++ until_text calls lines core ++ before_text_of calls lines core
+
+abbrev pub others_line : List (ProblemCall Op Reply) → List ℕ → List CoreCall → List ℕ
+others_line calls lines core = others_line_if (has_odd_reply calls core) calls lines core
 
 -- The calls with the lines above and below them; nothing where there are none.
 abbrev pub core_text : List ℕ → List (ProblemCall Op Reply) → List ℕ → List CoreCall → List ℕ

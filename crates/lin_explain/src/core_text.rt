@@ -1,8 +1,8 @@
 //! How calls are shown that alone have no order.
-ghost use Rattle.std.specs.Prelude.{◌≡◌, ◌++◌, string_bytes, slice_get, OnOk, IfNone, IfSome, None, Some};
+ghost use Rattle.std.specs.Prelude.{◌≡◌, ◌++◌, string_bytes, slice_get, OnOk, IfNone, IfSome, None, Some, true};
 ghost use Rattle.std.specs.List.{list_all, list_any};
 ghost use Rattle.std.specs.Option.{option_and_then};
-ghost use Rattle.lin_explain.specs.CoreText.{key_on, key_at, is_key, is_on_key, core_key, on_key_text, core_head, unless_pending, core_line, core_line_of, core_lines, event_of, last_event_of, later, last_event, is_cas, op_at, not_done, not_done_of, not_done_by_others, is_yes, gives_anew, is_back_before, begins_anew, call_at, given, item_of, shown_item, is_of_core, came_before, has_earlier, starts_late, from_text_of, until_text, before_text_of, others_line, core_text};
+ghost use Rattle.lin_explain.specs.CoreText.{key_on, key_at, is_key, is_on_key, core_key, on_key_text, core_head, unless_pending, core_line, core_line_of, core_lines, event_of, last_event_of, later, last_event, is_cas, op_at, not_done, not_done_of, not_done_by_others, is_yes, gives_anew, is_back_before, begins_anew, call_at, given, item_of, shown_item, is_of_core, came_before, has_earlier, starts_late, from_text_of, until_text, before_text_of, may_reply, gave_another, gave_another_of, has_odd_reply, others_line_if, others_line, core_text};
 
 use crate::explanation_text::key_of;
 use crate::touching_text::{line_of, write_recorded};
@@ -481,6 +481,61 @@ fn write_before(
     out.push_str("\n")
 }
 
+// Whether the operation gives such a reply in some state.
+fn may_reply(op: &Op, reply: &Reply) -> bool
+    ensures { result ≡ may_reply op.now reply.now }
+{
+    match op {
+        Op::Write(_) | Op::Add(_) | Op::Enqueue(_) | Op::Push(_) => matches!(reply, Reply::Okay),
+        Op::Lock | Op::Unlock | Op::Put(..) => matches!(reply, Reply::Okay),
+        Op::Read | Op::Get => matches!(reply, Reply::Int(_)),
+        Op::Dequeue | Op::Pop | Op::Lookup(_) => matches!(reply, Reply::Int(_) | Reply::Empty),
+        Op::Cas(..) | Op::TryLock | Op::Delete(_) => matches!(reply, Reply::Flag(_)),
+        Op::Insert(_) | Op::Remove(_) | Op::Contains(_) => matches!(reply, Reply::Flag(_)),
+    }
+}
+
+// Whether it is recorded that it gave another.
+fn gave_another(op: &Op, returned: &Option<(u32, Reply)>) -> bool
+    ensures { result ≡ gave_another op.now returned.now }
+{
+    match returned {
+        Some((_, reply)) => !may_reply(op, reply),
+        None => false,
+    }
+}
+
+// The same of a call of a core.
+fn gave_another_at(calls: &[ProblemCall<Op, Reply>], one: &CoreCall) -> bool
+    ensures { result ≡ gave_another_of (slice_get calls.now one.now.call) }
+{
+    match calls.get(one.call) {
+        Some(call) => gave_another(&call.op, &call.returned),
+        None => false,
+    }
+}
+
+// Whether a call of the core did.
+fn has_odd_reply(calls: &[ProblemCall<Op, Reply>], core: &[CoreCall]) -> bool
+    ensures { result ≡ has_odd_reply calls.now core.now }
+{
+    core.iter().any(|one| gave_another_at(calls, one))
+}
+
+// Appends the line below the calls of a core that has such a reply.
+fn write_no_other(
+    out: &mut String,
+    calls: &[ProblemCall<Op, Reply>],
+    lines: &[u64],
+    core: &[CoreCall],
+) -> Result<(), AllocError>
+    ensures { OnOk result (string_bytes out.new
+        ≡ string_bytes out.old ++ others_line_if true calls.now lines.now core.now) }
+{
+    let line = line_of(lines, last_event(calls, core));
+    write!(out, "no other call up to line {line} helps\n")
+}
+
 // Appends the line below the calls: between which lines of the input no other call helps.
 fn write_others(
     out: &mut String,
@@ -491,6 +546,9 @@ fn write_others(
     ensures { OnOk result (string_bytes out.new
         ≡ string_bytes out.old ++ others_line calls.now lines.now core.now) }
 {
+    if has_odd_reply(calls, core) {
+        return write_no_other(out, calls, lines, core);
+    }
     out.push_str("no other call ")?;
     write_from(out, calls, lines, core)?;
     write_until(out, calls, lines, core)?;
