@@ -15,18 +15,17 @@ use Rattle.lin_object.specs.contracts.state.ObjStatePartialEq.TheImpl.{eq-value 
 use Rattle.lin_object.specs.Items.{is_in}
 use Rattle.lin_object.specs.Pairs.{value_at, reply_to_lookup, with_value, without_key}
 use Rattle.lin_object.specs.Kinds.{after}
-use Rattle.lin_object.specs.Kinds.Map.{map_step, value_after_step, MapLaw}
+use Rattle.lin_object.specs.Kinds.Map.{value_after_step, MapLaw}
 use Rattle.lin_object.specs.StepLemmas.{state_same}
 use Rattle.lin_history.specs.declared.problems.problem.ProblemCall.{ProblemCall}
 use Rattle.lin_history.specs.ReplyLemmas.{reply_same}
-use Rattle.lin_history.specs.Problems.Problem.{Problem}
 use Rattle.lin_history.specs.Problems.ProblemParts.{ProblemParts}
 use Rattle.lin_history.specs.Problems.LegalLists.{fits, state_if_fits}
 use Rattle.lin_history.specs.Problems.AnyProblem.{any_problem}
 use Rattle.lin_core.specs.KeyValues.{is_known, tells, may_tell, is_on_key, is_off_key, IsOnKey, IsOffKey, IsMap, KeyValuesLaw}
 use Rattle.lin_core.proofs.CutLemmas.{left}
 use Rattle.lin_core.proofs.LawLemmas.{fitting}
-use Rattle.lin_core.proofs.OnValues.{both, clash, not_in}
+use Rattle.lin_core.proofs.OnValues.{both, clash}
 
 module _ (law : MapLaw after state_eq.it) (key : ℤ) (nothing : Bool) (values : List ℤ) where
   -- what is known of the key in the whole's state, the part's state has

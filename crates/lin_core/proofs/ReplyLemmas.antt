@@ -1,12 +1,12 @@
 -- A call that returned with a reply that its operation never gives is in no legal list.
-use Rattle.std.proofs.Common.{◌≡◌, ℕ, zero, suc, ◌<◌, Bool, true, false, not, Option, Some, None, List, [], ◌∷◌, length, inl, inr, refl, sym, ◌∙◌, ap, subst, arith, if◌then◌else◌}
+use Rattle.std.proofs.Common.{◌≡◌, ℕ, ◌<◌, Bool, true, false, not, Option, Some, None, List, [], ◌∷◌, length, inl, inr, refl, sym, ◌∙◌, subst, arith, if◌then◌else◌}
 use Rattle.std.specs.Prelude.{ℤ, ◌+ℤ◌, ◌==◌, slice_get, slice_index, nat_le}
 use Rattle.std.specs.Ordering.{int_eq}
 use Rattle.lin_object.specs.declared.op.Op.{Op}
 use Rattle.lin_object.specs.declared.op.Op.TheVariants.{Write, Read, Cas, Add, Get, Enqueue, Dequeue, Push, Pop, Insert, Remove, Contains, Lock, Unlock, TryLock, Put, Lookup, Delete}
 use Rattle.lin_object.specs.declared.pairs.Pair.{Pair}
 use Rattle.lin_object.specs.declared.reply.Reply.{Reply}
-use Rattle.lin_object.specs.declared.reply.Reply.TheVariants.{Okay, Int, Flag, Empty}
+use Rattle.lin_object.specs.declared.reply.Reply.TheVariants.{Okay, Flag}
 use Rattle.lin_object.specs.declared.state.ObjState.{ObjState}
 use Rattle.lin_object.specs.declared.state.ObjState.TheVariants.{Register, Counter, Queue, Stack, Set, Mutex, Map}
 use Rattle.lin_object.specs.contracts.reply.ReplyPartialEq.TheImpl.{eq-value as reply_eq}
@@ -30,7 +30,7 @@ use Rattle.lin_history.specs.Problems.ListLemmas.{has_none}
 use Rattle.lin_history.specs.Problems.LegalLists.{state_if_fits, after_call, next, Legal}
 use Rattle.lin_history.specs.Problems.Precedence.{IsCompleted}
 use Rattle.lin_history.specs.Problems.Linearizations.{IsLinearization}
-use Rattle.lin_core.specs.Cuts.{returned_by, call_by, AreCut}
+use Rattle.lin_core.specs.Cuts.{returned_by, call_by}
 use Rattle.lin_core.specs.Cores.{HasNone}
 use Rattle.lin_core.specs.Replies.{is_flag, is_number_or_none, may_reply, gave_another, HaveOddReply}
 use Rattle.lin_core.proofs.CheckLemmas.{below}

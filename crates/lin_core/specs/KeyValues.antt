@@ -1,5 +1,5 @@
 -- The calls of a map on some values of one of its keys (this project's own).
-use Rattle.std.specs.Prelude.{◌≡◌, ◌⊎◌, ℕ, ℤ, ◌≤◌, Bool, true, false, not, ◌&&◌, Option, Some, None, List, slice_get}
+use Rattle.std.specs.Prelude.{◌≡◌, ◌⊎◌, ℕ, ℤ, Bool, true, false, not, ◌&&◌, Option, Some, None, List}
 use Rattle.std.specs.Ordering.{int_eq}
 use Rattle.lin_object.specs.declared.op.Op.{Op}
 use Rattle.lin_object.specs.declared.op.Op.TheVariants.{Put, Lookup, Delete}
@@ -13,11 +13,8 @@ use Rattle.lin_object.specs.Items.{is_in}
 use Rattle.lin_object.specs.Kinds.{after}
 use Rattle.lin_object.specs.StepAnswers.{ChangesNothing}
 use Rattle.lin_history.specs.declared.problems.problem.ProblemCall.{ProblemCall}
-use Rattle.lin_history.specs.Problems.Lists.{In}
 use Rattle.lin_history.specs.Problems.Problem.{Problem}
-use Rattle.lin_history.specs.Problems.Linearizations.{IsLinearization}
-use Rattle.lin_parts.specs.Parts.{part_of}
-use Rattle.lin_core.specs.Cuts.{AreCut, AreEnough}
+use Rattle.lin_core.specs.Cuts.{AreEnough}
 use Rattle.lin_core.specs.Laws.{IsLeft}
 
 -- What a key has is known: one of the values, or none where that is known too.
