@@ -1,6 +1,8 @@
 -- Registers, and maps of one key.
 pub mod Register
 pub mod Held
+pub mod Owners
+pub mod PossibleOwners
 pub mod NeededPairs
 pub mod ValueCalls
 pub mod ToldOfRegister

@@ -13,6 +13,7 @@ pub(crate) mod finders;
 pub(crate) mod held_state;
 pub(crate) mod key_value;
 pub(crate) mod needed_pairs;
+pub(crate) mod owners;
 pub(crate) mod rows;
 pub(crate) mod rules;
 pub(crate) mod value_calls;

@@ -15,6 +15,7 @@ use Rattle.lin_ahead.specs.declared.values.value_calls.ValueCalls.{ValueCalls}
 use Rattle.lin_ahead.specs.Items.ItemCalls.{one_more, is_of}
 use Rattle.lin_ahead.specs.Values.NeededPairs.{some_pair}
 use Rattle.lin_ahead.specs.Values.Register.{value_written, value_found}
+use Rattle.lin_ahead.specs.Values.PossibleOwners.{AreOwnerRows}
 
 -- What no call shows of a value.
 abbrev pub no_value_told : ValueCalls
@@ -128,4 +129,5 @@ pub record AreRowsOf (start : ℤ) (calls : List (ProblemCall Op Reply)) (ahead 
   pub by : ahead.needs.by ≡ cluster_by_row (value_told calls) start calls
   pub from : ahead.needs.from ≡ cluster_from_row (value_told calls) start calls
   pub held : ahead.held.items ≡ found_single_row (value_told calls) start calls
+  pub owners : AreOwnerRows calls start ahead.owners.items
   pub in_vain : ahead.in_vain ≡ any_in_vain (value_told calls) start calls

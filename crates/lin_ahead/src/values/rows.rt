@@ -12,6 +12,7 @@ use crate::items::item_calls::BEYOND;
 use crate::values::call_values::{CallValues, ValueNumbers};
 use crate::values::each_value::{told_of_value, values_told};
 use crate::values::needed_pairs::{CallNumbers, some_pair};
+use crate::values::owners::{Owners, owners_of_each};
 use crate::values::value_calls::{ValueCalls, value_found, value_written};
 use indexmap::IndexMap;
 use lin_history::{NeedRows, ProblemCall};
@@ -25,6 +26,8 @@ pub struct ValuesAhead {
     pub needs: NeedRows,
     /// For each call, whether the state may not change where it could follow, until it is lifted.
     pub held: Vec<bool>,
+    /// For each call, those of which one wrote the value that it found.
+    pub owners: Vec<Owners>,
     /// Whether what is known shows that there is no linearization.
     pub in_vain: bool,
     /// The values of each call, by which a search finds one that has this flag.
@@ -246,6 +249,7 @@ pub(crate) fn told_of_register(
     Ok(ValuesAhead {
         needs: NeedRows::new(by, from),
         held: found_single_row(alloc, &values, calls)?,
+        owners: owners_of_each(alloc, *start, calls)?,
         in_vain,
         values: value_numbers(alloc, &values, calls)?,
     })

@@ -1,0 +1,1 @@
+-- What a call on a register found was written by one of its possible owners, the last call in front of it that changed the state.
