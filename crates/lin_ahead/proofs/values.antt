@@ -1,4 +1,5 @@
 pub mod RegisterLemmas
+pub mod OwnerLemmas
 pub mod ValueLemmas
 pub mod PairLemmas
 pub mod VainLemmas

@@ -35,6 +35,7 @@ use Rattle.lin_ahead.specs.declared.values.rows.ValuesAhead.{ValuesAhead}
 use Rattle.lin_history.specs.Problems.AnyProblem.{any_problem}
 use Rattle.lin_ahead.specs.Behind.{IsRightOfValues}
 use Rattle.lin_ahead.specs.Values.Held.{IsHeldUntil}
+use Rattle.lin_ahead.specs.Values.Owners.{Leaves, AllLeave, LastChange, IsOwnedBy}
 use Rattle.lin_ahead.specs.Values.ValueCalls.{AreRowsOf}
 use Rattle.lin_ahead.specs.Values.ToldOfRegister.{IsToldOfRegister}
 use Rattle.lin_ahead.specs.Values.KeyValue.{key_at, is_on, are_on, on_this_key, of_one_key, op_on_value, reply_on_value, returned_on_value, call_on_value, on_value}
@@ -327,6 +328,78 @@ module _ (law : MapLaw after state_eq.it) where
         (λ u step same. changes goes.0 goes.1 (same_map sim.2.0 one.behind s goes.0 t one.to shows one.shows one.others
         (let is : u ≡ one.to = (let f = one.step in cc) in subst (λ (z : ObjState). state_eq.it z t ≡ true) is same)))
 
+    -- ---- owners
+
+    next_one : (t m n : ObjState) (c : ℕ) → next Q t c ≡ Some m → next Q t c ≡ Some n → m ≡ n
+    next_one t m n c e f = cc
+
+    legal_of_value : (l : List ℕ) (s t u : ObjState) → Legal Q s l t → Legal Q s l u → t ≡ u
+    legal_of_value [] s t u a b = sym a ∙ b
+    legal_of_value (c ∷ cs) s t u a b = legal_of_value cs a.0 t u a.2 (subst (λ (m : ObjState). Legal Q m cs u) (next_one s b.0 a.0 c b.1 a.1) b.2)
+
+    -- a call that leaves the register as it is leaves the map so, and leads to an identical state
+    leaves_map : (pairs : List Pair) (s t m : ObjState) (c : ℕ) → Shows k pairs s t → Leaves Q t c → next P s c ≡ Some m → state_eq.it m s ≡ true
+    leaves_map pairs s t m c shows leaves step =
+        let one = follows pairs s t m c shows step in
+        same_map pairs one.behind s m t one.to shows one.shows one.others
+        (subst (λ (z : ObjState). state_eq.it z t ≡ true) (next_one t leaves.0 one.to c leaves.1 one.step) leaves.2)
+
+    -- so do calls, one after another
+    all_leave_map : (l : List ℕ) (pairs : List Pair) (s t end : ObjState) → Shows k pairs s t → Legal P s l end → AllLeave Q t l → AllLeave P s l
+    all_leave_map [] pairs s t end shows legal kept = λ c h. absurd h
+    all_leave_map (c ∷ cs) pairs s t end shows (m, step, more) kept =
+        let same : state_eq.it m s ≡ true = leaves_map pairs s t m c shows (kept c (inl refl)) step in
+        let rest = all_leave_map cs pairs s t end shows (subst (λ (z : ObjState). Legal P z cs end) (state_same m s same) more) (λ d h. kept d (inr h)) in
+        λ d h. elim h [
+          | inl here ↦ subst (λ (n : ℕ). Leaves P s n) (sym here) (m, step, same)
+          | inr there ↦ rest d there
+        ]
+
+    -- a call that changes the register changes the map
+    changed_on_map : (pairs behind : List Pair) (s t m to : ObjState) → Shows k pairs s t → Shows k behind m to → state_eq.it to t ≡ false → state_eq.it m s ≡ false
+    changed_on_map pairs behind s t m to here there other = go (state_eq.it m s) refl
+      where
+        same : state_eq.it m s ≡ true → to ≡ t
+        same e =
+            let is : Map behind ≡ Map pairs = sym there.is ∙ state_same m s e ∙ here.is in
+            there.holds ∙ ap (λ (ps : List Pair). Register (unwrap_or (value_at k ps) NOTHING)) (map_pairs behind pairs is) ∙ sym here.holds
+
+        go : (b : Bool) → state_eq.it m s ≡ b → state_eq.it m s ≡ false
+        go false e = e
+        go true e = absurd (true≢false (sym (subst (λ (z : ObjState). state_eq.it z t ≡ true) (sym (same e)) (subst (λ (z : ObjState). state_eq.it z z ≡ true) (sym here.holds) ((signed_Decides (unwrap_or (value_at k pairs) NOTHING) (unwrap_or (value_at k pairs) NOTHING)).1 refl))) ∙ other))
+
+    -- the last call that changed the register changed the map
+    change_on_map : (calls early : List ℕ) (end : ObjState) → Legal P P.start early end → LastChange Q calls early → LastChange P calls early
+    change_on_map calls early end legal k =
+        let two = legal_split k.front (k.owner ∷ k.since) P.start end (subst (λ (l : List ℕ). Legal P P.start l end) k.place legal) in
+        let sim = shown k.front [] P.start (Register NOTHING) two.0 at_start two.1 in
+        let from : sim.0 ≡ k.from = legal_of_value k.front (Register NOTHING) sim.0 k.from sim.1 k.before in
+        let step = two.2.1 in
+        let one = follows sim.2.0 two.0 sim.0 two.2.0 k.owner sim.2.1 step in
+        let to : one.to ≡ k.to = next_one k.from one.to k.to k.owner (subst (λ (z : ObjState). next Q z k.owner ≡ Some one.to) from one.step) k.step in
+        record {
+          owner = k.owner;
+          front = k.front;
+          since = k.since;
+          place = k.place;
+          one_of = k.one_of;
+          from = two.0;
+          to = two.2.0;
+          before = two.1;
+          step = step;
+          changed = changed_on_map sim.2.0 one.behind two.0 sim.0 two.2.0 one.to sim.2.1 one.shows (subst (λ (z : ObjState). state_eq.it one.to z ≡ false) (sym from) (subst (λ (z : ObjState). state_eq.it z k.from ≡ false) (sym to) k.changed));
+          kept = all_leave_map k.since one.behind two.2.0 one.to end one.shows two.2.2 (subst (λ (z : ObjState). AllLeave Q z k.since) (sym to) k.kept);
+        }
+
+    pub owned_on_map : (calls : List ℕ) (flag : Bool) (g : ℕ) → IsOwnedBy Q calls flag g → IsOwnedBy P calls flag g
+    owned_on_map calls flag g owned l early late whole eq =
+        let legal = whole.continuation.legal in
+        let two = legal_split early (g ∷ late) P.start legal.0 (subst (λ (m : List ℕ). Legal P P.start m legal.0) eq legal.1) in
+        elim (owned l early late (of_value l whole) eq) [
+          | inl k ↦ inl (change_on_map calls early two.0 two.1 k)
+          | inr q ↦ inr (q.0, all_leave_map early [] P.start (Register NOTHING) two.0 at_start two.1 q.1)
+        ]
+
     -- what is right for the register is right for the map
     pub right_on_map : (ahead : ValuesAhead) → IsRightOfValues Q ahead → IsRightOfValues P ahead
     right_on_map ahead right = record {
@@ -336,6 +409,7 @@ module _ (law : MapLaw after state_eq.it) where
         needed = λ a b m n there here below other l whole early late eq. right.needs.needed a b m n there here below other l (of_value l whole) early late eq;
       };
       held = λ g there. held_on_map g (right.held g there);
+      owners = λ g row there is. owned_on_map row.calls.items row.at_start g (right.owners g row there is);
       in_vain = λ is l whole. right.in_vain is l (of_value l whole);
     }
 

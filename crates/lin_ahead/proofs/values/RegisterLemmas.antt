@@ -39,16 +39,16 @@ some_none e = cc
 same_int : {x y : ℤ} → Int x ≡ Int y → x ≡ y
 same_int e = cc
 
-same_value : {x y : ℤ} → Register x ≡ Register y → x ≡ y
+pub same_value : {x y : ℤ} → Register x ≡ Register y → x ≡ y
 same_value e = cc
 
 -- what a step from this value tells, with the return that is recorded of its call
-record Tells (w : ℤ) (op : Op) (back : Option (ℕ × Reply)) (m : ObjState) : Type 0 where
-  value : ℤ
-  ends : m ≡ Register value
-  change : (value ≡ w) ⊎ (value_written op back ≡ Some value)
-  found : (u : ℤ) → value_found op back ≡ Some u → w ≡ u
-  wrote : (u : ℤ) → IsSome back → value_written op back ≡ Some u → value ≡ u
+pub record Tells (w : ℤ) (op : Op) (back : Option (ℕ × Reply)) (m : ObjState) : Type 0 where
+  pub value : ℤ
+  pub ends : m ≡ Register value
+  pub change : (value ≡ w) ⊎ (value_written op back ≡ Some value)
+  pub found : (u : ℤ) → value_found op back ≡ Some u → w ≡ u
+  pub wrote : (u : ℤ) → IsSome back → value_written op back ≡ Some u → value ≡ u
 
 cas_tells : (hit : Bool) (w a b : ℤ) (back : Option (ℕ × Reply)) (m : ObjState) (r : Reply) → int_eq w a ≡ hit → Is (Some (if hit then (Register b, Flag true) else (Register w, Flag false))) m r → IfSome back (λ q. q.1 ≡ r) → Tells w (Cas a b) back m
 cas_tells true w a b None m r e step k = record { value = b; ends = sym (state_of step); change = inr refl; found = λ u f. absurd (some_none f); wrote = λ u done f. same_some f }
@@ -71,7 +71,7 @@ read_found w (Some (n, Okay)) r u e k f = absurd (some_none f)
 read_found w (Some (n, Flag b)) r u e k f = absurd (some_none f)
 read_found w (Some (n, Empty)) r u e k f = absurd (some_none f)
 
-step_tells : (w : ℤ) (op : Op) (back : Option (ℕ × Reply)) (m : ObjState) (r : Reply) → Is (register_step w op) m r → IfSome back (λ q. q.1 ≡ r) → Tells w op back m
+pub step_tells : (w : ℤ) (op : Op) (back : Option (ℕ × Reply)) (m : ObjState) (r : Reply) → Is (register_step w op) m r → IfSome back (λ q. q.1 ≡ r) → Tells w op back m
 step_tells w (Write v) back m r step k = record { value = v; ends = sym (state_of step); change = inr refl; found = λ u f. absurd (some_none f); wrote = λ u done f. same_some f }
 step_tells w Read back m r step k = record { value = w; ends = sym (state_of step); change = inl refl; found = λ u f. read_found w back r u (reply_of step) k f; wrote = λ u done f. absurd (some_none f) }
 step_tells w (Cas a b) back m r step k = cas_tells (int_eq w a) w a b back m r refl step k
@@ -82,11 +82,11 @@ step_tells w op back m r step k = absurd (no_step step)
 -- ---- runs of a register
 
 module _ {p : Problem ObjState Op Reply} {start : ℤ} (of : IsOfRegister p start) where
-  fits_recorded : (r : Reply) (recorded : Option (ℕ × Reply)) → fits p.same_reply r recorded ≡ true → IfSome recorded (λ q. q.1 ≡ r)
+  pub fits_recorded : (r : Reply) (recorded : Option (ℕ × Reply)) → fits p.same_reply r recorded ≡ true → IfSome recorded (λ q. q.1 ≡ r)
   fits_recorded r None e = tt
   fits_recorded r (Some q) e = sym (of.exact r q.1 e)
 
-  has_call : (s m : ObjState) (c : ℕ) → next p s c ≡ Some m → (x : ProblemCall Op Reply) × (slice_get p.calls c ≡ Some x)
+  pub has_call : (s m : ObjState) (c : ℕ) → next p s c ≡ Some m → (x : ProblemCall Op Reply) × (slice_get p.calls c ≡ Some x)
   has_call s m c step = go (slice_get p.calls c) refl
     where
       go : (o : Option (ProblemCall Op Reply)) → slice_get p.calls c ≡ o → (x : ProblemCall Op Reply) × (slice_get p.calls c ≡ Some x)
@@ -94,17 +94,17 @@ module _ {p : Problem ObjState Op Reply} {start : ℤ} (of : IsOfRegister p star
       go None e = absurd (let f = rw e at step in cc)
 
   -- a step of a call at a register
-  tells : (w : ℤ) (m : ObjState) (c : ℕ) (x : ProblemCall Op Reply) → slice_get p.calls c ≡ Some x → next p (Register w) c ≡ Some m → Tells w x.op x.returned m
+  pub tells : (w : ℤ) (m : ObjState) (c : ℕ) (x : ProblemCall Op Reply) → slice_get p.calls c ≡ Some x → next p (Register w) c ≡ Some m → Tells w x.op x.returned m
   tells w m c x e step =
       let step' : state_if_fits p.same_reply x.returned (p.after (Register w) x.process x.op) ≡ Some m = rw e at step in
       let k = fits_some p.same_reply (p.after (Register w) x.process x.op) x.returned m step' in
       step_tells w x.op x.returned m k.0 (sym (of.after_is (Register w) x.process x.op) ∙ k.1) (fits_recorded k.0 x.returned k.2)
 
   -- what the register holds at the end was there, or some call of the list may write it
-  abbrev Left : ℤ → List ℕ → ObjState → Type 0
+  abbrev pub Left : ℤ → List ℕ → ObjState → Type 0
   Left w l t = (u : ℤ) × (t ≡ Register u) × ((u ≡ w) ⊎ ((c : ℕ) × In c l × MayWrite p c u))
 
-  left : (l : List ℕ) (w : ℤ) (t : ObjState) → Legal p (Register w) l t → Left w l t
+  pub left : (l : List ℕ) (w : ℤ) (t : ObjState) → Legal p (Register w) l t → Left w l t
   left [] w t e = (w, sym e, inl refl)
   left (c ∷ cs) w t (m, step, more) =
       let call = has_call (Register w) m c step in
@@ -121,19 +121,19 @@ module _ {p : Problem ObjState Op Reply} {start : ℤ} (of : IsOfRegister p star
         ],
       )
 
-  legal_split : (xs ys : List ℕ) (s u : ObjState) → Legal p s (xs ++ ys) u → (t : ObjState) × Legal p s xs t × Legal p t ys u
+  pub legal_split : (xs ys : List ℕ) (s u : ObjState) → Legal p s (xs ++ ys) u → (t : ObjState) × Legal p s xs t × Legal p t ys u
   legal_split [] ys s u k = (s, refl, k)
   legal_split (x ∷ xs) ys s u k = let r = legal_split xs ys k.0 u k.2 in (r.0, (k.0, k.1, r.1), r.2)
 
-  legal_one : (l : List ℕ) (s t u : ObjState) → Legal p s l t → Legal p s l u → t ≡ u
+  pub legal_one : (l : List ℕ) (s t u : ObjState) → Legal p s l t → Legal p s l u → t ≡ u
   legal_one [] s t u a b = sym a ∙ b
   legal_one (c ∷ cs) s t u a b = legal_one cs a.0 t u a.2 (subst (λ (m : ObjState). Legal p m cs u) (let f = a.1 in let g = b.1 in cc) b.2)
 
-  from_start : (l : List ℕ) (s : ObjState) → Legal p p.start l s → Legal p (Register start) l s
+  pub from_start : (l : List ℕ) (s : ObjState) → Legal p p.start l s → Legal p (Register start) l s
   from_start l s k = subst (λ (u : ObjState). Legal p u l s) of.start_is k
 
   -- what found a value found it there
-  finds_held : (w v : ℤ) (m : ObjState) (g : ℕ) → Finds p g v → next p (Register w) g ≡ Some m → w ≡ v
+  pub finds_held : (w v : ℤ) (m : ObjState) (g : ℕ) → Finds p g v → next p (Register w) g ≡ Some m → w ≡ v
   finds_held w v m g found step = (tells w m g found.0 found.1 step).found v found.2
 
   -- another value is there, and no call to come may write this one: so none to come found it
@@ -204,7 +204,7 @@ module _ {p : Problem ObjState Op Reply} {start : ℤ} (of : IsOfRegister p star
 
   -- ---- clusters
 
-  not_itself : (early : List ℕ) (i : ℕ) (late : List ℕ) → IsRun p (early ++ i ∷ late) → (j : ℕ) → Before p i j → j ≡ i → ⊥
+  pub not_itself : (early : List ℕ) (i : ℕ) (late : List ℕ) → IsRun p (early ++ i ∷ late) → (j : ℕ) → Before p i j → j ≡ i → ⊥
   not_itself early i late run j before e = elim (run.ordered early i late refl i (subst (λ (n : ℕ). Before p i n) e before)) [
     | inl q ↦ (let x = has_none (length p.calls) i in cc)
     | inr q ↦ apart i early (i ∷ late) run.distinct q (inl refl)
