@@ -3,9 +3,19 @@
 ghost use Rattle.std.specs.Prelude.{IfOk};
 ghost use Rattle.lin_ahead.specs.Values.PossibleOwners.{AreOwnerRows};
 
+use crate::values::breaking_calls::{Finder, Sought, finder_of, look_on};
+use crate::values::value_calls::ValueCalls;
+use crate::values::writers::{Writer, Writers};
+use indexmap::IndexMap;
 use lin_history::ProblemCall;
 use lin_object::{Op, Reply};
 use std::alloc::{AllocError, Global};
+
+// With more owners than this nothing is told of a call.
+const MOST_OWNERS: usize = 64;
+
+// How many rows are looked at for the owners of a call.
+const MOST_STEPS: usize = 256;
 
 /// The calls of which one wrote the value that a call found, in each linearization.
 #[derive(Drop)]
@@ -18,13 +28,117 @@ pub struct Owners {
     pub(crate) are_told: bool,
 }
 
-/// The owners of each call, on a register that starts with this value. `AllocError` where memory was refused.
+// Nothing is told.
+fn untold(alloc: Global) -> Owners {
+    Owners {
+        calls: Vec::new(alloc),
+        at_start: false,
+        are_told: false,
+    }
+}
+
+// The row before this place, if it is one of the value that the finder found.
+fn row_before(rows: &[Writer], finder: &Finder, place: usize) -> Option<Writer> {
+    if place == 0 {
+        return None;
+    }
+    let row = rows[place - 1];
+    if row.key < finder.low {
+        None
+    } else {
+        Some(row)
+    }
+}
+
+// A place before this one up to which no row is that of an owner; none where the row before this place may be. A call since which the
+// value was not there all the time was called at `since`, or there is none and this is 0.
+fn passed(writers: &Writers, finder: &Finder, place: usize, since: u64) -> Option<usize> {
+    let row = &writers.rows[place - 1];
+    if row.returned < since {
+        return Some(writers.under[place - 1]);
+    }
+    if row.call == finder.call || finder.low + finder.returned < row.key {
+        return Some(place - 1);
+    }
+    None
+}
+
+// Lists the calls with rows before this place that may have written what the finder found. When the call was called that breaks the
+// value last, as far as was asked; `None` if there are too many.
+fn list_owners(
+    calls: &[ProblemCall<Op, Reply>],
+    writers: &Writers,
+    finder: &Finder,
+    owners: &mut Vec<usize>,
+) -> Result<Option<Sought>, AllocError> {
+    let mut place = writers.end(finder.low, finder.low + finder.returned);
+    let mut sought = Sought {
+        next: finder.call,
+        since: 0,
+    };
+    for _ in 0..MOST_STEPS {
+        let Some(row) = row_before(writers.rows.as_slice(), finder, place) else {
+            return Ok(Some(sought));
+        };
+        sought = look_on(calls, finder, sought, row.returned);
+        match passed(writers, finder, place, sought.since) {
+            Some(next) => place = next,
+            None => {
+                owners.push(row.call)?;
+                place -= 1;
+            }
+        }
+    }
+    Ok(None)
+}
+
+// Whether the value that the finder found may have been there from the start on.
+fn may_be_from_start(
+    calls: &[ProblemCall<Op, Reply>],
+    start: i64,
+    finder: &Finder,
+    sought: Sought,
+) -> bool {
+    finder.value == start && look_on(calls, finder, sought, 0).since == 0
+}
+
+// The owners of a call that found a value.
+fn owners_of_finder(
+    alloc: Global,
+    start: i64,
+    calls: &[ProblemCall<Op, Reply>],
+    writers: &Writers,
+    finder: &Finder,
+) -> Result<Owners, AllocError> {
+    let mut owners = Vec::new(alloc);
+    match list_owners(calls, writers, finder, &mut owners)? {
+        Some(sought) if owners.len() <= MOST_OWNERS => Ok(Owners {
+            calls: owners,
+            at_start: may_be_from_start(calls, start, finder, sought),
+            are_told: true,
+        }),
+        _ => Ok(untold(alloc)),
+    }
+}
+
+/// The owners of each call, on a register that starts with this value. The values are those that the calls show. `AllocError` where
+/// memory was refused.
 pub(crate) fn owners_of_each(
     alloc: Global,
     start: i64,
+    values: &IndexMap<i64, ValueCalls>,
     calls: &[ProblemCall<Op, Reply>],
 ) -> Result<Vec<Owners>, AllocError>
     ensures { IfOk result (λ rows. AreOwnerRows calls.now start rows.items) }
 {
-    Err(AllocError)
+    let writers = Writers::new(alloc, values, calls)?;
+    let mut rows = Vec::with_capacity(alloc, calls.len())?;
+    for call in 0..calls.len() {
+        let owners = match finder_of(values, &calls[call], call) {
+            Some(finder) => owners_of_finder(alloc, start, calls, &writers, &finder)?,
+            None => untold(alloc),
+        };
+        rows.push(owners)?;
+    }
+    Ok(rows)
 }

@@ -249,7 +249,7 @@ pub(crate) fn told_of_register(
     Ok(ValuesAhead {
         needs: NeedRows::new(by, from),
         held: found_single_row(alloc, &values, calls)?,
-        owners: owners_of_each(alloc, *start, calls)?,
+        owners: owners_of_each(alloc, *start, &values.told, calls)?,
         in_vain,
         values: value_numbers(alloc, &values, calls)?,
     })

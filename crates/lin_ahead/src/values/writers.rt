@@ -1,0 +1,172 @@
+//! The calls that may write each value, in the order of their calls.
+
+use crate::items::item_calls::BEYOND;
+use crate::values::value_calls::{ValueCalls, value_written};
+use indexmap::IndexMap;
+use lin_history::ProblemCall;
+use lin_object::{Op, Reply};
+use std::alloc::{AllocError, Global};
+
+// With so many values none is numbered.
+const MOST_VALUES: u64 = 1 << 31;
+
+// How many rows are passed by links for one link.
+const LINKS_IN_SIGHT: usize = 64;
+
+// With so many rows behind the one that is sought in front of the last row of a value, it is sought by halves.
+const ROWS_AT_HAND: usize = 8;
+
+/// A call that may write a value.
+#[derive(Clone, Copy, Debug)]
+pub(crate) struct Writer {
+    /// The number of the value times 2^32, and when the call was called.
+    pub key: u64,
+    /// The call.
+    pub call: usize,
+    /// When it returned; beyond all events while it is pending.
+    pub returned: u64,
+}
+
+/// The calls that may write values.
+#[derive(Drop)]
+pub(crate) struct Writers {
+    /// Their rows, in the order of their keys.
+    pub rows: Vec<Writer>,
+    /// For each row a place from which on no row up to it returned later.
+    pub under: Vec<usize>,
+    /// For each number of a value the place behind the last of its rows. A hint.
+    ends: Vec<usize>,
+}
+
+/// From which key on the rows of the calls stand that may write the value. `None` for a value that has no number.
+pub(crate) fn low_of(values: &IndexMap<i64, ValueCalls>, value: i64) -> Option<u64> {
+    let number = values.get_index_of(&value)? as u64;
+    if number < MOST_VALUES {
+        Some(number * BEYOND)
+    } else {
+        None
+    }
+}
+
+// When the call returned; beyond all events while it is pending.
+fn returned_or_beyond(call: &ProblemCall<Op, Reply>) -> u64 {
+    match &call.returned {
+        Some((number, _)) => u64::from(*number),
+        None => BEYOND,
+    }
+}
+
+// The row of the call, if it may write a value that has a number.
+fn writer_of(
+    values: &IndexMap<i64, ValueCalls>,
+    one: &ProblemCall<Op, Reply>,
+    call: usize,
+) -> Option<Writer> {
+    let low = low_of(values, value_written(one)?)?;
+    Some(Writer {
+        key: low + u64::from(one.called),
+        call,
+        returned: returned_or_beyond(one),
+    })
+}
+
+// The rows of all calls that may write values, in the order of the calls.
+fn writers_by_calls(
+    alloc: Global,
+    values: &IndexMap<i64, ValueCalls>,
+    calls: &[ProblemCall<Op, Reply>],
+) -> Result<Vec<Writer>, AllocError> {
+    let mut rows = Vec::new(alloc);
+    for call in 0..calls.len() {
+        if let Some(row) = writer_of(values, &calls[call], call) {
+            rows.push(row)?;
+        }
+    }
+    Ok(rows)
+}
+
+// The same in the order of their keys.
+fn writers_in_order(
+    alloc: Global,
+    values: &IndexMap<i64, ValueCalls>,
+    calls: &[ProblemCall<Op, Reply>],
+) -> Result<Vec<Writer>, AllocError> {
+    let mut rows = writers_by_calls(alloc, values, calls)?;
+    rows.sort_by_key(|one| one.key)?;
+    Ok(rows)
+}
+
+// A place from which on no row up to this one returned later than it, by the same of each row before.
+fn first_under(rows: &[Writer], under: &[usize], place: usize) -> usize {
+    let mut first = place;
+    for _ in 0..LINKS_IN_SIGHT {
+        if first == 0 || rows[first - 1].returned > rows[place].returned {
+            return first;
+        }
+        first = under[first - 1];
+    }
+    first
+}
+
+// For each row a place from which on no row up to it returned later.
+fn under_each(alloc: Global, rows: &[Writer]) -> Result<Vec<usize>, AllocError> {
+    let mut under = Vec::with_capacity(alloc, rows.len())?;
+    for place in 0..rows.len() {
+        let first = first_under(rows, under.as_slice(), place);
+        under.push(first)?;
+    }
+    Ok(under)
+}
+
+// The number of the value, by a key of its rows.
+fn number_of(key: u64) -> usize {
+    (key / BEYOND) as usize
+}
+
+// For each of so many numbers the place behind the last of its rows.
+fn ends_of_values(alloc: Global, rows: &[Writer], count: usize) -> Result<Vec<usize>, AllocError> {
+    let mut ends = vec![in alloc; 0usize; count]?;
+    for place in 0..rows.len() {
+        if let Some(slot) = ends.get_mut(number_of(rows[place].key)) {
+            *slot = place + 1;
+        }
+    }
+    Ok(ends)
+}
+
+impl Writers {
+    /// The calls that may write values. `AllocError` where memory was refused.
+    pub(crate) fn new(
+        alloc: Global,
+        values: &IndexMap<i64, ValueCalls>,
+        calls: &[ProblemCall<Op, Reply>],
+    ) -> Result<Self, AllocError> {
+        let rows = writers_in_order(alloc, values, calls)?;
+        Ok(Writers {
+            under: under_each(alloc, rows.as_slice())?,
+            ends: ends_of_values(alloc, rows.as_slice(), values.len())?,
+            rows,
+        })
+    }
+
+    // Where the rows with greater keys begin, of those of the value whose rows stand from this key on. A hint.
+    fn likely_end(&self, low: u64, high: u64) -> usize {
+        let end = self.ends.get(number_of(low)).copied().unwrap_or(0);
+        match self.rows.get(end.saturating_sub(ROWS_AT_HAND)) {
+            Some(row) if row.key > high => self
+                .rows
+                .as_slice()
+                .partition_point(|one| one.key <= high),
+            _ => end,
+        }
+    }
+
+    /// A place from which on all rows have greater keys than this.
+    pub(crate) fn end(&self, low: u64, high: u64) -> usize {
+        let end = self.likely_end(low, high);
+        match self.rows.get(end) {
+            Some(row) if row.key > high => end,
+            _ => self.rows.len(),
+        }
+    }
+}
