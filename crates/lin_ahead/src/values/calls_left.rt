@@ -76,14 +76,20 @@ impl CallsLeft {
 
     // Takes the call out.
     pub(crate) fn take_out(&mut self, call: usize) {
-        if let (Some(last), Some(next)) = (self.last.get(call).copied(), self.next.get(call).copied()) {
+        if let (Some(last), Some(next)) = (
+            self.last.get(call).copied(),
+            self.next.get(call).copied(),
+        ) {
             self.join(last, next);
         }
     }
 
     // Puts the call back that was taken out last.
     pub(crate) fn put_back(&mut self, call: usize) {
-        if let (Some(last), Some(next)) = (self.last.get(call).copied(), self.next.get(call).copied()) {
+        if let (Some(last), Some(next)) = (
+            self.last.get(call).copied(),
+            self.next.get(call).copied(),
+        ) {
             self.join(last, call);
             self.join(call, next);
         }

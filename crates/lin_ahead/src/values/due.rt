@@ -222,7 +222,9 @@ impl Due {
             return None;
         }
         for place in 0..CALLS_IN_SIGHT {
-            let other = *self.due.get(self.due.len().checked_sub(place.saturating_add(1))?)?;
+            let other = *self
+                .due
+                .get(self.due.len().checked_sub(place.saturating_add(1))?)?;
             if other != call && !self.has(other) {
                 return Some(other);
             }
