@@ -1,19 +1,20 @@
 //! Registers, and maps whose calls are on one key.
 //!
 //! - `value_calls`: what the calls show of one value: how many may write it, and when those that wrote or found it returned and were
-//!   called; `each_value`: the same of each value, by one pass; `call_values`: the values of each call by numbers; `rows`: what is known
+//!   called; `each_value`: the same of each value, by one pass; `call_values`: what each call shows of values; `rows`: what is known
 //!   ahead; `needed_pairs`: two calls that need each other.
 //! - `owners`: the calls of which one wrote what a call found; `writers`: those that may write each value; `breaking_calls`: those by
 //!   which a value is not there all the time.
 //! - `key_value`: the calls of a map on one key, as calls of a register that holds the key's value.
-//! - `rules`: the rules of a first search; `held_state`: calls until which the state is held; `finders`: the calls that found each value,
-//!   in turn.
+//! - `rules`: the rules of a first search; `due_rules`: what follows from calls that are due; `due`: which are; `calls_left`: the completed
+//!   calls that are left, by their returns.
 
 pub(crate) mod breaking_calls;
 pub(crate) mod call_values;
+pub(crate) mod calls_left;
+pub(crate) mod due;
+pub(crate) mod due_rules;
 pub(crate) mod each_value;
-pub(crate) mod finders;
-pub(crate) mod held_state;
 pub(crate) mod key_value;
 pub(crate) mod needed_pairs;
 pub(crate) mod owners;

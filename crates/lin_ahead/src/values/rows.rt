@@ -9,7 +9,7 @@ ghost use Rattle.lin_ahead.specs.Values.Register.{value_written, value_found};
 ghost use Rattle.lin_ahead.specs.Values.ValueCalls.{value_in, single_by, cluster_from, cluster_numbers, found_single, found_nowhere, shows_in_vain, any_shows_in_vain, any_in_vain, cluster_numbers_row, found_single_row, AreRowsOf};
 
 use crate::items::item_calls::BEYOND;
-use crate::values::call_values::{CallValues, ValueNumbers};
+use crate::values::call_values::{CallValues, values_of_each};
 use crate::values::each_value::{told_of_value, values_told};
 use crate::values::needed_pairs::{CallNumbers, some_pair};
 use crate::values::owners::{Owners, owners_of_each};
@@ -30,8 +30,8 @@ pub struct ValuesAhead {
     pub owners: Vec<Owners>,
     /// Whether what is known shows that there is no linearization.
     pub in_vain: bool,
-    /// The values of each call, by which a search finds one that has this flag.
-    pub values: ValueNumbers,
+    /// What each call shows of values, by which a search finds calls to ask about.
+    pub(crate) values: Vec<CallValues>,
 }
 
 // What the calls show of each value, and the value that the register starts with.
@@ -193,41 +193,6 @@ fn found_single_row(
         .collect(alloc)
 }
 
-// The numbers of the values of the call.
-fn numbers_of(values: &Values, call: &ProblemCall<Op, Reply>) -> CallValues {
-    let written = value_written(call).and_then(|value| values.told.get_index_of(&value));
-    let wanted = match (&call.op, &call.returned) {
-        (Op::Cas(value, _), None) => values.told.get_index_of(value),
-        _ => None,
-    };
-    let found = match value_found(call) {
-        Some(value) if single_by(values, value) => values.told.get_index_of(&value),
-        _ => None,
-    };
-    CallValues {
-        found,
-        written,
-        wanted,
-    }
-}
-
-// The numbers of the values of each call.
-fn value_numbers(
-    alloc: Global,
-    values: &Values,
-    calls: &[ProblemCall<Op, Reply>],
-) -> Result<ValueNumbers, AllocError> {
-    let mut row = Vec::with_capacity(alloc, calls.len())?;
-    for call in calls {
-        row.push(numbers_of(values, call))?;
-    }
-    Ok(ValueNumbers {
-        calls: row,
-        count: values.told.len(),
-        start: values.told.get_index_of(&values.start),
-    })
-}
-
 /// What these calls show, on a register that starts with this value. `AllocError` where memory was refused.
 pub(crate) fn told_of_register(
     alloc: Global,
@@ -251,6 +216,6 @@ pub(crate) fn told_of_register(
         held: found_single_row(alloc, &values, calls)?,
         owners: owners_of_each(alloc, *start, &values.told, calls)?,
         in_vain,
-        values: value_numbers(alloc, &values, calls)?,
+        values: values_of_each(alloc, calls)?,
     })
 }

@@ -1,4 +1,4 @@
-//! The rules of a first search of a register, or of a map whose calls are on one key: needs, and values that are held.
+//! The rules of a first search of a register, or of a map whose calls are on one key: needs, and calls that are due.
 ghost use Rattle.std.specs.Prelude.{◌≡◌, IfOk};
 ghost use Rattle.lin_history.specs.Problems.AnyProblem.{any_problem};
 ghost use Rattle.lin_ahead.specs.Behind.{IsRightOfValues};
@@ -6,22 +6,23 @@ ghost use Rattle.lin_ahead.specs.Behind.{IsRightOfValues};
 use crate::first::calls_in_turn::CallsInTurn;
 use crate::first::needed_calls::{left_out, needed_in_turn};
 use crate::first::rules::Rules;
-use crate::values::finders::Finders;
-use crate::values::held_state::held_until;
+use crate::values::call_values::CallValues;
+use crate::values::due::Due;
+use crate::values::due_rules::{Next, another_is_due};
 use crate::values::rows::ValuesAhead;
 use lin_history::Problem;
 use lin_object::{AnyObject, ObjState, lawful};
 use lin_search::Config;
 use std::alloc::{AllocError, Global};
 
-/// What is known ahead, and by which calls to ask it: the calls by how early they are needed, and those until which the state is held.
-/// All but what is known ahead are hints.
+/// What is known ahead, and by which calls to ask it: the calls by how early they are needed, and those that are due. All but what is
+/// known ahead are hints.
 #[derive(Drop)]
 pub(crate) struct ValueRules<'a> {
     alloc: Global,
     ahead: &'a ValuesAhead,
     needed: CallsInTurn,
-    held: Finders,
+    due: Due,
 }
 
 impl<'a> ValueRules<'a> {
@@ -33,8 +34,16 @@ impl<'a> ValueRules<'a> {
             alloc,
             ahead,
             needed: needed_in_turn(alloc, &ahead.needs)?,
-            held: Finders::new(alloc, &ahead.values)?,
+            due: Due::new(alloc, ahead.values.as_slice(), ahead.owners.as_slice())?,
         })
+    }
+}
+
+// Whether the call may write a value.
+fn may_write(values: &[CallValues], call: usize) -> bool {
+    match values.get(call) {
+        Some(one) => one.written.is_some(),
+        None => false,
     }
 }
 
@@ -42,14 +51,13 @@ impl<'a> Rules<AnyObject> for ValueRules<'a> {
     ghost are_right = { λ rules p. IsRightOfValues (any_problem p) rules.ahead.now };
 
     fn lifted(&mut self, config: &Config<AnyObject>, call: usize) -> Result<(), AllocError> {
-        self.held.lifted(config, call);
         self.needed.lifted(config);
-        Ok(())
+        self.due.lifted(call)
     }
 
     fn unlifted(&mut self, call: usize) {
         self.needed.unlifted(call);
-        self.held.unlifted(call);
+        self.due.unlifted(call);
     }
 
     // It needs a call that is not lifted.
@@ -63,11 +71,13 @@ impl<'a> Rules<AnyObject> for ValueRules<'a> {
         Ok(left_out(problem, &self.ahead.needs, &self.needed, config, call).is_some())
     }
 
-    fn looks_at_next(&self, config: &Config<AnyObject>, call: usize) -> bool {
-        self.held.another(config, call).is_some()
+    // It may change the state while another call is due, or makes one due.
+    fn looks_at_next(&self, _config: &Config<AnyObject>, call: usize) -> bool {
+        may_write(self.ahead.values.as_slice(), call)
+            && (self.due.has_another(call) || self.due.last_behind(call).is_some())
     }
 
-    // It changes the state, and another call that is not lifted could follow and is held until it stands.
+    // It changes the state while another call is due, or behind it; or one that is due behind it has no step there.
     fn leads_to_none(
         &self,
         problem: &Problem<AnyObject>,
@@ -76,19 +86,23 @@ impl<'a> Rules<AnyObject> for ValueRules<'a> {
         state: &ObjState,
     ) -> Result<bool, AllocError> {
         lawful::<AnyObject>();
-        if *state == *config.state() {
-            return Ok(false);
-        }
-        match held_until(
-            self.alloc,
+        let owners = self.ahead.owners.as_slice();
+        let next = Next {
             problem,
-            self.ahead.held.as_slice(),
-            &self.held,
             config,
             call,
-        )? {
-            Some(_other) => Ok(true),
-            None => Ok(false),
+            state,
+        };
+        if *state == *config.state() {
+            return next.finds_another(self.alloc, owners, &self.due);
         }
+        if another_is_due(problem, owners, &self.due, config, call) {
+            return Ok(true);
+        }
+        let values = self.ahead.values.as_slice();
+        if next.two_change(self.alloc, owners, &self.due, values)? {
+            return Ok(true);
+        }
+        next.comes_between(self.alloc, owners, &self.due, values)
     }
 }
