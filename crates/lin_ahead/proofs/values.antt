@@ -1,3 +1,4 @@
+pub mod ClusterLemmas
 pub mod RegisterLemmas
 pub mod ValueLemmas
 pub mod PairLemmas
