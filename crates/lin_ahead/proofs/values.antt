@@ -1,4 +1,5 @@
 pub mod ClusterLemmas
+pub mod TakenTwiceLemmas
 pub mod RegisterLemmas
 pub mod ValueLemmas
 pub mod PairLemmas

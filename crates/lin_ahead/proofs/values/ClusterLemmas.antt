@@ -152,9 +152,20 @@ module _ {State Op Reply : Type 0} (p : Problem State Op Reply) where
 
   -- ---- between a call and its owner
 
+  -- Some calls lead to the state.
+  abbrev pub Reached : State → Type 0
+  Reached s = (l : List ℕ) × Legal p p.start l s
+
   -- Call x never leaves a state as it is in which call y can follow.
   abbrev pub Parts : ℕ → ℕ → Type 0
-  Parts x y = (s : State) → CanFollow p s y → Leaves p s x → ⊥
+  Parts x y = (s : State) → Reached s → CanFollow p s y → Leaves p s x → ⊥
+
+  legal_last : (l : List ℕ) (s t u : State) (c : ℕ) → Legal p s l t → next p t c ≡ Some u → Legal p s (l ++ c ∷ []) u
+  legal_last [] s t u c k step = (u, subst (λ (m : State). next p m c ≡ Some u) (sym k) step, refl)
+  legal_last (x ∷ xs) s t u c k step = (k.0, k.1, legal_last xs k.0 t u c k.2 step)
+
+  owner_reached : (l : List ℕ) (w y : ℕ) (k : Owned l w y) → Reached k.to
+  owner_reached l w y k = (k.front ++ w ∷ [], legal_last k.front p.start k.from k.to w k.before k.step)
 
   module _ (exact : (a b : State) → p.same_state a b ≡ true → a ≡ b) where
     -- calls that leave a state leave it, all of them
@@ -179,10 +190,10 @@ module _ {State Op Reply : Type 0} (p : Problem State Op Reply) where
     none_changed l run u y k w c there =
         let at = in_place w k.since there in
         let here : l ≡ (k.front ++ u ∷ at.0) ++ w ∷ (at.1 ++ y ∷ k.late) =
-            k.place
-            ∙ ap (λ (m : List ℕ). (k.front ++ u ∷ m) ++ y ∷ k.late) at.2
-            ∙ ap (λ (m : List ℕ). m ++ y ∷ k.late) (sym (append_assoc k.front (u ∷ at.0) (w ∷ at.1)))
-            ∙ append_assoc (k.front ++ u ∷ at.0) (w ∷ at.1) (y ∷ k.late) in
+        k.place
+        ∙ ap (λ (m : List ℕ). (k.front ++ u ∷ m) ++ y ∷ k.late) at.2
+        ∙ ap (λ (m : List ℕ). m ++ y ∷ k.late) (sym (append_assoc k.front (u ∷ at.0) (w ∷ at.1)))
+        ∙ append_assoc (k.front ++ u ∷ at.0) (w ∷ at.1) (y ∷ k.late) in
         let place : c.front ≡ k.front ++ u ∷ at.0 = same_place run.distinct c.front (k.front ++ u ∷ at.0) w c.behind (at.1 ++ y ∷ k.late) c.place here in
         let state : c.from ≡ k.to = state_since l run u y k at.0 (w ∷ at.1) at.2 c.from (subst (λ (m : List ℕ). Legal p p.start m c.from) place c.before) in
         let left = k.kept w there in
@@ -198,7 +209,7 @@ module _ {State Op Reply : Type 0} (p : Problem State Op Reply) where
 
     -- a call that never leaves the state in which call y can follow does not stand between y and its owner
     none_parts : (l : List ℕ) → IsRun p l → (w y : ℕ) (k : Owned l w y) (x : ℕ) → Parts x y → In x k.since → ⊥
-    none_parts l run w y k x parts there = parts k.to (owned_follows l run w y k) (k.kept x there)
+    none_parts l run w y k x parts there = parts k.to (owner_reached l w y k) (owned_follows l run w y k) (k.kept x there)
 
   -- in front of a call that w owns, w stands behind each call that does not stand between them
   in_owners_front : (l : List ℕ) → IsDistinct l → (w y : ℕ) (k : Owned l w y) (x : ℕ) → Front l x y → x ≢ w → (In x k.since → ⊥) → Front l x w
@@ -266,7 +277,7 @@ module _ {State Op Reply : Type 0} (p : Problem State Op Reply) where
 
   -- The call never leaves a state as it is.
   abbrev pub AlwaysChanges : ℕ → Type 0
-  AlwaysChanges g = (s : State) → Leaves p s g → ⊥
+  AlwaysChanges g = (s : State) → Reached s → Leaves p s g → ⊥
 
   -- of two calls that have one owner, the first leaves the state
   first_leaves : (l : List ℕ) → IsRun p l → (w g h : ℕ) → Owned l w g → Owned l w h → Front l g h → AlwaysChanges g → ⊥
@@ -274,7 +285,7 @@ module _ {State Op Reply : Type 0} (p : Problem State Op Reply) where
       front_both run.distinct w g (owner_front l w g one)
       (in_owners_front l run.distinct w h two g before
       (λ e. front_itself run.distinct w (subst (λ (n : ℕ). Front l w n) e (owner_front l w g one)))
-      (λ i. changes two.to (two.kept g i)))
+      (λ i. changes two.to (owner_reached l w h two) (two.kept g i)))
 
   -- two calls of one owner that each change the state
   pub taken_twice : (w g h : ℕ) → g ≢ h → IsOwnedBy p (w ∷ []) false g → IsOwnedBy p (w ∷ []) false h → IsCompleted p g → IsCompleted p h → AlwaysChanges g → AlwaysChanges h → (l : List ℕ) → IsLinearization p l → ⊥
@@ -291,7 +302,7 @@ module _ {State Op Reply : Type 0} (p : Problem State Op Reply) where
   start_kept : (l : List ℕ) → IsLinearization p l → (h : ℕ) → IsOwnedBy p [] true h → (g : ℕ) → Front l g h → AlwaysChanges g → ⊥
   start_kept l whole h owned g (early, late, eq, there) changes = elim (owned l early late whole eq) [
     | inl k ↦ k.one_of
-    | inr q ↦ changes p.start (q.1 g there)
+    | inr q ↦ changes p.start ([], refl) (q.1 g there)
   ]
 
   -- two that both found the state of the start
