@@ -1,3 +1,5 @@
+pub mod ClusterLemmas
+pub mod TakenTwiceLemmas
 pub mod RegisterLemmas
 pub mod OwnerLemmas
 pub mod ValueLemmas

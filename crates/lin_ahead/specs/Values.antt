@@ -8,3 +8,4 @@ pub mod NeededPairs
 pub mod ValueCalls
 pub mod ToldOfRegister
 pub mod KeyValue
+pub mod TakenTwice
