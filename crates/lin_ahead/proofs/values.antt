@@ -1,5 +1,6 @@
 pub mod ClusterLemmas
 pub mod TakenTwiceLemmas
+pub mod StrandedLemmas
 pub mod RegisterLemmas
 pub mod OwnerLemmas
 pub mod ValueLemmas

@@ -3,6 +3,7 @@ pub mod Register
 pub mod Held
 pub mod Owners
 pub mod Due
+pub mod Stranded
 pub mod PossibleOwners
 pub mod NeededPairs
 pub mod ValueCalls

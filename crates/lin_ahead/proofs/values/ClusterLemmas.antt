@@ -10,6 +10,7 @@ use Rattle.lin_history.specs.Problems.Linearizations.{IsRun, IsLinearization}
 use Rattle.lin_history.specs.Problems.Needs.{Needs}
 use Rattle.lin_ahead.specs.Values.Held.{CanFollow}
 use Rattle.lin_ahead.specs.Values.Owners.{Leaves, AllLeave, LastChange, IsOwnedBy}
+use Rattle.lin_ahead.specs.Values.Stranded.{Reached}
 use Rattle.lin_ahead.proofs.first.NeedsLemmas.{stands}
 
 -- ---- places in a list
@@ -33,7 +34,7 @@ module _ {l : List ℕ} (distinct : IsDistinct l) where
   same_place : (e f : List ℕ) (b : ℕ) (k m : List ℕ) → l ≡ e ++ b ∷ k → l ≡ f ++ b ∷ m → e ≡ f
   same_place e f b k m one two = one_place e f b k m (subst IsDistinct one distinct) (sym one ∙ two)
 
-  front_here : (a b : ℕ) → Front l a b → (early late : List ℕ) → l ≡ early ++ b ∷ late → In a early
+  pub front_here : (a b : ℕ) → Front l a b → (early late : List ℕ) → l ≡ early ++ b ∷ late → In a early
   front_here a b (e, k, eq, there) early late here = subst (λ (m : List ℕ). In a m) (same_place e early b k late eq here) there
 
   in_front : (a b : ℕ) → Front l a b → In a l
@@ -48,11 +49,11 @@ module _ {l : List ℕ} (distinct : IsDistinct l) where
   front_itself : (a : ℕ) → Front l a a → ⊥
   front_itself a (e, k, eq, there) = apart a e (a ∷ k) (subst IsDistinct eq distinct) there (inl refl)
 
-  front_both : (a b : ℕ) → Front l a b → Front l b a → ⊥
+  pub front_both : (a b : ℕ) → Front l a b → Front l b a → ⊥
   front_both a b one two = front_itself a (front_trans a b a one two)
 
   -- two calls of the list stand in one order or the other
-  front_either : (a b : ℕ) → a ≢ b → In a l → In b l → Front l a b ⊎ Front l b a
+  pub front_either : (a b : ℕ) → a ≢ b → In a l → In b l → Front l a b ⊎ Front l b a
   front_either a b other there here =
       let at = in_place b l here in
       elim (in_either a at.0 (b ∷ at.1) (subst (λ (m : List ℕ). In a m) at.2 there)) [
@@ -84,47 +85,48 @@ module _ {State Op Reply : Type 0} (p : Problem State Op Reply) where
 
   -- A call of the list changed the state.
   pub record Changed (l : List ℕ) (w : ℕ) : Type 0 where
-    front : List ℕ
-    behind : List ℕ
-    from : State
-    to : State
-    place : l ≡ front ++ w ∷ behind
-    before : Legal p p.start front from
-    step : next p from w ≡ Some to
-    changed : p.same_state to from ≡ false
+    pub front : List ℕ
+    pub behind : List ℕ
+    pub from : State
+    pub to : State
+    pub place : l ≡ front ++ w ∷ behind
+    pub before : Legal p p.start front from
+    pub step : next p from w ≡ Some to
+    pub changed : p.same_state to from ≡ false
 
   -- Call w was the last to change the state in front of call y.
   pub record Owned (l : List ℕ) (w y : ℕ) : Type 0 where
-    front : List ℕ
-    since : List ℕ
-    late : List ℕ
-    from : State
-    to : State
-    place : l ≡ (front ++ w ∷ since) ++ y ∷ late
-    before : Legal p p.start front from
-    step : next p from w ≡ Some to
-    changed : p.same_state to from ≡ false
-    kept : AllLeave p to since
+    pub front : List ℕ
+    pub since : List ℕ
+    pub late : List ℕ
+    pub from : State
+    pub to : State
+    pub place : l ≡ (front ++ w ∷ since) ++ y ∷ late
+    pub before : Legal p p.start front from
+    pub step : next p from w ≡ Some to
+    pub changed : p.same_state to from ≡ false
+    pub kept : AllLeave p to since
 
   -- The call is of the cluster of w: it is w, or w owns it.
   abbrev pub Member : List ℕ → ℕ → ℕ → Type 0
   Member l w y = (y ≡ w) ⊎ Owned l w y
 
+  pub owned_at : (l early late calls : List ℕ) (y : ℕ) → l ≡ early ++ y ∷ late → (k : LastChange p calls early) → Owned l k.owner y
+  owned_at l early late calls y eq k = record {
+    front = k.front;
+    since = k.since;
+    late = late;
+    from = k.from;
+    to = k.to;
+    place = eq ∙ ap (λ (m : List ℕ). m ++ y ∷ late) k.place;
+    before = k.before;
+    step = k.step;
+    changed = k.changed;
+    kept = k.kept;
+  }
+
   pub owned_here : (l early late : List ℕ) (w y : ℕ) → l ≡ early ++ y ∷ late → LastChange p (w ∷ []) early → Owned l w y
-  owned_here l early late w y eq k =
-      let same : k.owner ≡ w = elim k.one_of [ inl e ↦ e | inr q ↦ absurd q ] in
-      record {
-        front = k.front;
-        since = k.since;
-        late = late;
-        from = k.from;
-        to = k.to;
-        place = eq ∙ ap (λ (m : List ℕ). m ++ y ∷ late) (k.place ∙ ap (λ (n : ℕ). k.front ++ n ∷ k.since) same);
-        before = k.before;
-        step = subst (λ (n : ℕ). next p k.from n ≡ Some k.to) same k.step;
-        changed = k.changed;
-        kept = k.kept;
-      }
+  owned_here l early late w y eq k = subst (λ (n : ℕ). Owned l n y) (elim k.one_of [ inl e ↦ e | inr q ↦ absurd q ]) (owned_at l early late (w ∷ []) y eq k)
 
   -- a completed call with one owner, which stands in each linearization
   pub owned_in : (l : List ℕ) → IsLinearization p l → (w y : ℕ) → IsOwnedBy p (w ∷ []) false y → IsCompleted p y → Owned l w y
@@ -152,20 +154,23 @@ module _ {State Op Reply : Type 0} (p : Problem State Op Reply) where
 
   -- ---- between a call and its owner
 
-  -- Some calls lead to the state.
-  abbrev pub Reached : State → Type 0
-  Reached s = (l : List ℕ) × Legal p p.start l s
-
   -- Call x never leaves a state as it is in which call y can follow.
   abbrev pub Parts : ℕ → ℕ → Type 0
-  Parts x y = (s : State) → Reached s → CanFollow p s y → Leaves p s x → ⊥
+  Parts x y = (s : State) → Reached p s → CanFollow p s y → Leaves p s x → ⊥
 
   legal_last : (l : List ℕ) (s t u : State) (c : ℕ) → Legal p s l t → next p t c ≡ Some u → Legal p s (l ++ c ∷ []) u
   legal_last [] s t u c k step = (u, subst (λ (m : State). next p m c ≡ Some u) (sym k) step, refl)
   legal_last (x ∷ xs) s t u c k step = (k.0, k.1, legal_last xs k.0 t u c k.2 step)
 
-  owner_reached : (l : List ℕ) (w y : ℕ) (k : Owned l w y) → Reached k.to
+  owner_reached : (l : List ℕ) (w y : ℕ) (k : Owned l w y) → Reached p k.to
   owner_reached l w y k = (k.front ++ w ∷ [], legal_last k.front p.start k.from k.to w k.before k.step)
+
+  -- a call that changed the state did not leave it
+  changed_left : (l : List ℕ) (c : ℕ) (k : Changed l c) (s : State) → k.from ≡ s → Leaves p s c → ⊥
+  changed_left l c k s state left =
+      let here : Leaves p k.from c = subst (λ (m : State). Leaves p m c) (sym state) left in
+      let same : here.0 ≡ k.to = (let f = k.step in let g = here.1 in cc) in
+      true≢false (sym (subst (λ (m : State). p.same_state m k.from ≡ true) same here.2) ∙ k.changed)
 
   module _ (exact : (a b : State) → p.same_state a b ≡ true → a ≡ b) where
     -- calls that leave a state leave it, all of them
@@ -186,7 +191,7 @@ module _ {State Op Reply : Type 0} (p : Problem State Op Reply) where
         left_same xs k.to s (subst (λ (m : State). Legal p m xs s) to goes.2) (λ c i. k.kept c (subst (λ (m : List ℕ). In c m) (sym eq) (in_early c xs ys i)))
 
     -- no call between a call and its owner changed the state
-    none_changed : (l : List ℕ) → IsRun p l → (u y : ℕ) (k : Owned l u y) (w : ℕ) → Changed l w → In w k.since → ⊥
+    pub none_changed : (l : List ℕ) → IsRun p l → (u y : ℕ) (k : Owned l u y) (w : ℕ) → Changed l w → In w k.since → ⊥
     none_changed l run u y k w c there =
         let at = in_place w k.since there in
         let here : l ≡ (k.front ++ u ∷ at.0) ++ w ∷ (at.1 ++ y ∷ k.late) =
@@ -196,9 +201,16 @@ module _ {State Op Reply : Type 0} (p : Problem State Op Reply) where
         ∙ append_assoc (k.front ++ u ∷ at.0) (w ∷ at.1) (y ∷ k.late) in
         let place : c.front ≡ k.front ++ u ∷ at.0 = same_place run.distinct c.front (k.front ++ u ∷ at.0) w c.behind (at.1 ++ y ∷ k.late) c.place here in
         let state : c.from ≡ k.to = state_since l run u y k at.0 (w ∷ at.1) at.2 c.from (subst (λ (m : List ℕ). Legal p p.start m c.from) place c.before) in
-        let left = k.kept w there in
-        let same : p.same_state c.to c.from ≡ true = (let f = c.step in let g = left.1 in let e : left.0 ≡ c.to = cc in subst (λ (m : State). p.same_state m c.from ≡ true) e (subst (λ (m : State). p.same_state left.0 m ≡ true) (sym state) left.2)) in
-        true≢false (sym same ∙ c.changed)
+        changed_left l w c k.to state (k.kept w there)
+
+    -- nor in front of one in front of which all calls leave the state of the start
+    pub start_unchanged : (l : List ℕ) → IsRun p l → (early late : List ℕ) → l ≡ early ++ late → AllLeave p p.start early → (c : ℕ) → Changed l c → In c early → ⊥
+    start_unchanged l run early late eq all c k there =
+        let at = in_place c early there in
+        let here : l ≡ at.0 ++ c ∷ (at.1 ++ late) = eq ∙ ap (λ (m : List ℕ). m ++ late) at.2 ∙ append_assoc at.0 (c ∷ at.1) late in
+        let place : k.front ≡ at.0 = same_place run.distinct k.front at.0 c k.behind (at.1 ++ late) k.place here in
+        let state : k.from ≡ p.start = left_same at.0 p.start k.from (subst (λ (m : List ℕ). Legal p p.start m k.from) place k.before) (λ d i. all d (subst (λ (m : List ℕ). In d m) (sym at.2) (in_early d at.0 (c ∷ at.1) i))) in
+        changed_left l c k p.start state (all c there)
 
     -- a call can follow at the state that its owner led to
     owned_follows : (l : List ℕ) → IsRun p l → (w y : ℕ) (k : Owned l w y) → CanFollow p k.to y
@@ -212,7 +224,7 @@ module _ {State Op Reply : Type 0} (p : Problem State Op Reply) where
     none_parts l run w y k x parts there = parts k.to (owner_reached l w y k) (owned_follows l run w y k) (k.kept x there)
 
   -- in front of a call that w owns, w stands behind each call that does not stand between them
-  in_owners_front : (l : List ℕ) → IsDistinct l → (w y : ℕ) (k : Owned l w y) (x : ℕ) → Front l x y → x ≢ w → (In x k.since → ⊥) → Front l x w
+  pub in_owners_front : (l : List ℕ) → IsDistinct l → (w y : ℕ) (k : Owned l w y) (x : ℕ) → Front l x y → x ≢ w → (In x k.since → ⊥) → Front l x w
   in_owners_front l distinct w y k x before other none = elim (in_either x k.front (w ∷ k.since) (front_here distinct x y before (k.front ++ w ∷ k.since) k.late k.place)) [
     | inl q ↦ (k.front, k.since ++ y ∷ k.late, k.place ∙ append_assoc k.front (w ∷ k.since) (y ∷ k.late), q)
     | inr (inl e) ↦ absurd (other e)
@@ -243,9 +255,9 @@ module _ {State Op Reply : Type 0} (p : Problem State Op Reply) where
 
   -- Call y1 of the cluster of w returned before call q of the cluster of u was called, and call r of that one before call y2 of the first one.
   pub record Cross (w u y1 y2 q r : ℕ) : Type 0 where
-    other : w ≢ u
-    one : Before p y1 q
-    two : Before p r y2
+    pub other : w ≢ u
+    pub one : Before p y1 q
+    pub two : Before p r y2
 
   module _ (exact : (a b : State) → p.same_state a b ≡ true → a ≡ b) where
     -- a call of the cluster of w returned before one of the cluster of u was called: so w stands in front of u
@@ -277,7 +289,7 @@ module _ {State Op Reply : Type 0} (p : Problem State Op Reply) where
 
   -- The call never leaves a state as it is.
   abbrev pub AlwaysChanges : ℕ → Type 0
-  AlwaysChanges g = (s : State) → Reached s → Leaves p s g → ⊥
+  AlwaysChanges g = (s : State) → Reached p s → Leaves p s g → ⊥
 
   -- of two calls that have one owner, the first leaves the state
   first_leaves : (l : List ℕ) → IsRun p l → (w g h : ℕ) → Owned l w g → Owned l w h → Front l g h → AlwaysChanges g → ⊥
