@@ -115,7 +115,7 @@ breaks_step v op (Some q) m r step k e stays = absurd (cc)
 
 module _ {p : Problem ObjState Op Reply} {start : ℤ} (of : IsOfRegister p start) (exact : (s t : ObjState) → p.same_state s t ≡ true → s ≡ t) where
   -- a call that breaks a value does not leave it as it is
-  broken : (v : ℤ) (c : ℕ) → Breaks p.calls c v → Leaves p (Register v) c → ⊥
+  pub broken : (v : ℤ) (c : ℕ) → Breaks p.calls c v → Leaves p (Register v) c → ⊥
   broken v c breaks_it leaves =
       let x = some_and (slice_get p.calls c) (λ (y : ProblemCall Op Reply). IsTrue (breaks v y.op y.returned)) breaks_it in
       let step : state_if_fits p.same_reply x.0.returned (p.after (Register v) x.0.process x.0.op) ≡ Some leaves.0 = rw x.1 at leaves.1 in
