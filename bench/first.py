@@ -1,12 +1,12 @@
 #!/usr/bin/env python3
-"""Compares what the first search of a mutex, or of a queue whose items repeat, tells with all orders.
+"""Compares what the first search of a mutex, a queue whose items repeat, a register or a map of one key tells with all orders.
 
     bench/first.py [--kind KIND] [--program PROGRAM] [--count COUNT] [--seed SEED] [--lifts LIFTS] [--keep FOLDER]
 
 Builds `bench/first.program` by `bin/build_unproved.py` (two minutes), unless it is given, and asks it of each history at once, with at
-most LIFTS lifts for each call (1,000,000). The histories are random, small, and on one mutex (or on one queue, if KIND is `queue`). In
-two thirds of them some calls are pending; some unlocks are of processes that hold nothing, a queue has two or three different items,
-and of most histories one to three replies of `try_lock` or `deq` are wrong. The least linearization, or that there is none, is found by
+most LIFTS lifts for each call (1,000,000). The histories are random, small, and on one mutex (or on one object of KIND). In two thirds
+of them some calls are pending; some unlocks are of processes that hold nothing, there are two to five different items or values, and of
+most histories one to three replies are wrong. The least linearization, or that there is none, is found by
 all orders. Prints how many histories had an order and how many had none, of how many
 nothing was told, and each that differs. With --keep the histories that differ are kept.
 """
@@ -15,7 +15,7 @@ import json
 import sys
 
 from all_orders import compare, order_line, orders, words
-from explanations import PENDING, step
+from explanations import PENDING, START, step
 
 MOST_CALLS = 13
 
@@ -53,11 +53,21 @@ def events_of(chance):
     return events
 
 
-def queue_events_of(chance):
-    """The same of a queue, each event with the operation's arguments before the reply."""
+def drawn_call(chance, kind, values):
+    """An operation of the kind with its arguments, of some values: of a map, all on one key."""
+    value, other = chance.randrange(values), chance.randrange(values)
+    if kind == "queue":
+        return ("enq", [value]) if chance.random() < 0.5 else ("deq", [])
+    if kind == "register":
+        return chance.choice([("write", [value]), ("read", []), ("read", []), ("cas", [value, other])])
+    return chance.choice([("put", [1, value]), ("get", [1]), ("get", [1]), ("delete", [1])])
+
+
+def simulated_events(chance, kind):
+    """The same of another kind, each event with the operation's arguments before the reply."""
     count, clients = chance.randrange(3, MOST_CALLS), list(range(chance.randrange(2, 6)))
-    lost, values = chance.choice([0, 0.2, 0.3]), chance.randrange(2, 4)
-    items, called, done, events, fresh = (), {}, {}, [], 10
+    lost, values = chance.choice([0, 0.2, 0.3]), chance.randrange(2, 4 if kind == "queue" else 6)
+    state, called, done, events, fresh = START[kind], {}, {}, [], 10
     while count or called or done:
         place = chance.randrange(len(clients))
         process = clients[place]
@@ -65,28 +75,28 @@ def queue_events_of(chance):
             events.append((process, *done.pop(process)))
         elif process in called:
             op, args = called.pop(process)
-            after, reply = step("queue", items, process, op, args)
+            after, reply = step(kind, state, process, op, args)
             if chance.random() < lost:
-                items = chance.choice([items, after])
+                state = chance.choice([state, after])
                 clients[place], fresh = fresh, fresh + 1
             else:
-                items, done[process] = after, (op, args, reply)
+                state, done[process] = after, (op, args, reply)
         elif count:
             count -= 1
-            called[process] = ("enq", [chance.randrange(values)]) if chance.random() < 0.5 else ("deq", [])
+            called[process] = drawn_call(chance, kind, values)
             events.append((process, *called[process], None))
     return events
 
 
 def wrong(chance, reply):
-    """Another reply of a `try_lock` or a `deq`."""
+    """Another reply of an operation that tells something."""
     return not reply if isinstance(reply, bool) else chance.choice([value for value in (0, 1, 2, "empty") if value != reply])
 
 
 def history(chance, kind):
     """A history's text, with some wrong replies."""
-    events = queue_events_of(chance) if kind == "queue" else [(*event[:2], [], event[2]) for event in events_of(chance)]
-    told = [place for place, (_, op, _, reply) in enumerate(events) if op in ("try_lock", "deq") and reply is not None]
+    events = [(*event[:2], [], event[2]) for event in events_of(chance)] if kind == "mutex" else simulated_events(chance, kind)
+    told = [place for place, (*_, reply) in enumerate(events) if reply not in (None, "ok")]
     turned = set(chance.sample(told, min(len(told), chance.choice([0, 0, 1, 2, 3]))))
     lines = ['{"format":2}', json.dumps({"event": "object", "object": "x", "kind": kind})]
     for place, (process, op, args, reply) in enumerate(events):
@@ -101,7 +111,7 @@ def history(chance, kind):
 
 def main():
     parser = words(__doc__, 20_000)
-    parser.add_argument("--kind", choices=["mutex", "queue"], default="mutex")
+    parser.add_argument("--kind", choices=["mutex", "queue", "register", "map"], default="mutex")
     parser.add_argument("--lifts", type=int, default=1_000_000)
     asked = parser.parse_args()
     tally = collections.Counter()

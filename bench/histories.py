@@ -229,6 +229,63 @@ class Exchanged(Register):
         return "true" if found else "false"
 
 
+class Drawn(Register):
+    """A register whose values are drawn from so many numbers."""
+
+    def __init__(self, numbers):
+        super().__init__()
+        self.numbers = numbers
+
+    def choose(self, chance, number):
+        op, value = super().choose(chance, number)
+        return op, value if value is None else chance.randrange(self.numbers)
+
+
+class Repeating(Register):
+    """A register of which so many values are written twice, the second time at random among the calls that follow."""
+
+    def __init__(self, twice, calls):
+        super().__init__()
+        self.again, self.every = [], max(1, calls // (2 * twice))
+
+    def choose(self, chance, number):
+        op, value = super().choose(chance, number)
+        if value is None:
+            return op, value
+        if number % self.every == 0:
+            self.again.append(value)
+        elif self.again and chance.random() < 2 / self.every:
+            value = self.again.pop(0)
+        return op, value
+
+
+class Swapping(Register):
+    """A register that clients read, and then change by a `cas` to a fresh number. From the middle of the history on it loses one such
+    change, if it is to."""
+
+    take = "cas"
+
+    def __init__(self, calls, loses):
+        super().__init__()
+        self.calls, self.middle, self.loses, self.seen = 0, calls // 2, loses, 0
+
+    def choose(self, chance, number):
+        return ("cas", (self.seen, number)) if chance.random() < 0.5 else ("read", None)
+
+    def reply(self, op, value):
+        self.calls += 1
+        if op == "read":
+            self.seen = self.value
+            return self.value
+        if self.value != value[0]:
+            return "false"
+        if self.loses and self.calls >= self.middle:
+            self.loses = False
+        else:
+            self.value = self.seen = value[1]
+        return "true"
+
+
 class Counter:
     """A counter, of whose calls three in ten are a `get`, and the others add 1."""
 
@@ -622,6 +679,19 @@ def register(processes):
     return lambda calls: lines("x", "register", simulated(Register(), processes, calls))
 
 
+def drawn(processes, numbers):
+    return lambda calls: lines("x", "register", simulated(Drawn(numbers), processes, calls))
+
+
+def repeating(processes, twice):
+    return lambda calls: lines("x", "register", simulated(Repeating(twice, calls), processes, calls))
+
+
+def swapping(processes, loses, share=0):
+    """Clients that read a register and change it by a `cas`; so many in a hundred of the calls never return."""
+    return lambda calls: lines("x", "register", timing_out(Swapping(calls, loses), processes, calls, share))
+
+
 def register_refuted(processes):
     def history(calls):
         yield from register(processes)(calls - 1)
@@ -896,6 +966,25 @@ FAMILIES = {
     "register_16": Family("a register, 16 processes", "calls", CALLS[-1:], 0, register(16)),
     "register_32": Family("a register, 32 processes", "calls", MORE_CALLS[-1:], 0, register(32)),
     "register_64": Family("a register, 64 processes", "calls", MORE_CALLS[-1:], 0, register(64)),
+    **{
+        f"values_{processes}_{numbers}": Family(f"a register, values drawn from {numbers:,}, {processes} processes", "calls", [8000], 0, drawn(processes, numbers))
+        for processes in (16, 32, 64)
+        for numbers in (10**9, 10**6, 10**4, 1000, 200)
+    },
+    **{
+        f"values_{processes}_twice_{twice}": Family(
+            f"a register, {twice} values written twice, {processes} processes", "calls", [8000], 0, repeating(processes, twice)
+        )
+        for processes in (16, 32, 64)
+        for twice in (3, 10, 30)
+    },
+    "swaps": Family("reads and changes by cas, 8 processes", "calls", [1000, 4000], 0, swapping(8, False)),
+    "swaps_lost": Family("the same, and one change is lost", "calls", [1000, 4000], 1, swapping(8, True)),
+    "swaps_lost_unknown": Family("the same, 2 in 100 of the calls never return", "calls", [1000, 4000], 1, swapping(8, True, 2)),
+    **{
+        f"keys_stale_{processes}": Family(f"a map of 10 keys, {processes} processes, and one stale get", "calls", [3000, 20000], 1, forgetful_map(processes, 10, 1))
+        for processes in (24, 50)
+    },
     "stopping_20": Family("a register with cas, 4 processes, and 20 more that stop within a cas", "calls", CALLS, 0, stopping(20)),
     "queue": Family("a queue, 6 processes", "calls", CALLS, 0, buffer(Queue)),
     "queue_no": Family("the same, two results swapped", "calls", CALLS, 1, buffer_swapped(Queue)),
