@@ -3,6 +3,7 @@ pub mod Register
 pub mod Held
 pub mod Owners
 pub mod PossibleOwners
+pub mod Writers
 pub mod NeededPairs
 pub mod ValueCalls
 pub mod ToldOfRegister
