@@ -7,3 +7,4 @@ pub mod ValueLemmas
 pub mod PairLemmas
 pub mod VainLemmas
 pub mod KeyLemmas
+pub mod WriterLemmas

@@ -5,6 +5,7 @@ pub mod Owners
 pub mod Due
 pub mod Stranded
 pub mod PossibleOwners
+pub mod Writers
 pub mod NeededPairs
 pub mod ValueCalls
 pub mod ToldOfRegister

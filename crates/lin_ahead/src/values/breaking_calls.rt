@@ -1,7 +1,10 @@
 //! Calls that found a value, and calls that break one: while such a call stands in a run, the value is not there all the time.
 
-ghost use Rattle.std.specs.Prelude.{◌≡◌};
+ghost use Rattle.std.specs.Prelude.{◌≡◌, ◌^◌, ◌<◌, Some, List, slice_get, IfSome, IsSomeAnd, IsTrue};
+ghost use Rattle.std.specs.Ordering.{int_eq};
+ghost use Rattle.indexmap.specs.IndexMap.{index_of};
 ghost use Rattle.lin_ahead.specs.Values.PossibleOwners.{breaks};
+ghost use Rattle.lin_ahead.specs.Values.Writers.{low_by, IsFinder, IsSince};
 
 use crate::values::value_calls::{ValueCalls, value_found};
 use crate::values::writers::low_of;
@@ -41,7 +44,13 @@ pub(crate) fn finder_of(
     values: &IndexMap<i64, ValueCalls>,
     one: &ProblemCall<Op, Reply>,
     call: usize,
-) -> Option<Finder> {
+) -> Option<Finder>
+    ensures low { IfSome result (λ f. low_by (index_of int_eq values.now f.value) ≡ Some f.low) }
+    ensures below { IfSome result (λ f. f.low < 2 ^ 63) }
+    ensures call { IfSome result (λ f. f.call ≡ call) }
+    ensures finder { IfSome result (λ f. (calls : List (ProblemCall Op Reply))
+        → slice_get calls call ≡ Some one.now → IsFinder calls f) }
+{
     let value = value_found(one)?;
     let low = low_of(values, value)?;
     match &one.returned {
@@ -71,7 +80,9 @@ pub(crate) fn breaks(value: i64, call: &ProblemCall<Op, Reply>) -> bool
 }
 
 // Whether the call returned before the finder was called.
-fn returned_before(call: &ProblemCall<Op, Reply>, finder: &Finder) -> bool {
+fn returned_before(call: &ProblemCall<Op, Reply>, finder: &Finder) -> bool
+    ensures { IsTrue result → IsSomeAnd call.now.returned (λ r. r.0 < finder.now.called) }
+{
     match &call.returned {
         Some((number, _)) => u64::from(*number) < finder.called,
         None => false,
@@ -79,7 +90,9 @@ fn returned_before(call: &ProblemCall<Op, Reply>, finder: &Finder) -> bool {
 }
 
 // When the call was called, if it returned before the finder was called and breaks the value that this one found; else 0.
-fn broken_at(calls: &[ProblemCall<Op, Reply>], finder: &Finder, call: usize) -> u64 {
+fn broken_at(calls: &[ProblemCall<Op, Reply>], finder: &Finder, call: usize) -> u64
+    ensures { IsSince calls.now finder.now result }
+{
     match calls.get(call) {
         Some(one) if returned_before(one, finder) && breaks(finder.value, one) => u64::from(
             one.called,
@@ -113,7 +126,10 @@ pub(crate) fn look_on(
     finder: &Finder,
     sought: Sought,
     event: u64,
-) -> Sought {
+) -> Sought
+    requires { IsSince calls.now finder.now sought.since }
+    ensures { IsSince calls.now finder.now result.since }
+{
     if sought.since > 0 {
         return sought;
     }

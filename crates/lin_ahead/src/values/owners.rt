@@ -1,7 +1,10 @@
 //! Which calls may have written what a call found.
 
-ghost use Rattle.std.specs.Prelude.{IfOk};
-ghost use Rattle.lin_ahead.specs.Values.PossibleOwners.{AreOwnerRows};
+ghost use Rattle.std.specs.Prelude.{◌≡◌, ◌-◌, ◌^◌, ◌≤◌, ◌<◌, ℕ, ℤ, false, Some, length, slice_get, IfNone, IfOk, IfSome, IsTrue};
+ghost use Rattle.std.specs.Ordering.{int_eq};
+ghost use Rattle.indexmap.specs.IndexMap.{index_of};
+ghost use Rattle.lin_ahead.specs.Values.PossibleOwners.{IsNotFromStart, AreOwnersOf, AreOwnerRows};
+ghost use Rattle.lin_ahead.specs.Values.Writers.{low_by, HasAllRows, HaveAllRows, AreInOrder, AreUnder, IsFinder, IsSince, NoOwners, AreListedFrom};
 
 use crate::values::breaking_calls::{Finder, Sought, finder_of, look_on};
 use crate::values::value_calls::ValueCalls;
@@ -29,7 +32,9 @@ pub struct Owners {
 }
 
 // Nothing is told.
-fn untold(alloc: Global) -> Owners {
+fn untold(alloc: Global) -> Owners
+    ensures { result.are_told ≡ false }
+{
     Owners {
         calls: Vec::new(alloc),
         at_start: false,
@@ -38,7 +43,13 @@ fn untold(alloc: Global) -> Owners {
 }
 
 // The row before this place, if it is one of the value that the finder found.
-fn row_before(rows: &[Writer], finder: &Finder, place: usize) -> Option<Writer> {
+fn row_before(rows: &[Writer], finder: &Finder, place: usize) -> Option<Writer>
+    requires within { place ≤ length rows.now }
+    requires order { AreInOrder rows.now }
+    ensures some { IfSome result (λ row. (0 < place) × (slice_get rows.now (place - 1) ≡ Some row)) }
+    ensures none { IfNone result ((i : ℕ) (r : Writer) → i < place → slice_get rows.now i ≡ Some r
+        → r.key < finder.now.low) }
+{
     if place == 0 {
         return None;
     }
@@ -52,7 +63,21 @@ fn row_before(rows: &[Writer], finder: &Finder, place: usize) -> Option<Writer> 
 
 // A place before this one up to which no row is that of an owner; none where the row before this place may be. A call since which the
 // value was not there all the time was called at `since`, or there is none and this is 0.
-fn passed(writers: &Writers, finder: &Finder, place: usize, since: u64) -> Option<usize> {
+fn passed(
+    calls: &[ProblemCall<Op, Reply>],
+    writers: &Writers,
+    finder: &Finder,
+    place: usize,
+    since: u64,
+) -> Option<usize>
+    requires first { 0 < place }
+    requires within { place ≤ length writers.now.rows.items }
+    requires under { AreUnder writers.now.rows.items writers.now.under.items }
+    requires finder { IsFinder calls.now finder.now }
+    requires since { IsSince calls.now finder.now since }
+    ensures { IfSome result (λ next. (next ≤ place)
+        × NoOwners calls.now finder.now writers.now.rows.items next place) }
+{
     let row = &writers.rows[place - 1];
     if row.returned < since {
         return Some(writers.under[place - 1]);
@@ -70,7 +95,15 @@ fn list_owners(
     writers: &Writers,
     finder: &Finder,
     owners: &mut Vec<usize>,
-) -> Result<Option<Sought>, AllocError> {
+) -> Result<Option<Sought>, AllocError>
+    requires order { AreInOrder writers.now.rows.items }
+    requires under { AreUnder writers.now.rows.items writers.now.under.items }
+    requires finder { IsFinder calls.now finder.now }
+    requires low { finder.now.low < 2 ^ 63 }
+    ensures since { IfOk result (λ told. IfSome told (λ sought. IsSince calls.now finder.now sought.since)) }
+    ensures listed { IfOk result (λ told. IfSome told (λ sought. AreListedFrom calls.now finder.now
+        writers.now.rows.items 0 owners.new.items)) }
+{
     let mut place = writers.end(finder.low, finder.low + finder.returned);
     let mut sought = Sought {
         next: finder.call,
@@ -81,7 +114,7 @@ fn list_owners(
             return Ok(Some(sought));
         };
         sought = look_on(calls, finder, sought, row.returned);
-        match passed(writers, finder, place, sought.since) {
+        match passed(calls, writers, finder, place, sought.since) {
             Some(next) => place = next,
             None => {
                 owners.push(row.call)?;
@@ -98,7 +131,11 @@ fn may_be_from_start(
     start: i64,
     finder: &Finder,
     sought: Sought,
-) -> bool {
+) -> bool
+    requires finder { IsFinder calls.now finder.now }
+    requires since { IsSince calls.now finder.now sought.since }
+    ensures { result ≡ false → IsNotFromStart calls.now start finder.now.value finder.now.call }
+{
     finder.value == start && look_on(calls, finder, sought, 0).since == 0
 }
 
@@ -109,7 +146,14 @@ fn owners_of_finder(
     calls: &[ProblemCall<Op, Reply>],
     writers: &Writers,
     finder: &Finder,
-) -> Result<Owners, AllocError> {
+) -> Result<Owners, AllocError>
+    requires all { HasAllRows calls.now finder.now.value finder.now.low writers.now.rows.items }
+    requires order { AreInOrder writers.now.rows.items }
+    requires under { AreUnder writers.now.rows.items writers.now.under.items }
+    requires finder { IsFinder calls.now finder.now }
+    requires low { finder.now.low < 2 ^ 63 }
+    ensures { IfOk result (λ row. IsTrue row.are_told → AreOwnersOf calls.now start finder.now.call row) }
+{
     let mut owners = Vec::new(alloc);
     match list_owners(calls, writers, finder, &mut owners)? {
         Some(sought) if owners.len() <= MOST_OWNERS => Ok(Owners {
@@ -118,6 +162,27 @@ fn owners_of_finder(
             are_told: true,
         }),
         _ => Ok(untold(alloc)),
+    }
+}
+
+// The owners of a call.
+fn owners_of_call(
+    alloc: Global,
+    start: i64,
+    values: &IndexMap<i64, ValueCalls>,
+    calls: &[ProblemCall<Op, Reply>],
+    writers: &Writers,
+    call: usize,
+) -> Result<Owners, AllocError>
+    requires within { call < length calls.now }
+    requires all { HaveAllRows calls.now (λ v. low_by (index_of int_eq values.now v)) writers.now.rows.items }
+    requires order { AreInOrder writers.now.rows.items }
+    requires under { AreUnder writers.now.rows.items writers.now.under.items }
+    ensures { IfOk result (λ row. IsTrue row.are_told → AreOwnersOf calls.now start call row) }
+{
+    match finder_of(values, &calls[call], call) {
+        Some(finder) => owners_of_finder(alloc, start, calls, writers, &finder),
+        None => Ok(untold(alloc)),
     }
 }
 
@@ -134,11 +199,7 @@ pub(crate) fn owners_of_each(
     let writers = Writers::new(alloc, values, calls)?;
     let mut rows = Vec::with_capacity(alloc, calls.len())?;
     for call in 0..calls.len() {
-        let owners = match finder_of(values, &calls[call], call) {
-            Some(finder) => owners_of_finder(alloc, start, calls, &writers, &finder)?,
-            None => untold(alloc),
-        };
-        rows.push(owners)?;
+        rows.push(owners_of_call(alloc, start, values, calls, &writers, call)?)?;
     }
     Ok(rows)
 }

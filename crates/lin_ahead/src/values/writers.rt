@@ -1,5 +1,11 @@
 //! The calls that may write each value, in the order of their calls.
 
+ghost use Rattle.std.specs.Prelude.{◌≡◌, ◌+◌, ◌*◌, ◌^◌, ◌<◌, ◌≤◌, ℕ, ℤ, Some, length, slice_get, IfOk, IfSome, OnOk};
+ghost use Rattle.std.specs.Ordering.{int_eq};
+ghost use Rattle.indexmap.specs.IndexMap.{index_of};
+ghost use Rattle.lin_ahead.specs.Values.Register.{value_written};
+ghost use Rattle.lin_ahead.specs.Values.Writers.{low_by, returned_or_beyond, HaveAllRows, AreInOrder, NoneLater, AreUnder};
+
 use crate::items::item_calls::BEYOND;
 use crate::values::value_calls::{ValueCalls, value_written};
 use indexmap::IndexMap;
@@ -39,7 +45,10 @@ pub(crate) struct Writers {
 }
 
 /// From which key on the rows of the calls stand that may write the value. `None` for a value that has no number.
-pub(crate) fn low_of(values: &IndexMap<i64, ValueCalls>, value: i64) -> Option<u64> {
+pub(crate) fn low_of(values: &IndexMap<i64, ValueCalls>, value: i64) -> Option<u64>
+    ensures is { result ≡ low_by (index_of int_eq values.now value) }
+    ensures below { IfSome result (λ low. low < 2 ^ 63) }
+{
     let number = values.get_index_of(&value)? as u64;
     if number < MOST_VALUES {
         Some(number * BEYOND)
@@ -49,7 +58,9 @@ pub(crate) fn low_of(values: &IndexMap<i64, ValueCalls>, value: i64) -> Option<u
 }
 
 // When the call returned; beyond all events while it is pending.
-fn returned_or_beyond(call: &ProblemCall<Op, Reply>) -> u64 {
+fn returned_or_beyond(call: &ProblemCall<Op, Reply>) -> u64
+    ensures { result ≡ returned_or_beyond call.now.returned }
+{
     match &call.returned {
         Some((number, _)) => u64::from(*number),
         None => BEYOND,
@@ -61,7 +72,14 @@ fn writer_of(
     values: &IndexMap<i64, ValueCalls>,
     one: &ProblemCall<Op, Reply>,
     call: usize,
-) -> Option<Writer> {
+) -> Option<Writer>
+    ensures { (v : ℤ) (n : ℕ) → value_written one.now.op one.now.returned ≡ Some v
+        → low_by (index_of int_eq values.now v) ≡ Some n → result ≡ Some record {
+          key = n + one.now.called;
+          call = call;
+          returned = returned_or_beyond one.now.returned;
+        } }
+{
     let low = low_of(values, value_written(one)?)?;
     Some(Writer {
         key: low + u64::from(one.called),
@@ -75,7 +93,9 @@ fn writers_by_calls(
     alloc: Global,
     values: &IndexMap<i64, ValueCalls>,
     calls: &[ProblemCall<Op, Reply>],
-) -> Result<Vec<Writer>, AllocError> {
+) -> Result<Vec<Writer>, AllocError>
+    ensures { IfOk result (λ rows. HaveAllRows calls.now (λ v. low_by (index_of int_eq values.now v)) rows.items) }
+{
     let mut rows = Vec::new(alloc);
     for call in 0..calls.len() {
         if let Some(row) = writer_of(values, &calls[call], call) {
@@ -90,14 +110,22 @@ fn writers_in_order(
     alloc: Global,
     values: &IndexMap<i64, ValueCalls>,
     calls: &[ProblemCall<Op, Reply>],
-) -> Result<Vec<Writer>, AllocError> {
+) -> Result<Vec<Writer>, AllocError>
+    ensures all { IfOk result (λ rows. HaveAllRows calls.now (λ v. low_by (index_of int_eq values.now v)) rows.items) }
+    ensures order { IfOk result (λ rows. AreInOrder rows.items) }
+{
     let mut rows = writers_by_calls(alloc, values, calls)?;
     rows.sort_by_key(|one| one.key)?;
     Ok(rows)
 }
 
 // A place from which on no row up to this one returned later than it, by the same of each row before.
-fn first_under(rows: &[Writer], under: &[usize], place: usize) -> usize {
+fn first_under(rows: &[Writer], under: &[usize], place: usize) -> usize
+    requires place { place < length rows.now }
+    requires each { length under.now ≡ place }
+    requires none { (i first : ℕ) → slice_get under.now i ≡ Some first → (first ≤ i) × NoneLater rows.now first i }
+    ensures { (result ≤ place) × NoneLater rows.now result place }
+{
     let mut first = place;
     for _ in 0..LINKS_IN_SIGHT {
         if first == 0 || rows[first - 1].returned > rows[place].returned {
@@ -109,7 +137,9 @@ fn first_under(rows: &[Writer], under: &[usize], place: usize) -> usize {
 }
 
 // For each row a place from which on no row up to it returned later.
-fn under_each(alloc: Global, rows: &[Writer]) -> Result<Vec<usize>, AllocError> {
+fn under_each(alloc: Global, rows: &[Writer]) -> Result<Vec<usize>, AllocError>
+    ensures { IfOk result (λ under. AreUnder rows.now under.items) }
+{
     let mut under = Vec::with_capacity(alloc, rows.len())?;
     for place in 0..rows.len() {
         let first = first_under(rows, under.as_slice(), place);
@@ -140,7 +170,11 @@ impl Writers {
         alloc: Global,
         values: &IndexMap<i64, ValueCalls>,
         calls: &[ProblemCall<Op, Reply>],
-    ) -> Result<Self, AllocError> {
+    ) -> Result<Self, AllocError>
+        ensures all { IfOk result (λ writers. HaveAllRows calls.now (λ v. low_by (index_of int_eq values.now v)) writers.rows.items) }
+        ensures order { IfOk result (λ writers. AreInOrder writers.rows.items) }
+        ensures under { IfOk result (λ writers. AreUnder writers.rows.items writers.under.items) }
+    {
         let rows = writers_in_order(alloc, values, calls)?;
         Ok(Writers {
             under: under_each(alloc, rows.as_slice())?,
@@ -162,7 +196,11 @@ impl Writers {
     }
 
     /// A place from which on all rows have greater keys than this.
-    pub(crate) fn end(&self, low: u64, high: u64) -> usize {
+    pub(crate) fn end(&self, low: u64, high: u64) -> usize
+        requires { AreInOrder self.now.rows.items }
+        ensures within { result ≤ length self.now.rows.items }
+        ensures behind { (i : ℕ) (r : Writer) → result ≤ i → slice_get self.now.rows.items i ≡ Some r → high < r.key }
+    {
         let end = self.likely_end(low, high);
         match self.rows.get(end) {
             Some(row) if row.key > high => end,

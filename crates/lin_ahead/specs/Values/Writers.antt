@@ -1,0 +1,84 @@
+-- Rows of the calls that may write each value, and which of them a call that found one may have found (this project's own).
+use Rattle.std.specs.Prelude.{◌≡◌, ◌⊎◌, ℕ, ◌+◌, ◌*◌, ◌^◌, ◌<◌, ◌≤◌, ℤ, true, nat_lt, Option, Some, None, List, length, slice_get, if◌then◌else◌}
+use Rattle.lin_object.specs.declared.op.Op.{Op}
+use Rattle.lin_object.specs.declared.reply.Reply.{Reply}
+use Rattle.lin_history.specs.declared.problems.problem.ProblemCall.{ProblemCall}
+use Rattle.lin_history.specs.Problems.Lists.{In}
+use Rattle.lin_ahead.specs.declared.values.breaking_calls.Finder.{Finder}
+use Rattle.lin_ahead.specs.declared.values.writers.Writer.{Writer}
+use Rattle.lin_ahead.specs.Values.Register.{value_written, value_found}
+use Rattle.lin_ahead.specs.Values.PossibleOwners.{breaks, IsNoOwner}
+
+-- From which key on the rows of a value stand, by its number.
+abbrev pub low_by : Option ℕ → Option ℕ
+low_by None = None
+low_by (Some n) = if nat_lt n (2 ^ 31) then Some (n * 2 ^ 32) else None
+
+-- When a call returned; beyond all events while it is pending.
+abbrev pub returned_or_beyond : Option (ℕ × Reply) → ℕ
+returned_or_beyond None = 2 ^ 32
+returned_or_beyond (Some r) = r.0
+
+-- They are in the order of their keys.
+abbrev pub AreInOrder : List Writer → Type 0
+AreInOrder rows = (i j : ℕ) (r s : Writer) → i ≤ j → slice_get rows i ≡ Some r → slice_get rows j ≡ Some s → r.key ≤ s.key
+
+-- From the one place on no row up to the other returned later than the row there.
+abbrev pub NoneLater : List Writer → ℕ → ℕ → Type 0
+NoneLater rows first place = (j : ℕ) (r s : Writer) → first ≤ j → j ≤ place → slice_get rows j ≡ Some r → slice_get rows place ≡ Some s → r.returned ≤ s.returned
+
+-- There is such a place for each row.
+pub record AreUnder (rows : List Writer) (under : List ℕ) : Type 0 where
+  pub each : length under ≡ length rows
+  pub none : (i first : ℕ) → slice_get under i ≡ Some first → (first ≤ i) × NoneLater rows first i
+
+module _ (calls : List (ProblemCall Op Reply)) where
+  -- This is the row of call w, which may write the value whose rows stand from this key on.
+  pub record IsRowOf (v : ℤ) (low : ℕ) (w : ℕ) (r : Writer) : Type 0 where
+    pub one : ProblemCall Op Reply
+    pub there : slice_get calls w ≡ Some one
+    pub writes : value_written one.op one.returned ≡ Some v
+    pub call : r.call ≡ w
+    pub key : r.key ≡ low + one.called
+    pub returned : r.returned ≡ returned_or_beyond one.returned
+
+  -- Each call that may write the value has a row.
+  abbrev pub HasAllRows : ℤ → ℕ → List Writer → Type 0
+  HasAllRows v low rows = (w : ℕ) (x : ProblemCall Op Reply) → slice_get calls w ≡ Some x → value_written x.op x.returned ≡ Some v → (i : ℕ) × (r : Writer) × (slice_get rows i ≡ Some r) × IsRowOf v low w r
+
+  -- So it is with each value that has a number.
+  abbrev pub HaveAllRows : (ℤ → Option ℕ) → List Writer → Type 0
+  HaveAllRows low rows = (v : ℤ) (n : ℕ) → low v ≡ Some n → HasAllRows v n rows
+
+  -- The call found this value, and was called and returned at these events.
+  pub record IsFinder (f : Finder) : Type 0 where
+    pub one : ProblemCall Op Reply
+    pub there : slice_get calls f.call ≡ Some one
+    pub found : value_found one.op one.returned ≡ Some f.value
+    pub called : f.called ≡ one.called
+    pub back : ℕ × Reply
+    pub returns : one.returned ≡ Some back
+    pub returned : f.returned ≡ back.0
+
+  -- A call that was called at this event breaks the value, and returned before the finder was called.
+  pub record IsBroken (f : Finder) (since : ℕ) : Type 0 where
+    pub call : ℕ
+    pub one : ProblemCall Op Reply
+    pub there : slice_get calls call ≡ Some one
+    pub called : one.called ≡ since
+    pub back : ℕ × Reply
+    pub returns : one.returned ≡ Some back
+    pub before : back.0 < f.called
+    pub breaking : breaks f.value one.op one.returned ≡ true
+
+  -- There is one, where the event is not 0.
+  abbrev pub IsSince : Finder → ℕ → Type 0
+  IsSince f since = 0 < since → IsBroken f since
+
+  -- No call with a row from the one place on and before the other is the one whose value the finder found.
+  abbrev pub NoOwners : Finder → List Writer → ℕ → ℕ → Type 0
+  NoOwners f rows first place = (i w : ℕ) (r : Writer) → first ≤ i → i < place → slice_get rows i ≡ Some r → IsRowOf f.value f.low w r → IsNoOwner calls f.value f.call w
+
+  -- Each call with a row from this place on is listed, or is not the one.
+  abbrev pub AreListedFrom : Finder → List Writer → ℕ → List ℕ → Type 0
+  AreListedFrom f rows place owners = (i w : ℕ) (r : Writer) → place ≤ i → slice_get rows i ≡ Some r → IsRowOf f.value f.low w r → In w owners ⊎ IsNoOwner calls f.value f.call w
