@@ -7,3 +7,5 @@ pub mod ValueLemmas
 pub mod PairLemmas
 pub mod VainLemmas
 pub mod KeyLemmas
+pub mod DueLemmas
+pub mod OwnerLemmas
