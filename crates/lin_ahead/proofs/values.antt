@@ -8,3 +8,4 @@ pub mod PairLemmas
 pub mod VainLemmas
 pub mod KeyLemmas
 pub mod WriterLemmas
+pub mod DueLemmas

@@ -1,13 +1,12 @@
 //! With which calls no completion begins since others are due.
 
-ghost use Rattle.std.specs.Prelude.{◌≡◌, ◌<◌, ℕ, Option, None, Some, length, IfOk, IsTrue};
+ghost use Rattle.std.specs.Prelude.{◌≡◌, ◌<◌, None, Some, length, IfOk, IsTrue};
 ghost use Rattle.lin_history.specs.Problems.LegalLists.{next};
-ghost use Rattle.lin_history.specs.Problems.Lists.{In};
 ghost use Rattle.lin_history.specs.Problems.Problem.{problem_of};
 ghost use Rattle.lin_history.specs.Problems.Precedence.{IsCompleted};
 ghost use Rattle.lin_history.specs.Problems.AnyProblem.{any_problem};
 ghost use Rattle.lin_ahead.specs.Values.Owners.{Changes, AreOwners};
-ghost use Rattle.lin_ahead.specs.Values.Due.{IsInWith, IsDue, AnotherIsDue, FindsAnother, ComesBetween, TwoChange};
+ghost use Rattle.lin_ahead.specs.Values.Due.{IsInWith, AreInWith, IsDue, AnotherIsDue, FindsAnother, ComesBetween, TwoChange};
 
 use crate::mutexes::turns::precedes;
 use crate::values::call_values::CallValues;
@@ -96,7 +95,7 @@ fn is_in_with(config: &Config<AnyObject>, more: Option<usize>, call: usize) -> b
 
 // Whether each of the calls is lifted, or is this one.
 fn are_in_with(config: &Config<AnyObject>, more: Option<usize>, calls: &[usize]) -> bool
-    ensures { IsTrue result → (w : ℕ) → In w calls.now → IsInWith config.now.lifted more w }
+    ensures { IsTrue result → AreInWith config.now.lifted more calls.now }
 {
     for call in calls {
         if !is_in_with(config, more, *call) {
@@ -130,10 +129,13 @@ fn is_due(
     let Some(row) = owners.get(call) else {
         return false;
     };
-    row.are_told
-        && is_completed(problem, call)
-        && !is_in_with(config, more, call)
-        && are_in_with(config, more, row.calls.as_slice())
+    if !row.are_told || !is_completed(problem, call) {
+        return false;
+    }
+    if is_in_with(config, more, call) {
+        return false;
+    }
+    are_in_with(config, more, row.calls.as_slice())
 }
 
 // Whether another call than this one is due.

@@ -1,16 +1,43 @@
 use Rattle.std.proofs.Common.{sym, ◌∙◌}
+use Rattle.lin_object.specs.StepLemmas.{state_same}
 use Rattle.lin_history.specs.Problems.AnyProblem.{any_problem}
 use Rattle.lin_search.specs.SameLemmas.{alike_itself}
-use Rattle.lin_ahead.proofs.first.NeedsLemmas.{held_next_none}
+use Rattle.lin_ahead.proofs.values.DueLemmas.{told_ok, another_begins_none, finds_begins_none, between_begins_none, two_begin_none}
 use Rattle.lin_ahead.proofs.values.rules.ValueRulesRulesAnyObject.leads_to_none.Goals as goal
 
-pub held_until-requires : goal.held_until-requires
-held_until-requires c = rw c.as_slice.ensures.value c.requires.right.held
+pub another_is_due-requires : goal.another_is_due-requires
+another_is_due-requires c = rw c.as_slice-owners.ensures.value c.requires.right.owners
 
-pub returns-in-Some : goal.returns-in-Some
-returns-in-Some c = λ known.
-    held_next_none (any_problem c.args.problem.now) (alike_itself c.lawful.ensures _)
+pub finds_another-requires : goal.finds_another-requires
+finds_another-requires c = rw c.as_slice-owners.ensures.value c.requires.right.owners
+
+pub two_change-requires : goal.two_change-requires
+two_change-requires c = rw c.as_slice-owners.ensures.value c.requires.right.owners
+
+pub comes_between-requires : goal.comes_between-requires
+comes_between-requires c = rw c.as_slice-owners.ensures.value c.requires.right.owners
+
+pub returns-then-eq : goal.returns-then-eq
+returns-then-eq c = told_ok c.finds_another.result
+    (finds_begins_none (any_problem c.args.problem.now) state_same (alike_itself c.lawful.ensures _)
+    _ _ c.requires.reachable c.args.call c.args.state.now c.requires.next)
+    c.finds_another.ensures
+
+pub returns-then-another_is_due : goal.returns-then-another_is_due
+returns-then-another_is_due c = λ known.
+    another_begins_none (any_problem c.args.problem.now) state_same (alike_itself c.lawful.ensures _)
     _ _ c.requires.reachable c.args.call c.args.state.now c.requires.next
     (rw c.state.ensures at (sym c.eq.ensures ∙ c.if-eq.false))
-    c.in-Some._other
-    (rw c.in-Some.is at c.in_ok-_other.ensures)
+    (c.another_is_due.ensures c.if-another_is_due.true)
+
+pub returns-then-branch : goal.returns-then-branch
+returns-then-branch c = λ known.
+    two_begin_none (any_problem c.args.problem.now) state_same (alike_itself c.lawful.ensures _)
+    _ _ c.requires.reachable c.args.call c.args.state.now c.requires.next
+    (c.in_ok-two_change.ensures c.if-branch.true)
+
+pub returns : goal.returns
+returns c = told_ok c.comes_between.result
+    (between_begins_none (any_problem c.args.problem.now) state_same (alike_itself c.lawful.ensures _)
+    _ _ c.requires.reachable c.args.call c.args.state.now c.requires.next)
+    c.comes_between.ensures

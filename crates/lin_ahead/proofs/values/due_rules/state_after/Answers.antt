@@ -1,5 +1,5 @@
 use Rattle.std.proofs.Common.{rules}
-use Rattle.lin_ahead.proofs.values.held_state.state_after.Goals as goal
+use Rattle.lin_ahead.proofs.values.due_rules.state_after.Goals as goal
 
 pub returns-in_ok-answer-in-None : goal.returns-in_ok-answer-in-None
 returns-in_ok-answer-in-None g c = search rules depth 3
