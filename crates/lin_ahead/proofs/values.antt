@@ -9,3 +9,4 @@ pub mod VainLemmas
 pub mod KeyLemmas
 pub mod WriterLemmas
 pub mod DueLemmas
+pub mod PossibleOwnerLemmas
