@@ -20,7 +20,6 @@ use Rattle.lin_history.specs.Problems.Needs.{NeedNumbers, Needs}
 use Rattle.lin_ahead.specs.declared.look_ahead.KnownAhead.{KnownAhead}
 use Rattle.lin_ahead.specs.Items.ItemCalls.{told, told_in}
 use Rattle.lin_ahead.specs.Items.Owed.{AreOwed}
-use Rattle.lin_ahead.specs.Values.Held.{AreHeldUntil}
 use Rattle.lin_ahead.specs.Values.Owners.{AreOwners}
 use Rattle.lin_ahead.specs.Items.Late.{NoneIsLate}
 use Rattle.lin_ahead.specs.Queues.ToldOfQueue.{takers_from}
@@ -79,7 +78,6 @@ pub record IsRightOfStack (p : Problem ObjState Op Reply) (ahead : StackAhead) :
 -- What is known ahead of values is.
 pub record IsRightOfValues (p : Problem ObjState Op Reply) (ahead : ValuesAhead) : Type 0 where
   pub needs : AreOtherNeeds p ahead.needs
-  pub held : AreHeldUntil p ahead.held.items
   pub owners : AreOwners p ahead.owners.items
   pub in_vain : IsTrue ahead.in_vain → (l : List ℕ) → IsLinearization p l → ⊥
 

@@ -1,6 +1,5 @@
 -- Registers, and maps of one key.
 pub mod Register
-pub mod Held
 pub mod Owners
 pub mod Due
 pub mod Stranded

@@ -10,12 +10,10 @@ use Rattle.lin_history.specs.Problems.Continuations.{has, no_calls, IsCompletion
 use Rattle.lin_history.specs.Problems.Linearizations.{IsRun, IsLinearization}
 use Rattle.lin_history.specs.Problems.Configurations.{IsReachable}
 use Rattle.lin_search.specs.CallSetLemmas.{no_calls_has}
-use Rattle.lin_search.specs.NextCall.{IsNext}
 use Rattle.lin_search.specs.AlikeLemmas.{AreAlike, turned, like_completion}
 use Rattle.lin_object.specs.StepAnswers.{SameStep}
 use Rattle.lin_ahead.specs.First.FirstProgress.{BeginsNone}
 use Rattle.lin_ahead.specs.Behind.{NeedsBehind}
-use Rattle.lin_ahead.specs.Values.Held.{Changes, CanFollow, IsHeldUntil, HoldsAt}
 use Rattle.lin_ahead.specs.Items.Owed.{IsPendingAnswer, IsOwed}
 
 distinct_joined : (xs ys : List ℕ) → IsDistinct xs → IsDistinct ys → ((c : ℕ) → In c xs → In c ys → ⊥) → IsDistinct (xs ++ ys)
@@ -124,19 +122,3 @@ module _ {State Op Reply : Type 0} (p : Problem State Op Reply) where
       let x = answer.0 in
       let there = alike_answer p.same_state p.same_reply (p.after k.run.3.0 x.process x.op) (p.after s x.process x.op) answer.3.0 r (steps k.run.3.0 s x.process x.op k.run.3.2) answer.3.1 in
       owed (k.run.0 ++ c ∷ cs) k.run.0 cs c k.run.3.0 there.1 (joined p alike set s k (c ∷ cs) h) refl k.run.3.1 (x, answer.1, answer.2, (there.0, there.2)) there.3
-
-  -- where a call that is held until it stands is left out and could follow, no completion begins with another one that changes the state
-  pub held_begins_none : AreAlike p p → (set : List Bool) (s : State) → IsReachable p set s → (g c : ℕ) → IsHeldUntil p g → has set g ≡ false → g ≢ c → CanFollow p s g → Changes p s c → BeginsNone p set s c
-  held_begins_none alike set s k g c until out other follows changes cs h =
-      let e : State = k.run.3.0 in
-      let same = k.run.3.2 in
-      let back = turned alike e s same in
-      let there = alike.there.steps s e follows.0 g back follows.1 in
-      until (k.run.0 ++ c ∷ cs) k.run.0 cs c e (joined p alike set s k (c ∷ cs) h) refl k.run.3.1 (λ i. let f = (k.run.2 g).1 i in cc) other (there.0, there.1)
-      (λ t step unchanged. (let here = alike.there.steps e s t c same step in
-      changes here.0 here.1 (alike.equal_states.congr here.0 t s (turned alike t here.0 here.2) ∙ (alike.equal_states.congr t e s unchanged ∙ same))))
-
-  -- the same, of a call that leads to a state which differs
-  pub held_next_none : AreAlike p p → (set : List Bool) (s : State) → IsReachable p set s → (c : ℕ) (t : State) → IsNext p set s c t → p.same_state t s ≡ false → (g : ℕ) → HoldsAt p set s g c → BeginsNone p set s c
-  held_next_none alike set s k c t next differs g holds =
-      held_begins_none alike set s k g c holds.0 holds.1 holds.2 holds.3 (λ u step same. (let f = next.step in let e : u ≡ t = cc in let h : p.same_state t s ≡ true = subst (λ (x : State). p.same_state x s ≡ true) e same in cc))

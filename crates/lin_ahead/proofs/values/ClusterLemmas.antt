@@ -8,8 +8,7 @@ use Rattle.lin_history.specs.Problems.LegalLists.{next, Legal}
 use Rattle.lin_history.specs.Problems.Precedence.{Before, IsCompleted}
 use Rattle.lin_history.specs.Problems.Linearizations.{IsRun, IsLinearization}
 use Rattle.lin_history.specs.Problems.Needs.{Needs}
-use Rattle.lin_ahead.specs.Values.Held.{CanFollow}
-use Rattle.lin_ahead.specs.Values.Owners.{Leaves, AllLeave, LastChange, IsOwnedBy}
+use Rattle.lin_ahead.specs.Values.Owners.{CanFollow, Leaves, AllLeave, LastChange, IsOwnedBy}
 use Rattle.lin_ahead.specs.Values.Stranded.{Reached}
 use Rattle.lin_ahead.proofs.first.NeedsLemmas.{stands}
 

@@ -28,7 +28,7 @@ cancel (x ∷ xs) ys zs e = cancel xs ys zs (cc)
 same_call : {a b : ℕ} → Some a ≡ Some b → b ≡ a
 same_call e = cc
 
-in_with : (set : List Bool) (more : Option ℕ) (calls : List ℕ) → AreInWith set more calls → (w : ℕ) → In w calls → IsInWith set more w
+pub in_with : (set : List Bool) (more : Option ℕ) (calls : List ℕ) → AreInWith set more calls → (w : ℕ) → In w calls → IsInWith set more w
 in_with set more [] all w i = absurd i
 in_with set more (c ∷ cs) all w i = elim i [
   | inl same ↦ subst (λ (d : ℕ). IsInWith set more d) (sym same) all.0
@@ -79,8 +79,8 @@ module _ {State Op Reply : Type 0} (p : Problem State Op Reply) (identical : (a 
               (in_early last.owner front (g ∷ late) (subst (λ (l : List ℕ). In last.owner l) (sym q.2) (in_late last.owner q.0 (last.owner ∷ last.since) (inl refl)))))
         ]
         | inr q ↦
-          let ends : e ≡ p.start = leaves_end before p.start e (λ c i. q.1 c (in_early c before front i)) legal in
-          subst (λ (m : State). AllLeave p m front) (sym ends) (λ c i. q.1 c (in_late c before front i))
+            let ends : e ≡ p.start = leaves_end before p.start e (λ c i. q.1 c (in_early c before front i)) legal in
+            subst (λ (m : State). AllLeave p m front) (sym ends) (λ c i. q.1 c (in_late c before front i))
       ]
 
   -- and so the call has a step there
@@ -117,7 +117,7 @@ module _ {State Op Reply : Type 0} (p : Problem State Op Reply) (identical : (a 
         let at = place_of None g due another.2 cs whole in
         let placed : IsCompletion p set s ((c ∷ at.0) ++ g ∷ at.1) = subst (λ (l : List ℕ). IsCompletion p set s (c ∷ l)) at.2 whole in
         let keeps = due_keeps lifted (c ∷ at.0) g at.1 s due.owners due.at_start (joined p alike set s reachable ((c ∷ at.0) ++ g ∷ at.1) placed) legal due.owned
-          (λ w i. elim (in_with set None due.owners due.inside w i) [ inl inside ↦ (reachable.run.2 w).0 inside | inr e ↦ absurd (cc) ]) in
+        (λ w i. elim (due.inside w i) [ inl inside ↦ (reachable.run.2 w).0 inside | inr e ↦ absurd (cc) ]) in
         let here = keeps c (inl refl) in
         let same : here.0 ≡ t = (let f = here.1 in let n = step.step in cc) in
         let unchanged : p.same_state t s ≡ true = subst (λ (m : State). p.same_state m s ≡ true) same here.2 in
@@ -135,7 +135,7 @@ module _ {State Op Reply : Type 0} (p : Problem State Op Reply) (identical : (a 
     -- behind the next call, what stands in front of a call that is due leaves the state as it is
     keeps_behind : (g : ℕ) → IsDue p set (Some c) g → (front late : List ℕ) → IsCompletion p set s (c ∷ (front ++ g ∷ late)) → AllLeave p t front
     keeps_behind g due front late whole = due_keeps before front g late t due.owners due.at_start (behind front g late whole) legal_behind due.owned
-        (λ w i. elim (in_with set (Some c) due.owners due.inside w i) [
+        (λ w i. elim (due.inside w i) [
           | inl inside ↦ in_early w lifted (c ∷ []) ((reachable.run.2 w).0 inside)
           | inr e ↦ in_late w lifted (c ∷ []) (inl (same_call e))
         ])
@@ -153,7 +153,7 @@ module _ {State Op Reply : Type 0} (p : Problem State Op Reply) (identical : (a 
         let at = place_behind g found.1 cs whole in
         let placed = placed_behind g cs at.0 at.1 at.2 whole in
         let goes = due_steps before at.0 g at.1 t (behind at.0 g at.1 placed) legal_behind (keeps_behind g found.1 at.0 at.1 placed) in
-        found.2 goes.0 goes.1
+        found.2 goes
 
     -- nor with one behind which one is due that another one comes before, which does not leave the state as it is
     pub between_begins_none : ComesBetween p set c t → BeginsNone p set s c
@@ -187,7 +187,7 @@ module _ {State Op Reply : Type 0} (p : Problem State Op Reply) (identical : (a 
           | inr late ↦ elim late [
             | inl same ↦ found.4 (sym same)
             | inr later ↦ (let more = in_place h at.1 later in
-              let shape : cs ≡ (at.0 ++ g ∷ more.0) ++ h ∷ more.1 = at.2 ∙ (ap (λ (l : List ℕ). at.0 ++ g ∷ l) more.2 ∙ sym (append_assoc at.0 (g ∷ more.0) (h ∷ more.1))) in
-              found.5 (keeps_behind h found.3 (at.0 ++ g ∷ more.0) more.1 (placed_behind h cs (at.0 ++ g ∷ more.0) more.1 shape whole) g (in_late g at.0 (g ∷ more.0) (inl refl))))
+                let shape : cs ≡ (at.0 ++ g ∷ more.0) ++ h ∷ more.1 = at.2 ∙ (ap (λ (l : List ℕ). at.0 ++ g ∷ l) more.2 ∙ sym (append_assoc at.0 (g ∷ more.0) (h ∷ more.1))) in
+                found.5 (keeps_behind h found.3 (at.0 ++ g ∷ more.0) more.1 (placed_behind h cs (at.0 ++ g ∷ more.0) more.1 shape whole) g (in_late g at.0 (g ∷ more.0) (inl refl))))
           ]
         ]

@@ -34,7 +34,6 @@ use Rattle.lin_ahead.specs.declared.values.key_value.TheConstants.{NOTHING}
 use Rattle.lin_ahead.specs.declared.values.rows.ValuesAhead.{ValuesAhead}
 use Rattle.lin_history.specs.Problems.AnyProblem.{any_problem}
 use Rattle.lin_ahead.specs.Behind.{IsRightOfValues}
-use Rattle.lin_ahead.specs.Values.Held.{IsHeldUntil}
 use Rattle.lin_ahead.specs.Values.Owners.{Leaves, AllLeave, LastChange, IsOwnedBy}
 use Rattle.lin_ahead.specs.Values.ValueCalls.{AreRowsOf}
 use Rattle.lin_ahead.specs.Values.ToldOfRegister.{IsToldOfRegister}
@@ -293,7 +292,7 @@ module _ (law : MapLaw after state_eq.it) where
           complete = λ c done. inr (in_list c l (whole.complete c (completed_back c done)));
         }
 
-    -- ---- held until
+    -- ---- legal lists
 
     legal_split : (xs ys : List ℕ) (s u : ObjState) → Legal P s (xs ++ ys) u → (t : ObjState) × Legal P s xs t × Legal P t ys u
     legal_split [] ys s u legal = (s, refl, legal)
@@ -313,20 +312,6 @@ module _ (law : MapLaw after state_eq.it) where
         at : (key : ℤ) (b : Bool) → int_eq k key ≡ b → value_at k behind ≡ value_at k pairs → value_at key behind ≡ value_at key pairs
         at key true e own = subst (λ (z : ℤ). value_at z behind ≡ value_at z pairs) ((signed_Decides k key).0 e) own
         at key false e own = others key e
-
-    pub held_on_map : (g : ℕ) → IsHeldUntil Q g → IsHeldUntil P g
-    held_on_map g held l early late c s whole eq before not_there other can changes =
-        let sim = shown early [] P.start (Register NOTHING) s at_start before in
-        let t = sim.0 in
-        let shows = sim.2.1 in
-        let legal = whole.continuation.legal in
-        let two = legal_split early (c ∷ late) P.start legal.0 (subst (λ (m : List ℕ). Legal P P.start m legal.0) eq legal.1) in
-        let goes : Legal P s (c ∷ late) legal.0 = subst (λ (z : ObjState). Legal P z (c ∷ late) legal.0) (legal_one early P.start two.0 s two.1 before) two.2 in
-        let one = follows sim.2.0 s t goes.0 c shows goes.1 in
-        let follow = follows sim.2.0 s t can.0 g shows can.1 in
-        held l early late c t (of_value l whole) eq sim.1 not_there other (follow.to, follow.step)
-        (λ u step same. changes goes.0 goes.1 (same_map sim.2.0 one.behind s goes.0 t one.to shows one.shows one.others
-        (let is : u ≡ one.to = (let f = one.step in cc) in subst (λ (z : ObjState). state_eq.it z t ≡ true) is same)))
 
     -- ---- owners
 
@@ -408,7 +393,6 @@ module _ (law : MapLaw after state_eq.it) where
         each_from = right.needs.each_from ∙ length-map p.calls call_on_value;
         needed = λ a b m n there here below other l whole early late eq. right.needs.needed a b m n there here below other l (of_value l whole) early late eq;
       };
-      held = λ g there. held_on_map g (right.held g there);
       owners = λ g row there is. owned_on_map row.calls.items row.at_start g (right.owners g row there is);
       in_vain = λ is l whole. right.in_vain is l (of_value l whole);
     }

@@ -21,7 +21,6 @@ use Rattle.lin_history.specs.Problems.Needs.{Needs, NeedNumbers}
 use Rattle.lin_ahead.specs.Items.Numbers.{ReturnsAt, CalledFrom}
 use Rattle.lin_ahead.specs.Values.Register.{IsOfRegister, value_written, value_found, MayWrite, Finds, IsSingle, OfCluster, IsClusterBy, IsClusterFrom, AreClusterNumbers}
 use Rattle.lin_ahead.specs.Behind.{AreOtherNeeds}
-use Rattle.lin_ahead.specs.Values.Held.{Changes, IsHeldUntil}
 use Rattle.lin_ahead.specs.AnswerLemmas.{Is, state_of, reply_of, fits_some}
 use Rattle.lin_ahead.proofs.first.NeedsLemmas.{not_before, place_split}
 
@@ -163,44 +162,6 @@ module _ {p : Problem ObjState Op Reply} {start : ℤ} (of : IsOfRegister p star
     | inl q ↦ absurd (let x = has_none (length p.calls) i in cc)
     | inr q ↦ q
   ]
-
-  -- a value that is held stays until what found it is there
-  held : (u : ℤ) → IsSingle p start u → (early : List ℕ) (c : ℕ) (late : List ℕ) → IsLinearization p (early ++ c ∷ late) → Legal p p.start early (Register u) → (g : ℕ) → Finds p g u → (In g early → ⊥) → g ≢ c → Changes p (Register u) c → ⊥
-  held u single early c late whole before g found not_there other changes =
-      let two = legal_split early (c ∷ late) p.start end whole.continuation.legal.1 in
-      let goes : Legal p (Register u) (c ∷ late) end = subst (λ (s : ObjState). Legal p s (c ∷ late) end) (legal_one early p.start two.0 (Register u) two.1 before) two.2 in
-      let call = has_call (Register u) goes.0 c goes.1 in
-      let k = tells u goes.0 c call.0 call.1 goes.1 in
-      never_again late k.value u end g (subst (λ (s : ObjState). Legal p s late end) k.ends goes.2) none there found (λ e. changes goes.0 goes.1 (subst (λ (s : ObjState). p.same_state s (Register u) ≡ true) (sym (k.ends ∙ ap Register e)) (of.same_itself u)))
-    where
-      end : ObjState
-      end = whole.continuation.legal.0
-
-      there : In g late
-      there = elim (in_either g early (c ∷ late) (stands (early ++ c ∷ late) g whole (finds_completed g u found))) [
-        | inl h ↦ absurd (not_there h)
-        | inr (inl e) ↦ absurd (other e)
-        | inr (inr h) ↦ h
-      ]
-
-      none : (b : ℕ) → In b late → MayWrite p b u → ⊥
-      none b h writes =
-          let k = left early start (Register u) (from_start early (Register u) before) in
-          let same : u ≡ k.0 = same_value k.1 in
-          elim k.2 [
-            | inl e ↦ single.fresh (same ∙ e) b writes
-            | inr q ↦ (
-                let one : q.0 ≡ b = single.one q.0 b (subst (λ (v : ℤ). MayWrite p q.0 v) (sym same) q.2) writes in
-                apart b early (c ∷ late) whole.continuation.distinct (subst (λ (n : ℕ). In n early) one q.1) (inr h))
-          ]
-
-  -- where a call that found a single value could follow, no other call that changes the state does
-  pub finds_held_until : (g : ℕ) (u : ℤ) → Finds p g u → IsSingle p start u → IsHeldUntil p g
-  finds_held_until g u found single l early late c s whole eq before not_there other follows changes =
-      let k = left early start s (from_start early s before) in
-      let same : k.0 ≡ u = finds_held k.0 u follows.0 g found (subst (λ (t : ObjState). next p t g ≡ Some follows.0) k.1 follows.1) in
-      let state : s ≡ Register u = k.1 ∙ ap Register same in
-      held u single early c late (subst (λ (m : List ℕ). IsLinearization p m) eq whole) (subst (λ (t : ObjState). Legal p p.start early t) state before) g found not_there other (subst (λ (t : ObjState). Changes p t c) state changes)
 
   -- ---- clusters
 

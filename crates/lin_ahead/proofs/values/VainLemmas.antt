@@ -31,7 +31,7 @@ use Rattle.lin_ahead.proofs.items.RowLemmas.{through, seen_through}
 use Rattle.lin_ahead.proofs.values.PairLemmas.{Both, both_are, both_told, both_at, or_left, or_right}
 use Rattle.lin_object.specs.StepLemmas.{state_same}
 use Rattle.lin_ahead.proofs.values.OwnerLemmas.{are_owners}
-use Rattle.lin_ahead.proofs.values.ValueLemmas.{from_nobody, single_told, single_is, called_there, within, by_of_call, from_of_call, by_least, from_greatest, are_cluster_numbers, held_found, found_held, are_held, of_any_register}
+use Rattle.lin_ahead.proofs.values.ValueLemmas.{from_nobody, single_told, single_is, called_there, within, by_of_call, from_of_call, by_least, from_greatest, are_cluster_numbers, of_any_register}
 
 -- an element of a list that passes a test
 any_at : {A : Type 0} (test : A → Bool) (xs : List A) → list_any test xs ≡ true → (i : ℕ) × (x : A) × (slice_get xs i ≡ Some x) × (test x ≡ true)
@@ -234,7 +234,6 @@ module _ {Object : Type 0} (p : ProblemParts Object ObjState Op Reply) where
   pub register_right : (start : ℤ) → p.start ≡ Register start → (ahead : ValuesAhead) → AreRowsOf start p.calls ahead → IsRightOfValues (any_problem p) ahead
   register_right start e ahead rows = record {
     needs = clusters_need (of_any_register p start e) ahead.needs (are_cluster_numbers (any_problem p) start ahead.needs rows.by rows.from);
-    held = rw rows.held (are_held (any_problem p) start (of_any_register p start e));
     owners = are_owners (of_any_register p start e) state_same ahead.owners.items rows.owners;
     in_vain = λ is. in_vain (any_problem p) start (of_any_register p start e) (in_vain_is (any_problem p) start (sym rows.in_vain ∙ is));
   }
@@ -243,8 +242,5 @@ module _ {Object : Type 0} (p : ProblemParts Object ObjState Op Reply) where
   pub register_told : (start : ℤ) → (ahead : ValuesAhead) → AreRowsOf start p.calls ahead → IsToldOfRegister (any_problem p) start ahead
   register_told start ahead rows = record {
     numbers = are_cluster_numbers (any_problem p) start ahead.needs rows.by rows.from;
-    each_held = ap length rows.held ∙ length-map p.calls _;
-    held = λ c e. held_found (any_problem p) start c (rw (← rows.held) e);
-    every_held = λ c w found single. rw rows.held (found_held (any_problem p) start c w found single);
     in_vain = ((λ is. in_vain_is (any_problem p) start (sym rows.in_vain ∙ is)), (λ shown. rows.in_vain ∙ in_vain_told (any_problem p) start shown));
   }

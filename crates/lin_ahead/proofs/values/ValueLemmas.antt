@@ -1,4 +1,4 @@
--- The rows of a register's problem are right: those of the clusters, and the flags of the calls that found a single value.
+-- The rows of a register's problem are right: those of the clusters.
 use Rattle.std.proofs.Common.{◌≡◌, ◌≢◌, ℕ, zero, suc, ◌<◌, ◌≤◌, ◌^◌, Bool, true, false, min, max, Option, Some, None, List, [], ◌∷◌, length, ◌⊎◌, inl, inr, refl, sym, ◌∙◌, ap, subst, arith}
 use Rattle.std.specs.Prelude.{ℤ, slice_get, map}
 use Rattle.std.specs.Ordering.{int_eq}
@@ -19,13 +19,11 @@ use Rattle.lin_history.specs.Problems.AnyProblem.{any_problem}
 use Rattle.lin_ahead.specs.declared.values.needed_pairs.CallNumbers.{CallNumbers}
 use Rattle.lin_ahead.specs.declared.values.value_calls.ValueCalls.{ValueCalls}
 use Rattle.lin_ahead.specs.Items.ItemCalls.{is_of, one_more}
-use Rattle.lin_ahead.specs.Values.Held.{AreHeldUntil}
 use Rattle.lin_ahead.specs.Items.Numbers.{CalledFrom}
 use Rattle.lin_ahead.specs.Values.Register.{IsOfRegister, value_written, value_found, MayWrite, Finds, IsSingle, OfCluster, IsClusterBy, IsClusterFrom, AreClusterNumbers}
-use Rattle.lin_ahead.specs.Values.ValueCalls.{no_value_told, least_return, written_next, found_next, value_next, value_from, value_told, is_single, single_by, cluster_by, cluster_from, found_single, cluster_numbers_row, cluster_by_row, cluster_from_row, found_single_row}
+use Rattle.lin_ahead.specs.Values.ValueCalls.{no_value_told, least_return, written_next, found_next, value_next, value_from, value_told, is_single, single_by, cluster_by, cluster_from, cluster_numbers_row, cluster_by_row, cluster_from_row}
 use Rattle.lin_history.specs.ReplyLemmas.{reply_same}
 use Rattle.lin_ahead.proofs.items.RowLemmas.{through, seen_through}
-use Rattle.lin_ahead.proofs.values.RegisterLemmas.{finds_held_until}
 
 -- ---- values
 
@@ -418,25 +416,6 @@ module _ (p : Problem ObjState Op Reply) (start : ℤ) where
           λ m is. subst (λ (i : ℕ). m ≤ i) k.2 (from_greatest b k.0 k.1 m is),
         ));
   }
-
-  found_one : (o : Option ℤ) → found_single (value_told p.calls) start o ≡ true → (v : ℤ) × (o ≡ Some v) × IsSingle p start v
-  found_one None e = absurd (cc)
-  found_one (Some v) e = (v, refl, single_is p start v e)
-
-  pub held_found : (c : ℕ) → slice_get (found_single_row (value_told p.calls) start p.calls) c ≡ Some true → (v : ℤ) × Finds p c v × IsSingle p start v
-  held_found g e =
-      let k = through (λ (c : ProblemCall Op Reply). found_single (value_told p.calls) start (value_found c.op c.returned)) p.calls g true e in
-      let found = found_one (value_found k.0.op k.0.returned) k.2 in
-      (found.0, (k.0, k.1, found.1), found.2)
-
-  pub found_held : (c : ℕ) (v : ℤ) → Finds p c v → IsSingle p start v → slice_get (found_single_row (value_told p.calls) start p.calls) c ≡ Some true
-  found_held c v (x, there, found) single =
-      seen_through (λ (y : ProblemCall Op Reply). found_single (value_told p.calls) start (value_found y.op y.returned)) p.calls c x there
-      ∙ ap Some (ap (λ (o : Option ℤ). found_single (value_told p.calls) start o) found ∙ single_told p start v single)
-
-  -- the flags
-  pub are_held : IsOfRegister p start → AreHeldUntil p (found_single_row (value_told p.calls) start p.calls)
-  are_held of g e = let k = held_found g e in finds_held_until of g k.0 k.1 k.2
 
 -- the rows of both numbers
 by_of_numbers : (told : ℤ → ValueCalls) (start : ℤ) (calls : List (ProblemCall Op Reply)) → map (λ (x : CallNumbers). x.by) (cluster_numbers_row told start calls) ≡ cluster_by_row told start calls

@@ -1,10 +1,10 @@
 -- Calls that are due: what they found was written by a call that is lifted, so that no call that changes the state stands in front of them (this project's own).
 use Rattle.std.specs.Prelude.{◌≡◌, ◌≢◌, ◌⊎◌, ℕ, Bool, true, Option, Some, None, List, [], ◌∷◌}
 use Rattle.lin_history.specs.Problems.Problem.{Problem}
-use Rattle.lin_history.specs.Problems.LegalLists.{next}
+use Rattle.lin_history.specs.Problems.Lists.{In}
 use Rattle.lin_history.specs.Problems.Precedence.{Before, IsCompleted}
 use Rattle.lin_history.specs.Problems.Continuations.{has}
-use Rattle.lin_ahead.specs.Values.Owners.{Changes, IsOwnedBy}
+use Rattle.lin_ahead.specs.Values.Owners.{CanFollow, Changes, IsOwnedBy}
 
 -- The call is in the set, or it is the one that is to be lifted next, where there is one.
 abbrev pub IsInWith : List Bool → Option ℕ → ℕ → Type 0
@@ -21,7 +21,7 @@ pub record IsDue {State Op Reply : Type 0} (p : Problem State Op Reply) (set : L
   pub at_start : Bool
   pub owned : IsOwnedBy p owners at_start g
   pub completed : IsCompleted p g
-  pub inside : AreInWith set more owners
+  pub inside : (w : ℕ) → In w owners → IsInWith set more w
   pub outside : IsInWith set more g → ⊥
 
 -- Another call than c is due.
@@ -30,7 +30,7 @@ AnotherIsDue p set c = (g : ℕ) × IsDue p set None g × (g ≢ c)
 
 -- Behind call c a call is due that has no step at the state.
 abbrev pub FindsAnother : {State Op Reply : Type 0} → Problem State Op Reply → List Bool → ℕ → State → Type 0
-FindsAnother {State} p set c t = (g : ℕ) × IsDue p set (Some c) g × ((u : State) → next p t g ≡ Some u → ⊥)
+FindsAnother p set c t = (g : ℕ) × IsDue p set (Some c) g × (CanFollow p t g → ⊥)
 
 -- Behind call c a call is due, and a call that is left goes before it and does not leave the state as it is.
 abbrev pub ComesBetween : {State Op Reply : Type 0} → Problem State Op Reply → List Bool → ℕ → State → Type 0

@@ -14,6 +14,10 @@ Leaves {State} p s c = (t : State) × (next p s c ≡ Some t) × (p.same_state t
 abbrev pub Changes : {State Op Reply : Type 0} → Problem State Op Reply → State → ℕ → Type 0
 Changes p s c = Leaves p s c → ⊥
 
+-- Call g has a step at the state whose reply fits.
+abbrev pub CanFollow : {State Op Reply : Type 0} → Problem State Op Reply → State → ℕ → Type 0
+CanFollow {State} p s g = (t : State) × (next p s g ≡ Some t)
+
 -- Each of these calls leaves the state as it is.
 abbrev pub AllLeave : {State Op Reply : Type 0} → Problem State Op Reply → State → List ℕ → Type 0
 AllLeave p s calls = (c : ℕ) → In c calls → Leaves p s c

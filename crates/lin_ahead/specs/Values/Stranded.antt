@@ -4,8 +4,7 @@ use Rattle.lin_history.specs.Problems.Problem.{Problem}
 use Rattle.lin_history.specs.Problems.LegalLists.{Legal}
 use Rattle.lin_history.specs.Problems.Precedence.{Before}
 use Rattle.lin_ahead.specs.declared.values.owners.Owners.{Owners}
-use Rattle.lin_ahead.specs.Values.Held.{CanFollow}
-use Rattle.lin_ahead.specs.Values.Owners.{Changes}
+use Rattle.lin_ahead.specs.Values.Owners.{CanFollow, Changes}
 use Rattle.lin_ahead.specs.Values.Due.{IsDue}
 
 -- Some calls lead to the state.

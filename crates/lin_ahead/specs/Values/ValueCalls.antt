@@ -83,11 +83,6 @@ cluster_from told start (Some v) = if single_by told start v then min BEYOND (to
 abbrev pub cluster_numbers : (ℤ → ValueCalls) → ℤ → Option ℤ → CallNumbers
 cluster_numbers told start o = record { by = cluster_by told start o; from = cluster_from told start o }
 
--- A call found a value, and it is single.
-abbrev pub found_single : (ℤ → ValueCalls) → ℤ → Option ℤ → Bool
-found_single told start None = false
-found_single told start (Some v) = single_by told start v
-
 -- No call may write the value, and the register does not start with it.
 abbrev pub is_nowhere : Callers → Bool → Bool
 is_nowhere Nobody at_start = not at_start
@@ -117,17 +112,13 @@ cluster_by_row told start calls = map (λ c. cluster_by told start (value_writte
 abbrev pub cluster_from_row : (ℤ → ValueCalls) → ℤ → List (ProblemCall Op Reply) → List ℕ
 cluster_from_row told start calls = map (λ c. cluster_from told start (value_written c.op c.returned)) calls
 
-abbrev pub found_single_row : (ℤ → ValueCalls) → ℤ → List (ProblemCall Op Reply) → List Bool
-found_single_row told start calls = map (λ c. found_single told start (value_found c.op c.returned)) calls
-
 -- Some call shows that there is no linearization, or some two need each other.
 abbrev pub any_in_vain : (ℤ → ValueCalls) → ℤ → List (ProblemCall Op Reply) → Bool
 any_in_vain told start calls = any_shows_in_vain told start calls || some_pair (cluster_numbers_row told start calls)
 
--- The rows and flags that the calls of a register tell, which starts with this value.
+-- The rows that the calls of a register tell, which starts with this value.
 pub record AreRowsOf (start : ℤ) (calls : List (ProblemCall Op Reply)) (ahead : ValuesAhead) : Type 0 where
   pub by : ahead.needs.by ≡ cluster_by_row (value_told calls) start calls
   pub from : ahead.needs.from ≡ cluster_from_row (value_told calls) start calls
-  pub held : ahead.held.items ≡ found_single_row (value_told calls) start calls
   pub owners : AreOwnerRows calls start ahead.owners.items
   pub in_vain : ahead.in_vain ≡ any_in_vain (value_told calls) start calls

@@ -5,7 +5,7 @@ ghost use Rattle.lin_history.specs.Problems.LegalLists.{next};
 ghost use Rattle.lin_history.specs.Problems.Problem.{problem_of};
 ghost use Rattle.lin_history.specs.Problems.Precedence.{IsCompleted};
 ghost use Rattle.lin_history.specs.Problems.AnyProblem.{any_problem};
-ghost use Rattle.lin_ahead.specs.Values.Owners.{Changes, AreOwners};
+ghost use Rattle.lin_ahead.specs.Values.Owners.{CanFollow, Changes, AreOwners};
 ghost use Rattle.lin_ahead.specs.Values.Due.{IsInWith, AreInWith, IsDue, AnotherIsDue, FindsAnother, ComesBetween, TwoChange};
 
 use crate::mutexes::turns::precedes;
@@ -59,7 +59,7 @@ fn has_no_step(
     state: &ObjState,
     call: usize,
 ) -> Result<bool, AllocError>
-    ensures { IfOk result (λ none. IsTrue none → next (any_problem problem.now) state.now call ≡ None) }
+    ensures { IfOk result (λ none. IsTrue none → CanFollow (any_problem problem.now) state.now call → ⊥) }
 {
     if call >= problem.len() {
         return Ok(false);

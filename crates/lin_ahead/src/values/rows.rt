@@ -1,12 +1,12 @@
-//! What is told of each call on a register by what the calls show of its values: its numbers, and whether it found a single
-//! value.
+//! What is told of each call on a register by what the calls show of its values: its numbers, and the calls that may have written
+//! what it found.
 
 ghost use Rattle.std.specs.Prelude.{◌≡◌, Some, IfOk, map};
 ghost use Rattle.lin_ahead.specs.declared.values.needed_pairs.CallNumbers.{CallNumbers};
 ghost use Rattle.std.specs.Ordering.{int_eq};
 ghost use Rattle.indexmap.specs.IndexMap.{get};
 ghost use Rattle.lin_ahead.specs.Values.Register.{value_written, value_found};
-ghost use Rattle.lin_ahead.specs.Values.ValueCalls.{value_in, single_by, cluster_from, cluster_numbers, found_single, found_nowhere, shows_in_vain, any_shows_in_vain, any_in_vain, cluster_numbers_row, found_single_row, AreRowsOf};
+ghost use Rattle.lin_ahead.specs.Values.ValueCalls.{value_in, single_by, cluster_from, cluster_numbers, found_nowhere, shows_in_vain, any_shows_in_vain, any_in_vain, cluster_numbers_row, AreRowsOf};
 
 use crate::items::item_calls::BEYOND;
 use crate::values::call_values::{CallValues, values_of_each};
@@ -24,8 +24,6 @@ use std::alloc::{AllocError, Global};
 pub struct ValuesAhead {
     /// The numbers `by` and `from` of each call: a call needs every other one whose number `by` is less than its own number `from`.
     pub needs: NeedRows,
-    /// For each call, whether the state may not change where it could follow, until it is lifted.
-    pub held: Vec<bool>,
     /// For each call, those of which one wrote the value that it found.
     pub owners: Vec<Owners>,
     /// Whether what is known shows that there is no linearization.
@@ -78,17 +76,6 @@ fn cluster_numbers(values: &Values, call: &ProblemCall<Op, Reply>) -> CallNumber
             by: BEYOND,
             from: 0,
         },
-    }
-}
-
-// Whether the call found a single value.
-fn found_single(values: &Values, call: &ProblemCall<Op, Reply>) -> bool
-    ensures { result ≡ found_single (value_in (get int_eq values.now.told)) values.now.start
-        (value_found call.now.op call.now.returned) }
-{
-    match value_found(call) {
-        Some(value) => single_by(values, value),
-        None => false,
     }
 }
 
@@ -178,21 +165,6 @@ fn any_in_vain(
     Ok(shown || pair)
 }
 
-// For each call whether it found a single value.
-fn found_single_row(
-    alloc: Global,
-    values: &Values,
-    calls: &[ProblemCall<Op, Reply>],
-) -> Result<Vec<bool>, AllocError>
-    ensures { IfOk result (λ row. row.items
-        ≡ found_single_row (value_in (get int_eq values.now.told)) values.now.start calls.now) }
-{
-    calls
-        .iter()
-        .map(|call| found_single(values, call))
-        .collect(alloc)
-}
-
 /// What these calls show, on a register that starts with this value. `AllocError` where memory was refused.
 pub(crate) fn told_of_register(
     alloc: Global,
@@ -213,7 +185,6 @@ pub(crate) fn told_of_register(
     let from = from_of_each(alloc, numbers)?;
     Ok(ValuesAhead {
         needs: NeedRows::new(by, from),
-        held: found_single_row(alloc, &values, calls)?,
         owners: owners_of_each(alloc, *start, &values.told, calls)?,
         in_vain,
         values: values_of_each(alloc, calls)?,
