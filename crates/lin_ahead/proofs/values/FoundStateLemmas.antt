@@ -9,7 +9,7 @@ use Rattle.lin_history.specs.Problems.Problem.{Problem}
 use Rattle.lin_history.specs.Problems.LegalLists.{next}
 use Rattle.lin_ahead.specs.declared.values.owners.Owners.{Owners}
 use Rattle.lin_ahead.specs.Values.Register.{IsOfRegister, Finds}
-use Rattle.lin_ahead.specs.Values.Held.{CanFollow}
+use Rattle.lin_ahead.specs.Values.Owners.{CanFollow}
 use Rattle.lin_ahead.specs.Values.PossibleOwners.{AreOwnerRows}
 use Rattle.lin_ahead.specs.Values.Stranded.{Reached, FindsOneState, FindOneState}
 use Rattle.lin_ahead.proofs.values.RegisterLemmas.{left, from_start, finds_held}

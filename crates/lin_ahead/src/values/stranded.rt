@@ -2,8 +2,7 @@
 
 ghost use Rattle.std.specs.Prelude.{◌≡◌, ◌≢◌, ◌⊎◌, IfOk, IsTrue};
 ghost use Rattle.lin_history.specs.Problems.AnyProblem.{any_problem};
-ghost use Rattle.lin_ahead.specs.Values.Held.{CanFollow};
-ghost use Rattle.lin_ahead.specs.Values.Owners.{AreOwners};
+ghost use Rattle.lin_ahead.specs.Values.Owners.{CanFollow, AreOwners};
 ghost use Rattle.lin_ahead.specs.Values.Stranded.{FindsOneState, FindOneState, IsLeftTo, IsOfCluster, AreOfCluster, AreCrossed, StandsBetween, IsParted, AreStranded};
 
 use crate::mutexes::turns::precedes;
