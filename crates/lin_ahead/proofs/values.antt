@@ -1,6 +1,8 @@
 pub mod ClusterLemmas
 pub mod TakenTwiceLemmas
 pub mod StrandedLemmas
+pub mod FoundStateLemmas
+pub mod NarrowLemmas
 pub mod RegisterLemmas
 pub mod OwnerLemmas
 pub mod ValueLemmas

@@ -21,6 +21,7 @@ use Rattle.lin_ahead.specs.declared.look_ahead.KnownAhead.{KnownAhead}
 use Rattle.lin_ahead.specs.Items.ItemCalls.{told, told_in}
 use Rattle.lin_ahead.specs.Items.Owed.{AreOwed}
 use Rattle.lin_ahead.specs.Values.Owners.{AreOwners}
+use Rattle.lin_ahead.specs.Values.Stranded.{FindOneState}
 use Rattle.lin_ahead.specs.Items.Late.{NoneIsLate}
 use Rattle.lin_ahead.specs.Queues.ToldOfQueue.{takers_from}
 use Rattle.lin_ahead.specs.Stacks.ToldOfStack.{exchanged_calls}
@@ -79,6 +80,7 @@ pub record IsRightOfStack (p : Problem ObjState Op Reply) (ahead : StackAhead) :
 pub record IsRightOfValues (p : Problem ObjState Op Reply) (ahead : ValuesAhead) : Type 0 where
   pub needs : AreOtherNeeds p ahead.needs
   pub owners : AreOwners p ahead.owners.items
+  pub found : FindOneState p ahead.owners.items
   pub in_vain : IsTrue ahead.in_vain → (l : List ℕ) → IsLinearization p l → ⊥
 
 -- What is known ahead of a counter is.

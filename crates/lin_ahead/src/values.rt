@@ -7,7 +7,7 @@
 //!   which a value is not there all the time.
 //! - `key_value`: the calls of a map on one key, as calls of a register that holds the key's value.
 //! - `rules`: the rules of a first search; `due_rules`: what follows from calls that are due; `due`: which are; `calls_left`: the completed
-//!   calls that are left, by their returns.
+//!   calls that are left, by their returns; `stranded`: what follows from calls that are left to one owner.
 
 pub(crate) mod breaking_calls;
 pub(crate) mod call_values;
@@ -20,6 +20,7 @@ pub(crate) mod needed_pairs;
 pub(crate) mod owners;
 pub(crate) mod rows;
 pub(crate) mod rules;
+pub(crate) mod stranded;
 pub(crate) mod taken_values;
 pub(crate) mod value_calls;
 pub(crate) mod writers;

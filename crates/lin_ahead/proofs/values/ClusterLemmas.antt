@@ -39,7 +39,7 @@ module _ {l : List ℕ} (distinct : IsDistinct l) where
   in_front : (a b : ℕ) → Front l a b → In a l
   in_front a b (e, k, eq, there) = subst (λ (m : List ℕ). In a m) (sym eq) (in_early a e (b ∷ k) there)
 
-  front_trans : (a b c : ℕ) → Front l a b → Front l b c → Front l a c
+  pub front_trans : (a b c : ℕ) → Front l a b → Front l b c → Front l a c
   front_trans a b c one (e, k, eq, there) =
       let at = in_place b e there in
       let here : l ≡ at.0 ++ b ∷ (at.1 ++ c ∷ k) = eq ∙ ap (λ (m : List ℕ). m ++ c ∷ k) at.2 ∙ append_assoc at.0 (b ∷ at.1) (c ∷ k) in
@@ -66,7 +66,7 @@ module _ {l : List ℕ} (distinct : IsDistinct l) where
 
 module _ {State Op Reply : Type 0} (p : Problem State Op Reply) where
   -- what returned before a call of a run was called stands in front of it
-  before_front : (l : List ℕ) → IsRun p l → (a b : ℕ) → Before p a b → (early late : List ℕ) → l ≡ early ++ b ∷ late → In a early
+  pub before_front : (l : List ℕ) → IsRun p l → (a b : ℕ) → Before p a b → (early late : List ℕ) → l ≡ early ++ b ∷ late → In a early
   before_front l run a b before early late eq = elim (run.ordered early b late eq a before) [
     | inl q ↦ absurd (let x = has_none (length p.calls) a in cc)
     | inr q ↦ q
@@ -148,7 +148,7 @@ module _ {State Op Reply : Type 0} (p : Problem State Op Reply) where
     changed = k.changed;
   }
 
-  owner_front : (l : List ℕ) (w y : ℕ) → Owned l w y → Front l w y
+  pub owner_front : (l : List ℕ) (w y : ℕ) → Owned l w y → Front l w y
   owner_front l w y k = (k.front ++ w ∷ k.since, k.late, k.place, in_late w k.front (w ∷ k.since) (inl refl))
 
   -- ---- between a call and its owner

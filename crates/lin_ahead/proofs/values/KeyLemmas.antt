@@ -17,7 +17,7 @@ use Rattle.lin_object.specs.Pairs.{value_at, reply_to_lookup, with_value, withou
 use Rattle.lin_object.specs.Kinds.{after}
 use Rattle.lin_object.specs.Kinds.Map.{HasKeysInOrder, MapLaw, map_step}
 use Rattle.lin_object.specs.Kinds.Register.{register_step}
-use Rattle.lin_object.specs.StepLemmas.{state_same}
+use Rattle.lin_object.specs.StepLemmas.{state_same, state_refl}
 use Rattle.lin_object.specs.contracts.reply.ReplyPartialEq.TheImpl.{eq-value as reply_eq}
 use Rattle.lin_object.specs.contracts.state.ObjStatePartialEq.TheImpl.{eq-value as state_eq}
 use Rattle.lin_history.specs.declared.problems.problem.ProblemCall.{ProblemCall}
@@ -35,6 +35,7 @@ use Rattle.lin_ahead.specs.declared.values.rows.ValuesAhead.{ValuesAhead}
 use Rattle.lin_history.specs.Problems.AnyProblem.{any_problem}
 use Rattle.lin_ahead.specs.Behind.{IsRightOfValues}
 use Rattle.lin_ahead.specs.Values.Owners.{Leaves, AllLeave, LastChange, IsOwnedBy}
+use Rattle.lin_ahead.specs.Values.Stranded.{FindsOneState}
 use Rattle.lin_ahead.specs.Values.ValueCalls.{AreRowsOf}
 use Rattle.lin_ahead.specs.Values.ToldOfRegister.{IsToldOfRegister}
 use Rattle.lin_ahead.specs.Values.KeyValue.{key_at, is_on, are_on, on_this_key, of_one_key, op_on_value, reply_on_value, returned_on_value, call_on_value, on_value}
@@ -385,6 +386,28 @@ module _ (law : MapLaw after state_eq.it) where
           | inr q ↦ inr (q.0, all_leave_map early [] P.start (Register NOTHING) two.0 at_start two.1 q.1)
         ]
 
+    -- ---- states that are found
+
+    -- a list of calls leaves the other keys as they are
+    shown_others : (l : List ℕ) (pairs : List Pair) (s t u : ObjState) → Shows k pairs s t → Legal P s l u → (end : ObjState) × Legal Q t l end × ((last : List Pair) × Shows k last u end × ((key : ℤ) → int_eq k key ≡ false → value_at key last ≡ value_at key pairs))
+    shown_others [] pairs s t u shows legal = (t, refl, (pairs, subst (λ (z : ObjState). Shows k pairs z t) legal shows, λ key other. refl))
+    shown_others (c ∷ cs) pairs s t u shows (m, step, more) =
+        let one = follows pairs s t m c shows step in
+        let rest = shown_others cs one.behind m one.to u one.shows more in
+        (rest.0, (one.to, one.step, rest.1), (rest.2.0, rest.2.1, λ key other. rest.2.2 key other ∙ one.others key other))
+
+    -- a call that can follow one state of the register alone can follow one of the map alone
+    pub found_on_map : (g : ℕ) → FindsOneState Q g → FindsOneState P g
+    found_on_map g found s t one two can can_too =
+        let a = shown_others one.0 [] P.start (Register NOTHING) s at_start one.1 in
+        let b = shown_others two.0 [] P.start (Register NOTHING) t at_start two.1 in
+        let x = follows a.2.0 s a.0 can.0 g a.2.1 can.1 in
+        let y = follows b.2.0 t b.0 can_too.0 g b.2.1 can_too.1 in
+        let same : a.0 ≡ b.0 = found a.0 b.0 (one.0, a.1) (two.0, b.1) (x.to, x.step) (y.to, y.step) in
+        state_same s t
+        (same_map b.2.0 a.2.0 t s b.0 a.0 b.2.1 a.2.1 (λ key other. a.2.2 key other ∙ sym (b.2.2 key other))
+        (subst (λ (z : ObjState). state_eq.it a.0 z ≡ true) same (state_refl a.0)))
+
     -- what is right for the register is right for the map
     pub right_on_map : (ahead : ValuesAhead) → IsRightOfValues Q ahead → IsRightOfValues P ahead
     right_on_map ahead right = record {
@@ -394,6 +417,7 @@ module _ (law : MapLaw after state_eq.it) where
         needed = λ a b m n there here below other l whole early late eq. right.needs.needed a b m n there here below other l (of_value l whole) early late eq;
       };
       owners = λ g row there is. owned_on_map row.calls.items row.at_start g (right.owners g row there is);
+      found = λ g row there is. found_on_map g (right.found g row there is);
       in_vain = λ is l whole. right.in_vain is l (of_value l whole);
     }
 

@@ -13,7 +13,7 @@ use Rattle.lin_search.specs.AlikeLemmas.{AreAlike}
 use Rattle.lin_ahead.specs.First.FirstProgress.{BeginsNone}
 use Rattle.lin_ahead.specs.Values.Owners.{Leaves, AllLeave, LastChange}
 use Rattle.lin_ahead.specs.Values.Due.{IsDue}
-use Rattle.lin_ahead.specs.Values.Stranded.{Reached, FindsOneState, IsLeftTo, IsOfCluster, AreCrossed, IsParted, AreStranded}
+use Rattle.lin_ahead.specs.Values.Stranded.{Reached, FindsOneState, IsLeftTo, IsOfCluster, AreOfCluster, AreCrossed, IsParted, AreStranded}
 use Rattle.lin_ahead.proofs.first.NeedsLemmas.{joined, stands}
 use Rattle.lin_ahead.proofs.values.ClusterLemmas.{Front, front_here, front_either, front_both, Changed, Owned, Member, owned_at, owner_changed, in_owners_front, none_changed, start_unchanged, none_cross, none_between}
 
@@ -84,22 +84,22 @@ module _ {State Op Reply : Type 0} (p : Problem State Op Reply) (exact : (a b : 
     owner_changes w y (inl e) other = absurd (other e)
     owner_changes w y (inr left) other = owner_changed p l w y (left_owned w y left)
 
-    one_changes : (w x y : ℕ) → IsOfCluster p set c w x → IsOfCluster p set c w y → (x ≢ w) ⊎ (y ≢ w) → Changed p l w
-    one_changes w x y of_x of_y (inl other) = owner_changes w x of_x other
-    one_changes w x y of_x of_y (inr other) = owner_changes w y of_y other
+    one_changes : (w x y : ℕ) → AreOfCluster p set c w x y → Changed p l w
+    one_changes w x y (of_x, of_y, inl other) = owner_changes w x of_x other
+    one_changes w x y (of_x, of_y, inr other) = owner_changes w y of_y other
 
     crossed : AreCrossed p set c → ⊥
     crossed k =
         none_cross p exact l run k.writer k.other k.first k.last k.early k.late
         (record { other = k.different; one = k.there; two = k.back })
-        (one_changes k.writer k.first k.last k.of_first k.of_last k.owned)
-        (one_changes k.other k.early k.late k.of_early k.of_late k.owned_too)
-        (member k.writer k.first k.of_first) (member k.writer k.last k.of_last) (member k.other k.early k.of_early) (member k.other k.late k.of_late)
+        (one_changes k.writer k.first k.last k.one)
+        (one_changes k.other k.early k.late k.two)
+        (member k.writer k.first k.one.0) (member k.writer k.last k.one.1) (member k.other k.early k.two.0) (member k.other k.late k.two.1)
 
     parted : IsParted p set s c → ⊥
     parted k =
-        let last = left_owned k.writer k.last k.left in
-        none_between p exact l run k.writer k.first k.last k.between (owner_changed p l k.writer k.last last) (member k.writer k.first k.of_first) (inr last) k.there k.back
+        let last = left_owned k.writer k.last k.stands.3 in
+        none_between p exact l run k.writer k.first k.last k.between (owner_changed p l k.writer k.last last) (member k.writer k.first k.stands.2) (inr last) k.stands.0 k.stands.1
         (λ a reached can leaves. k.changes (subst (λ (m : State). Leaves p m k.between) (k.found a s reached (before, legal) can k.here) leaves))
 
   -- no completion begins with a call that strands others

@@ -31,6 +31,7 @@ use Rattle.lin_ahead.proofs.items.RowLemmas.{through, seen_through}
 use Rattle.lin_ahead.proofs.values.PairLemmas.{Both, both_are, both_told, both_at, or_left, or_right}
 use Rattle.lin_object.specs.StepLemmas.{state_same}
 use Rattle.lin_ahead.proofs.values.OwnerLemmas.{are_owners}
+use Rattle.lin_ahead.proofs.values.FoundStateLemmas.{find_one_state}
 use Rattle.lin_ahead.proofs.values.ValueLemmas.{from_nobody, single_told, single_is, called_there, within, by_of_call, from_of_call, by_least, from_greatest, are_cluster_numbers, of_any_register}
 
 -- an element of a list that passes a test
@@ -235,6 +236,7 @@ module _ {Object : Type 0} (p : ProblemParts Object ObjState Op Reply) where
   register_right start e ahead rows = record {
     needs = clusters_need (of_any_register p start e) ahead.needs (are_cluster_numbers (any_problem p) start ahead.needs rows.by rows.from);
     owners = are_owners (of_any_register p start e) state_same ahead.owners.items rows.owners;
+    found = find_one_state (of_any_register p start e) ahead.owners.items rows.owners;
     in_vain = λ is. in_vain (any_problem p) start (of_any_register p start e) (in_vain_is (any_problem p) start (sym rows.in_vain ∙ is));
   }
 

@@ -27,7 +27,11 @@ IsLeftTo p set c w y = IsDue p set (Some w) y × (y ≢ c)
 abbrev pub IsOfCluster : {State Op Reply : Type 0} → Problem State Op Reply → List Bool → ℕ → ℕ → ℕ → Type 0
 IsOfCluster p set c w y = (y ≡ w) ⊎ IsLeftTo p set c w y
 
--- Two clusters cross: a call of the one returned before one of the other was called, and the other way round. In each a call is owned.
+-- Both calls are of the cluster of w, and one of them will be owned by it: so it changes the state.
+abbrev pub AreOfCluster : {State Op Reply : Type 0} → Problem State Op Reply → List Bool → ℕ → ℕ → ℕ → ℕ → Type 0
+AreOfCluster p set c w x y = IsOfCluster p set c w x × IsOfCluster p set c w y × ((x ≢ w) ⊎ (y ≢ w))
+
+-- Two clusters cross: a call of the one returned before one of the other was called, and the other way round.
 pub record AreCrossed {State Op Reply : Type 0} (p : Problem State Op Reply) (set : List Bool) (c : ℕ) : Type 0 where
   pub writer : ℕ
   pub other : ℕ
@@ -36,28 +40,25 @@ pub record AreCrossed {State Op Reply : Type 0} (p : Problem State Op Reply) (se
   pub early : ℕ
   pub late : ℕ
   pub different : writer ≢ other
-  pub of_first : IsOfCluster p set c writer first
-  pub of_last : IsOfCluster p set c writer last
-  pub of_early : IsOfCluster p set c other early
-  pub of_late : IsOfCluster p set c other late
-  pub owned : (first ≢ writer) ⊎ (last ≢ writer)
-  pub owned_too : (early ≢ other) ⊎ (late ≢ other)
+  pub one : AreOfCluster p set c writer first last
+  pub two : AreOfCluster p set c other early late
   pub there : Before p first early
   pub back : Before p late last
 
--- A call stands between two of a cluster in real time that does not leave the state which the second one found, the one at hand.
+-- A call stands between two of a cluster in real time, of which w will own the second one.
+abbrev pub StandsBetween : {State Op Reply : Type 0} → Problem State Op Reply → List Bool → ℕ → ℕ → ℕ → ℕ → ℕ → Type 0
+StandsBetween p set c w first last x = Before p first x × Before p x last × IsOfCluster p set c w first × IsLeftTo p set c w last
+
+-- And it does not leave the state at hand, which the second one found.
 pub record IsParted {State Op Reply : Type 0} (p : Problem State Op Reply) (set : List Bool) (s : State) (c : ℕ) : Type 0 where
   pub writer : ℕ
   pub first : ℕ
   pub last : ℕ
   pub between : ℕ
-  pub of_first : IsOfCluster p set c writer first
-  pub left : IsLeftTo p set c writer last
+  pub stands : StandsBetween p set c writer first last between
   pub found : FindsOneState p last
   pub here : CanFollow p s last
   pub changes : Changes p s between
-  pub there : Before p first between
-  pub back : Before p between last
 
 -- Calls are stranded once call c changes the state.
 abbrev pub AreStranded : {State Op Reply : Type 0} → Problem State Op Reply → List Bool → State → ℕ → Type 0

@@ -31,7 +31,7 @@ pub(crate) struct Next<'a> {
 }
 
 // The state after the call, where it has a step whose reply is the recorded one.
-fn state_after<O: SeqObject>(
+pub(crate) fn state_after<O: SeqObject>(
     alloc: Global,
     problem: &Problem<O>,
     state: &O::State,
@@ -68,7 +68,7 @@ fn has_no_step(
 }
 
 // Whether the call does not leave the state as it is.
-fn changes(
+pub(crate) fn changes(
     alloc: Global,
     problem: &Problem<AnyObject>,
     state: &ObjState,
@@ -116,7 +116,7 @@ fn is_completed(problem: &Problem<AnyObject>, call: usize) -> bool
 }
 
 // Whether the call is due once this one is lifted, if there is one.
-fn is_due(
+pub(crate) fn is_due(
     problem: &Problem<AnyObject>,
     owners: &[Owners],
     config: &Config<AnyObject>,
