@@ -12,6 +12,7 @@
 pub(crate) mod breaking_calls;
 pub(crate) mod call_values;
 pub(crate) mod calls_left;
+pub(crate) mod clusters;
 pub(crate) mod due;
 pub(crate) mod due_rules;
 pub(crate) mod each_value;
