@@ -70,9 +70,8 @@ fn add_to_cluster(
     let Some(owner) = forced_by(&owners[call]) else {
         return;
     };
-    if owner < numbers.len() {
-        let numbers = numbers.as_mut_slice();
-        numbers[owner] = with_both(numbers[owner], calls, owner, call);
+    if let Some(slot) = numbers.get_mut(owner) {
+        *slot = with_both(*slot, calls, owner, call);
     }
 }
 
