@@ -5,7 +5,6 @@ pub mod FoundStateLemmas
 pub mod NarrowLemmas
 pub mod RegisterLemmas
 pub mod OwnerLemmas
-pub mod ValueLemmas
 pub mod PairLemmas
 pub mod VainLemmas
 pub mod KeyLemmas

@@ -1,5 +1,5 @@
 -- What is told ahead of a problem: all that the calls of its kind tell by real time (this project's own).
-use Rattle.std.specs.Prelude.{◌≡◌, ◌⊎◌, ℕ, ℤ, Option, []}
+use Rattle.std.specs.Prelude.{◌≡◌, ◌⊎◌, ℕ, ℤ, Option, [], map}
 use Rattle.lin_object.specs.declared.op.Op.{Op}
 use Rattle.lin_object.specs.declared.reply.Reply.{Reply}
 use Rattle.lin_object.specs.declared.state.ObjState.{ObjState}
@@ -10,7 +10,7 @@ use Rattle.lin_ahead.specs.declared.values.key_value.TheConstants.{NOTHING}
 use Rattle.lin_ahead.specs.declared.look_ahead.KnownAhead.{KnownAhead}
 use Rattle.lin_ahead.specs.declared.look_ahead.KnownAhead.TheVariants as kinds
 use Rattle.lin_ahead.specs.declared.values.rows.ValuesAhead.{ValuesAhead}
-use Rattle.lin_ahead.specs.Values.KeyValue.{on_value}
+use Rattle.lin_ahead.specs.Values.KeyValue.{call_on_value}
 use Rattle.lin_ahead.specs.Queues.ToldOfQueue.{IsToldOfQueue}
 use Rattle.lin_ahead.specs.Stacks.ToldOfStack.{IsToldOfStack}
 use Rattle.lin_ahead.specs.Values.ToldOfRegister.{IsToldOfRegister}
@@ -19,7 +19,7 @@ use Rattle.lin_ahead.specs.Mutexes.MutexAhead.{IsToldOfMutex}
 
 -- Of values: what the calls of a register tell, or those of a map that starts empty, as calls of a register that holds the key's value.
 abbrev pub IsToldOfValues : {Object : Type 0} → ProblemParts Object ObjState Op Reply → ValuesAhead → Type 0
-IsToldOfValues p ahead = ((v : ℤ) × (p.start ≡ Register v) × IsToldOfRegister (any_problem p) v ahead) ⊎ ((p.start ≡ Map []) × IsToldOfRegister (any_problem (on_value p)) NOTHING ahead)
+IsToldOfValues p ahead = ((v : ℤ) × (p.start ≡ Register v) × IsToldOfRegister v p.calls ahead) ⊎ ((p.start ≡ Map []) × IsToldOfRegister NOTHING (map call_on_value p.calls) ahead)
 
 -- It is told of the kind with which the problem starts.
 abbrev pub IsToldAhead : {Object : Type 0} → ProblemParts Object ObjState Op Reply → KnownAhead → Type 0

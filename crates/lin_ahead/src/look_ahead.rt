@@ -8,7 +8,7 @@ ghost use Rattle.lin_ahead.specs.Behind.{AreOtherNeeds, IsRightAhead};
 ghost use Rattle.lin_ahead.specs.ToldAhead.{IsToldAhead};
 ghost use Rattle.lin_ahead.specs.declared.values.key_value.TheConstants.{NOTHING};
 ghost use Rattle.lin_ahead.specs.Values.KeyValue.{call_on_value, of_one_key};
-ghost use Rattle.lin_ahead.specs.Values.ValueCalls.{AreRowsOf};
+ghost use Rattle.lin_ahead.specs.Values.ToldOfRegister.{IsToldOfRegister};
 ghost use Rattle.lin_history.specs.Problems.AnyProblem.{any_problem};
 
 use crate::counters::rows::{SumRows, told_of_counter};
@@ -85,7 +85,7 @@ fn told_of_key(
     calls: &[ProblemCall<Op, Reply>],
 ) -> Result<Option<ValuesAhead>, AllocError>
     ensures rows { IfOk result (λ known. IfSome known
-        (AreRowsOf NOTHING (map call_on_value calls.now))) }
+        (IsToldOfRegister NOTHING (map call_on_value calls.now))) }
     ensures when { IfOk result (λ known. IsSome known ↔ IsTrue (of_one_key calls.now)) }
 {
     if !of_one_key(calls) {

@@ -36,12 +36,11 @@ use Rattle.lin_history.specs.Problems.AnyProblem.{any_problem}
 use Rattle.lin_ahead.specs.Behind.{IsRightOfValues}
 use Rattle.lin_ahead.specs.Values.Owners.{Leaves, AllLeave, LastChange, IsOwnedBy}
 use Rattle.lin_ahead.specs.Values.Stranded.{FindsOneState}
-use Rattle.lin_ahead.specs.Values.ValueCalls.{AreRowsOf}
 use Rattle.lin_ahead.specs.Values.ToldOfRegister.{IsToldOfRegister}
 use Rattle.lin_ahead.specs.Values.KeyValue.{key_at, is_on, are_on, on_this_key, of_one_key, op_on_value, reply_on_value, returned_on_value, call_on_value, on_value}
 use Rattle.lin_history.specs.ReplyLemmas.{reply_same}
 use Rattle.lin_ahead.proofs.items.RowLemmas.{through, seen_through}
-use Rattle.lin_ahead.proofs.values.VainLemmas.{register_right, register_told}
+use Rattle.lin_ahead.proofs.values.VainLemmas.{register_right}
 
 -- ---- one step
 
@@ -431,14 +430,10 @@ on_one_key calls e = go (key_at (slice_get calls 0)) e
 
 module _ (law : MapLaw after state_eq.it) {Object : Type 0} (p : ProblemParts Object ObjState Op Reply) where
   -- what is known ahead of a map whose calls are on one key is right
-  pub key_right : p.start ≡ Map [] → of_one_key p.calls ≡ true → (ahead : ValuesAhead) → AreRowsOf NOTHING (map call_on_value p.calls) ahead → IsRightOfValues (any_problem p) ahead
+  pub key_right : p.start ≡ Map [] → of_one_key p.calls ≡ true → (ahead : ValuesAhead) → IsToldOfRegister NOTHING (map call_on_value p.calls) ahead → IsRightOfValues (any_problem p) ahead
   key_right start one ahead rows =
       let k = on_one_key p.calls one in
       right_on_map law p k.0 start k.1 ahead (register_right (on_value p) NOTHING refl ahead rows)
-
--- and all is told
-pub key_told : {Object : Type 0} (p : ProblemParts Object ObjState Op Reply) (ahead : ValuesAhead) → AreRowsOf NOTHING (map call_on_value p.calls) ahead → IsToldOfRegister (any_problem (on_value p)) NOTHING ahead
-key_told p ahead rows = register_told (on_value p) NOTHING ahead rows
 
 -- a state that equals an empty map is one
 pub empty_map : (s t : ObjState) (b : Bool) → b ≡ state_eq.it s t → t ≡ Map [] → IsTrue b ↔ (s ≡ Map [])

@@ -1,38 +1,44 @@
 -- What is known ahead of a register is right, and all is told: with the cases in which it shows that there is no linearization.
-use Rattle.std.proofs.Common.{◌≡◌, ◌≢◌, ◌⊎◌, inl, inr, ℕ, zero, suc, ◌+◌, ◌<◌, ◌≤◌, ◌^◌, Bool, true, false, min, Option, Some, None, List, [], ◌∷◌, length, refl, sym, ◌∙◌, ap, subst, arith, ◌||◌}
-use Rattle.std.specs.Prelude.{ℤ, nat_lt, slice_get}
-use Rattle.std.specs.Ordering.{int_eq}
+use Rattle.std.proofs.Common.{◌≡◌, ◌≢◌, ◌⊎◌, inl, inr, ℕ, zero, suc, ◌<◌, ◌≤◌, ◌^◌, Bool, true, false, not, Option, Some, None, List, [], ◌∷◌, length, refl, sym, ◌∙◌, ap, subst, arith, ◌||◌, ◌&&◌, nat_eq, true≢false}
+use Rattle.std.specs.Prelude.{ℤ, nat_lt, slice_get, map, IsSomeAnd, IsTrue}
 use Rattle.std.specs.List.{list_any}
-use Rattle.std.specs.Cmp.{signed_Decides}
-use Rattle.std.proofs.lemmas.Bool.{ltb-true, lt-ltb}
+use Rattle.std.proofs.lemmas.Option.{slice_get_within, slice_get-get_or}
 use Rattle.std.proofs.lemmas.List.{length-map}
+use lib.ListN.{get_or}
+use Rattle.std.proofs.lemmas.Bool.Decides.{eqb_tells}
 use Rattle.lin_object.specs.declared.op.Op.{Op}
 use Rattle.lin_object.specs.declared.reply.Reply.{Reply}
 use Rattle.lin_object.specs.declared.state.ObjState.{ObjState}
 use Rattle.lin_object.specs.declared.state.ObjState.TheVariants.{Register}
+use Rattle.lin_object.specs.StepLemmas.{state_same}
 use Rattle.lin_history.specs.declared.problems.problem.ProblemCall.{ProblemCall}
+use Rattle.lin_history.specs.OptionLemmas.{some_and, and_some}
 use Rattle.lin_history.specs.Problems.ProblemParts.{ProblemParts}
 use Rattle.lin_history.specs.Problems.Problem.{Problem}
-use Rattle.lin_history.specs.Problems.Linearizations.{IsLinearization}
-use Rattle.lin_ahead.specs.declared.items.item_calls.Callers.{Callers}
-use Rattle.lin_ahead.specs.declared.items.item_calls.Callers.TheVariants.{Nobody, One, Several}
-use Rattle.lin_ahead.specs.declared.items.item_calls.TheConstants.{BEYOND}
-use Rattle.lin_ahead.specs.declared.values.rows.ValuesAhead.{ValuesAhead}
 use Rattle.lin_history.specs.Problems.AnyProblem.{any_problem}
-use Rattle.lin_ahead.specs.Behind.{IsRightOfValues}
-use Rattle.lin_ahead.specs.Items.Numbers.{CalledFrom}
-use Rattle.lin_ahead.specs.Values.Register.{IsOfRegister, value_written, value_found, MayWrite, Finds, IsSingle, IsClusterBy, IsClusterFrom, FoundNowhere, FoundTooLate, NeedsByNumbers, NeedEachOther}
-use Rattle.lin_ahead.specs.Values.NeededPairs.{need_each_other, some_pair}
+use Rattle.lin_history.specs.Problems.Lists.{In}
+use Rattle.lin_history.specs.Problems.Precedence.{Before}
+use Rattle.lin_history.specs.Problems.Linearizations.{IsLinearization}
+use Rattle.lin_history.specs.Problems.Needs.{Needs, NeedNumbers}
+use Rattle.lin_ahead.specs.declared.values.owners.Owners.{Owners}
+use Rattle.lin_ahead.specs.declared.values.rows.ValuesAhead.{ValuesAhead}
 use Rattle.lin_ahead.specs.declared.values.needed_pairs.CallNumbers.{CallNumbers}
+use Rattle.lin_ahead.specs.Behind.{AreOtherNeeds, IsRightOfValues}
+use Rattle.lin_ahead.specs.Values.Register.{IsOfRegister}
+use Rattle.lin_ahead.specs.Values.NeededPairs.{need_each_other, some_pair}
+use Rattle.lin_ahead.specs.Values.Owners.{IsOwnedBy, AreOwners}
+use Rattle.lin_ahead.specs.Values.PossibleOwners.{AreOwnerRows}
+use Rattle.lin_ahead.specs.Values.TakenTwice.{IsSoleOwner, IsTakenTwice}
+use Rattle.lin_ahead.specs.Values.Clusters.{IsForced, OfCluster, Returned, CalledBy, IsClusterBy, IsClusterFrom, NeedsByNumbers, NeedEachOther, AreClusterNumbers, AreNumbersTo, FoundNowhere, is_nowhere}
 use Rattle.lin_ahead.specs.Values.ToldOfRegister.{IsToldOfRegister}
-use Rattle.lin_ahead.specs.Values.ValueCalls.{no_value_told, value_told, single_by, cluster_by, cluster_from, is_nowhere, found_nowhere, cluster_numbers, shows_in_vain, any_shows_in_vain, any_in_vain, cluster_numbers_row, AreRowsOf}
-use Rattle.lin_ahead.proofs.values.RegisterLemmas.{clusters_need, cluster_numbers_need, found_in_vain, start_in_vain, clusters_in_vain, before_of, completed_at}
-use Rattle.lin_ahead.proofs.items.RowLemmas.{through, seen_through}
+use Rattle.lin_ahead.proofs.first.NeedsLemmas.{stands}
+use Rattle.lin_ahead.proofs.items.RowLemmas.{through}
 use Rattle.lin_ahead.proofs.values.PairLemmas.{Both, both_are, both_told, both_at, or_left, or_right}
-use Rattle.lin_object.specs.StepLemmas.{state_same}
+use Rattle.lin_ahead.proofs.values.RegisterLemmas.{finds_completed, of_any_register}
 use Rattle.lin_ahead.proofs.values.OwnerLemmas.{are_owners}
 use Rattle.lin_ahead.proofs.values.FoundStateLemmas.{find_one_state}
-use Rattle.lin_ahead.proofs.values.ValueLemmas.{from_nobody, single_told, single_is, called_there, within, by_of_call, from_of_call, by_least, from_greatest, are_cluster_numbers, of_any_register}
+use Rattle.lin_ahead.proofs.values.ClusterLemmas.{Front, front_here, front_both, Changed, Owned, Member, owned_in, owner_changed, cluster_front}
+use Rattle.lin_ahead.proofs.values.TakenTwiceLemmas.{twice_in_vain}
 
 -- an element of a list that passes a test
 any_at : {A : Type 0} (test : A → Bool) (xs : List A) → list_any test xs ≡ true → (i : ℕ) × (x : A) × (slice_get xs i ≡ Some x) × (test x ≡ true)
@@ -76,173 +82,163 @@ pair_told (c ∷ cs) (suc i) zero x y other there here both =
 pair_told (c ∷ cs) (suc i) (suc j) x y other there here both =
     or_right (list_any (need_each_other c) cs) (some_pair cs) (pair_told cs i j x y (λ s. other (ap suc s)) there here both)
 
-module _ (p : Problem ObjState Op Reply) (start : ℤ) where
-  -- no call may write the value, and the register does not start with it
-  nowhere : (v : ℤ) → is_nowhere (value_told p.calls v).writers (int_eq v start) ≡ true → (v ≢ start) × ((a : ℕ) → MayWrite p a v → ⊥)
-  nowhere v e = elim (from_nobody no_value_told p.calls v refl) [
-    | inl q ↦ absurd (let f : is_nowhere Several (int_eq v start) ≡ true = rw q.0 at e in cc)
-    | inr (inl q) ↦ absurd (let f : is_nowhere One (int_eq v start) ≡ true = rw q.0 at e in cc)
-    | inr (inr q) ↦ ((λ same. (let is : int_eq v start ≡ true = (signed_Decides v start).1 same in let f : is_nowhere Nobody true ≡ true = rw (q.0, is) at e in cc)), q.1)
-  ]
+-- ---- the numbers of clusters
 
-  nowhere_told : (v : ℤ) → v ≢ start → ((a : ℕ) → MayWrite p a v → ⊥) → is_nowhere (value_told p.calls v).writers (int_eq v start) ≡ true
-  nowhere_told v other none = elim (from_nobody no_value_told p.calls v refl) [
-    | inl q ↦ absurd (none q.1.0 q.1.3)
-    | inr (inl q) ↦ absurd (none q.1.0 q.1.1)
-    | inr (inr q) ↦ ap (λ (w : Callers). is_nowhere w (int_eq v start)) q.0 ∙ at_start (int_eq v start) refl
-  ]
-    where
-      at_start : (b : Bool) → int_eq v start ≡ b → is_nowhere Nobody b ≡ true
-      at_start true e = absurd (other ((signed_Decides v start).0 e))
-      at_start false e = refl
+within_rows : (rows : List Owners) (w g : ℕ) → IsForced rows w g → g < length rows
+within_rows rows w g forced =
+    let row = some_and (slice_get rows g) (λ owners. IsSoleOwner owners (Some w)) forced in
+    slice_get_within rows g row.0 row.1
 
-  found_one_nowhere : (o : Option ℤ) → found_nowhere (value_told p.calls) start o ≡ true → (v : ℤ) × (o ≡ Some v) × (is_nowhere (value_told p.calls v).writers (int_eq v start) ≡ true)
-  found_one_nowhere None e = absurd (cc)
-  found_one_nowhere (Some v) e = (v, refl, e)
+module _ (calls : List (ProblemCall Op Reply)) (rows : List Owners) (numbers : List CallNumbers) (told : AreNumbersTo calls rows (length rows) numbers) where
+  by_least : (w : ℕ) (n : CallNumbers) → slice_get numbers w ≡ Some n → (k : ℕ) → k < 2 ^ 32 → IsClusterBy calls rows w k → n.by ≤ k
+  by_least w n there k few (inl many) = absurd (omega (arith, few, many))
+  by_least w n there k few (inr ((g, forced), (i, inl e, at))) = (told.covers w g n there (within_rows rows w g forced) forced).0.by k (subst (λ (c : ℕ). Returned calls c k) e at)
+  by_least w n there k few (inr ((g, forced), (i, inr is, at))) = (told.covers w i n there (within_rows rows w i is) is).1.by k at
 
-  -- the last call that found a single start value
-  abbrev Last : ℕ
-  Last = cluster_from (value_told p.calls) start (Some start)
+  from_greatest : (w : ℕ) (n : CallNumbers) → slice_get numbers w ≡ Some n → (k : ℕ) → IsClusterFrom calls rows w k → k ≤ n.from
+  from_greatest w n there k (inl none) = omega (arith, none)
+  from_greatest w n there k (inr (few, ((g, forced), (j, inl e, at)))) = (told.covers w g n there (within_rows rows w g forced) forced).0.from k few (subst (λ (c : ℕ). CalledBy calls k c) e at)
+  from_greatest w n there k (inr (few, ((g, forced), (j, inr is, at)))) = (told.covers w j n there (within_rows rows w j is) is).1.from k few at
 
-  last_of_start : (m : ℕ) → m < Last → IsSingle p start start × (m < 2 ^ 32) × ((g : ℕ) × Finds p g start × CalledFrom p (m + 1) g)
-  last_of_start m below = go (single_by (value_told p.calls) start start) refl
-    where
-      at : IsSingle p start start → m < min BEYOND (value_told p.calls start).called → IsSingle p start start × (m < 2 ^ 32) × ((g : ℕ) × Finds p g start × CalledFrom p (m + 1) g)
-      at single less = elim (called_there no_value_told p.calls start) [
-        | inl q ↦ absurd (omega (arith, less, q))
-        | inr (j, x, there, inl writes, number) ↦ absurd (single.fresh refl j (x, there, writes))
-        | inr (j, x, there, inr found, number) ↦ (single, omega (arith, less), (j, (x, there, found), (let h : m + 1 ≤ x.called = omega (arith, less, number) in rw there h)))
-      ]
+  pub are_cluster_numbers : (needs : NeedNumbers) → needs.by ≡ map (λ (n : CallNumbers). n.by) numbers → needs.from ≡ map (λ (n : CallNumbers). n.from) numbers → AreClusterNumbers calls rows needs
+  are_cluster_numbers needs by from = record {
+    each_by = ap length by ∙ length-map numbers (λ n. n.by) ∙ told.each;
+    each_from = ap length from ∙ length-map numbers (λ n. n.from) ∙ told.each;
+    by = λ a m there. (
+        let n = through (λ (x : CallNumbers). x.by) numbers a m (rw by at there) in (
+        subst (λ (k : ℕ). IsClusterBy calls rows a k) n.2 (told.by a n.0 n.1),
+        λ k few is. subst (λ (x : ℕ). x ≤ k) n.2 (by_least a n.0 n.1 k few is)));
+    from = λ b m there. (
+        let n = through (λ (x : CallNumbers). x.from) numbers b m (rw from at there) in (
+        subst (λ (k : ℕ). IsClusterFrom calls rows b k) n.2 (told.from b n.0 n.1),
+        λ k is. subst (λ (x : ℕ). k ≤ x) n.2 (from_greatest b n.0 n.1 k is)));
+  }
 
-      go : (b : Bool) → single_by (value_told p.calls) start start ≡ b → IsSingle p start start × (m < 2 ^ 32) × ((g : ℕ) × Finds p g start × CalledFrom p (m + 1) g)
-      go true e = at (single_is p start start e) (rw e at below)
-      go false e = absurd (let f : m < 0 = rw e at below in omega (arith, f))
-
-  is_last : (m g : ℕ) → IsSingle p start start → Finds p g start → m < 2 ^ 32 → CalledFrom p (m + 1) g → m < Last
-  is_last m g single (x, there, found) few called =
-      let is = single_told p start start single in
-      let from : m + 1 ≤ x.called = rw there at called in
-      let most : x.called ≤ (value_told p.calls start).called = (within no_value_told p.calls start g x there (inr found)).called in
-      let less : m < min BEYOND (value_told p.calls start).called = omega (arith, few, from, most) in
-      rw is less
-
-  -- the numbers of a call
-  abbrev numbers : ProblemCall Op Reply → CallNumbers
-  numbers x = cluster_numbers (value_told p.calls) start (value_written x.op x.returned)
-
-  abbrev Shown : Type 0
-  Shown = FoundNowhere p start ⊎ (FoundTooLate p start ⊎ NeedEachOther p start)
-
-  shown_is : any_shows_in_vain (value_told p.calls) start p.calls ≡ true → Shown
-  shown_is e =
-      let k = any_at (shows_in_vain (value_told p.calls) start Last) p.calls e in
-      elim (either (found_nowhere (value_told p.calls) start (value_found k.1.op k.1.returned)) (nat_lt (cluster_by (value_told p.calls) start (value_written k.1.op k.1.returned)) Last) k.3) [
-        | inl q ↦ (
-            let found = found_one_nowhere (value_found k.1.op k.1.returned) q in
-            let none = nowhere found.0 found.2 in
-            inl (k.0, found.0, (k.1, k.2, found.1), none.0, none.1))
-        | inr q ↦ (
-            let m : ℕ = cluster_by (value_told p.calls) start (value_written k.1.op k.1.returned) in
-            let last = last_of_start m (ltb-true m Last q) in
-            inr (inl (last.0, (last.2.0, k.0, m, last.2.1, last.1, by_of_call p start k.0 k.1 k.2 (value_written k.1.op k.1.returned) refl, last.2.2))))
-      ]
-
-  pair_is : some_pair (cluster_numbers_row (value_told p.calls) start p.calls) ≡ true → NeedEachOther p start
+  pub pair_is : some_pair numbers ≡ true → NeedEachOther calls rows
   pair_is e =
-      let k = pair_there (cluster_numbers_row (value_told p.calls) start p.calls) e in
-      let a = through numbers p.calls k.0 k.2 k.5 in
-      let b = through numbers p.calls k.1 k.3 k.6 in
-      let both : Both (numbers a.0) (numbers b.0) = both_at k.2 k.3 (numbers a.0) (numbers b.0) (sym a.2) (sym b.2) k.7 in (
+      let k = pair_there numbers e in
+      let both : Both k.2 k.3 = k.7 in (
         k.0,
         k.1,
         k.4,
-        ((numbers a.0).by, (numbers b.0).from, by_of_call p start k.0 a.0 a.1 (value_written a.0.op a.0.returned) refl, from_of_call p start k.1 b.0 b.1 (value_written b.0.op b.0.returned) refl, both.0),
-        ((numbers b.0).by, (numbers a.0).from, by_of_call p start k.1 b.0 b.1 (value_written b.0.op b.0.returned) refl, from_of_call p start k.0 a.0 a.1 (value_written a.0.op a.0.returned) refl, both.1),
+        (let w = slice_get_within numbers k.0 k.2 k.5 in let same = told.each in omega (arith, w, same)),
+        (let w = slice_get_within numbers k.1 k.3 k.6 in let same = told.each in omega (arith, w, same)),
+        (k.2.by, k.3.from, told.by k.0 k.2 k.5, told.from k.1 k.3 k.6, both.0),
+        (k.3.by, k.2.from, told.by k.1 k.3 k.6, told.from k.0 k.2 k.5, both.1),
       )
 
-  in_vain_is : any_in_vain (value_told p.calls) start p.calls ≡ true → Shown
-  in_vain_is e = elim (either (any_shows_in_vain (value_told p.calls) start p.calls) (some_pair (cluster_numbers_row (value_told p.calls) start p.calls)) e) [
-    | inl q ↦ shown_is q
-    | inr q ↦ inr (inr (pair_is q))
-  ]
+  number_of : (a : ℕ) → a < length calls → (n : CallNumbers) × (slice_get numbers a ≡ Some n)
+  number_of a less =
+      let nothing : CallNumbers = record { by = 0; from = 0 } in
+      (get_or numbers a nothing, slice_get-get_or numbers a nothing (let same = told.each in omega (arith, less, same)))
 
-  writer : (a m : ℕ) → IsClusterBy p start a m → (2 ^ 32 ≤ m) ⊎ ((x : ProblemCall Op Reply) × (slice_get p.calls a ≡ Some x))
-  writer a m (inl many) = inl many
-  writer a m (inr (u, write, single, rest)) = inr (write.0, write.1)
-
-  few_from : (b n : ℕ) → IsClusterFrom p start b n → n ≤ 2 ^ 32
+  few_from : (b n : ℕ) → IsClusterFrom calls rows b n → n ≤ 2 ^ 32
   few_from b n (inl none) = omega (arith, none)
   few_from b n (inr (few, rest)) = few
 
-  -- a number that tells a need is that of an event
-  event_by : (a b m n : ℕ) → IsClusterFrom p start b n → m < n → m < 2 ^ 32
-  event_by a b m n from less = (let few = few_from b n from in omega (arith, few, less))
-
-  needing : (a b : ℕ) → NeedsByNumbers p start a b → (x : ProblemCall Op Reply) × (slice_get p.calls a ≡ Some x)
-  needing a b (m, n, by, from, less) = elim (writer a m by) [
-    | inl many ↦ absurd (let few = event_by a b m n from less in omega (arith, few, many))
-    | inr q ↦ q
-  ]
-
-  needs_less : (a b : ℕ) (x y : ProblemCall Op Reply) → slice_get p.calls a ≡ Some x → slice_get p.calls b ≡ Some y → NeedsByNumbers p start a b → (numbers x).by < (numbers y).from
-  needs_less a b x y there here (m, n, by, from, less) =
-      let least = by_least p start a x there m (event_by a b m n from less) by in
-      let greatest = from_greatest p start b y here n from in
+  less_by : (a b : ℕ) (x y : CallNumbers) → slice_get numbers a ≡ Some x → slice_get numbers b ≡ Some y → NeedsByNumbers calls rows a b → x.by < y.from
+  less_by a b x y there here (m, n, by, from, less) =
+      let few = few_from b n from in
+      let least = by_least a x there m (omega (arith, few, less)) by in
+      let greatest = from_greatest b y here n from in
       omega (arith, least, greatest, less)
 
-  pair_shown : NeedEachOther p start → some_pair (cluster_numbers_row (value_told p.calls) start p.calls) ≡ true
-  pair_shown (a, b, other, one, two) =
-      let x = needing a b one in
-      let y = needing b a two in
-      pair_told (cluster_numbers_row (value_told p.calls) start p.calls) a b (numbers x.0) (numbers y.0) other (seen_through numbers p.calls a x.0 x.1) (seen_through numbers p.calls b y.0 y.1) (needs_less a b x.0 y.0 x.1 y.1 one, needs_less b a y.0 x.0 y.1 x.1 two)
+  pub pair_shown : NeedEachOther calls rows → some_pair numbers ≡ true
+  pair_shown (a, b, other, is, too, one, two) =
+      let x = number_of a is in
+      let y = number_of b too in
+      pair_told numbers a b x.0 y.0 other x.1 y.1 (less_by a b x.0 y.0 x.1 y.1 one, less_by b a y.0 x.0 y.1 x.1 two)
 
-  shown_told : FoundNowhere p start ⊎ FoundTooLate p start → any_shows_in_vain (value_told p.calls) start p.calls ≡ true
-  shown_told (inl (g, u, (x, there, found), other, none)) =
-      passes_at (shows_in_vain (value_told p.calls) start Last) p.calls g x there
-      (ap (λ (b : Bool). b || nat_lt (cluster_by (value_told p.calls) start (value_written x.op x.returned)) Last) (ap (λ (o : Option ℤ). found_nowhere (value_told p.calls) start o) found ∙ nowhere_told u other none))
-  shown_told (inr (single, (g, a, m, found, few, by, called))) = elim (writer a m by) [
-    | inl many ↦ absurd (omega (arith, many, few))
-    | inr (x, there) ↦ (
-        let least = by_least p start a x there m few by in
-        let last = is_last m g single found few called in
-        passes_at (shows_in_vain (value_told p.calls) start Last) p.calls a x there
-        (or_true (found_nowhere (value_told p.calls) start (value_found x.op x.returned)) (nat_lt (cluster_by (value_told p.calls) start (value_written x.op x.returned)) Last)
-        (lt-ltb (cluster_by (value_told p.calls) start (value_written x.op x.returned)) Last (omega (arith, least, last)))))
-  ]
+-- ---- what is nowhere
 
-  in_vain_told : Shown → any_in_vain (value_told p.calls) start p.calls ≡ true
-  in_vain_told (inl nowhere) = or_left (any_shows_in_vain (value_told p.calls) start p.calls) (some_pair (cluster_numbers_row (value_told p.calls) start p.calls)) (shown_told (inl nowhere))
-  in_vain_told (inr (inl late)) = or_left (any_shows_in_vain (value_told p.calls) start p.calls) (some_pair (cluster_numbers_row (value_told p.calls) start p.calls)) (shown_told (inr late))
-  in_vain_told (inr (inr pair)) = or_right (any_shows_in_vain (value_told p.calls) start p.calls) (some_pair (cluster_numbers_row (value_told p.calls) start p.calls)) (pair_shown pair)
+pub nowhere_is : (rows : List Owners) → list_any is_nowhere rows ≡ true → FoundNowhere rows
+nowhere_is rows e = (let k = any_at is_nowhere rows e in (k.0, and_some (slice_get rows k.0) (λ owners. IsTrue (is_nowhere owners)) k.1 k.2 k.3))
 
-  pair_in_vain : IsOfRegister p start → (a b : ℕ) → a ≢ b → NeedsByNumbers p start a b → NeedsByNumbers p start b a → (l : List ℕ) → IsLinearization p l → ⊥
-  pair_in_vain of a b other (m, n, by, from, less) (k, i, inl many, from_a, under) l whole = (let few = event_by b a k i from_a under in omega (arith, few, many))
-  pair_in_vain of a b other (m, n, by, from, less) (k, i, inr (v, write, single, (j, of_b, at)), from_a, under) l whole =
-      clusters_in_vain of v a b j
-      (cluster_numbers_need of a b m n other by from less)
-      (cluster_numbers_need of b a k i (λ s. other (sym s)) (inr (v, write, single, (j, of_b, at))) from_a under)
-      write single of_b (completed_at of j k at) l whole
+pub nowhere_shown : (rows : List Owners) → FoundNowhere rows → list_any is_nowhere rows ≡ true
+nowhere_shown rows (g, h) = (let row = some_and (slice_get rows g) (λ owners. IsTrue (is_nowhere owners)) h in passes_at is_nowhere rows g row.0 row.1 row.2)
 
-  in_vain : IsOfRegister p start → Shown → (l : List ℕ) → IsLinearization p l → ⊥
-  in_vain of (inl (g, u, found, other, none)) l whole = found_in_vain of g u found other none l whole
-  in_vain of (inr (inl (single, (g, a, m, found, few, inl many, called)))) l whole = omega (arith, few, many)
-  in_vain of (inr (inl (single, (g, a, m, found, few, inr (u, write, single_u, (i, of_a, at)), called)))) l whole =
-      start_in_vain of u a i g write single_u of_a (completed_at of i m at) found single (before_of of i g m (m + 1) at (omega arith) called) l whole
-  in_vain of (inr (inr (a, b, other, one, two))) l whole = pair_in_vain of a b other one two l whole
+no_element : (l : List ℕ) → nat_eq (length l) 0 ≡ true → l ≡ []
+no_element [] e = refl
+no_element (c ∷ cs) e = elim (eqb_tells (suc (length cs)) 0) [ inl q ↦ absurd (let f = q.1 in omega (arith, f)) | inr q ↦ absurd (true≢false (sym e ∙ q.0)) ]
+
+three_true : (x y z : Bool) → (x && y && z) ≡ true → (x ≡ true) × (y ≡ true) × (z ≡ true)
+three_true true true true e = (refl, refl, refl)
+three_true true true false e = absurd (cc)
+three_true true false z e = absurd (cc)
+three_true false y z e = absurd (cc)
+
+not_true : (x : Bool) → not x ≡ true → x ≡ false
+not_true true e = absurd (cc)
+not_true false e = refl
+
+-- ---- a register
+
+module _ {p : Problem ObjState Op Reply} {start : ℤ} (of : IsOfRegister p start) (exact : (s t : ObjState) → p.same_state s t ≡ true → s ≡ t) (rows : List Owners) (told : AreOwnerRows p.calls start rows) (owners : AreOwners p rows) where
+  row_owned : (g : ℕ) (row : Owners) → slice_get rows g ≡ Some row → IsTrue row.are_told → (calls : List ℕ) → row.calls.items ≡ calls → row.at_start ≡ false → IsOwnedBy p calls false g
+  row_owned g row there is calls same none = subst (λ (b : Bool). IsOwnedBy p calls b g) none (subst (λ (l : List ℕ). IsOwnedBy p l row.at_start g) same (owners g row there is))
+
+  forced_owned : (w g : ℕ) → IsForced rows w g → (l : List ℕ) → IsLinearization p l → Owned p l w g
+  forced_owned w g forced l whole =
+      let row = some_and (slice_get rows g) (λ o. IsSoleOwner o (Some w)) forced in
+      let finds = (told g row.0 row.1 row.2.0).finds in
+      owned_in p l whole w g (row_owned g row.0 row.1 row.2.0 (w ∷ []) row.2.1 row.2.2) (finds_completed of g (told g row.0 row.1 row.2.0).found finds)
+
+  member : (w c : ℕ) → OfCluster rows w c → (l : List ℕ) → IsLinearization p l → Member p l w c
+  member w c (inl e) l whole = inl e
+  member w c (inr forced) l whole = inr (forced_owned w c forced l whole)
+
+  before : (i j m n : ℕ) → Returned p.calls i m → CalledBy p.calls n j → m < n → Before p i j
+  before i j m n at called less =
+      let x = some_and (slice_get p.calls i) (λ y. IsSomeAnd y.returned (λ r. r.0 ≡ m)) at in
+      let r = some_and x.0.returned (λ q. q.0 ≡ m) x.2 in
+      let y = some_and (slice_get p.calls j) (λ z. n ≤ z.called) called in
+      let from = y.2 in
+      let same = r.2 in
+      and_some (slice_get p.calls i) (λ z. IsSomeAnd z.returned (λ q. IsSomeAnd (slice_get p.calls j) (λ c. q.0 < c.called))) x.0 x.1
+      (and_some x.0.returned (λ q. IsSomeAnd (slice_get p.calls j) (λ c. q.0 < c.called)) r.0 r.1
+      (and_some (slice_get p.calls j) (λ c. r.0.0 < c.called) y.0 y.1 (omega (arith, less, from, same))))
+
+  needs_front : (a b : ℕ) → a ≢ b → NeedsByNumbers p.calls rows a b → (l : List ℕ) → IsLinearization p l → Front l a b
+  needs_front a b other (m, n, by, inl none, less) l whole = absurd (omega (arith, none, less))
+  needs_front a b other (m, n, inl many, inr (few, rest), less) l whole = absurd (omega (arith, many, few, less))
+  needs_front a b other (m, n, inr ((g, forced), (i, of_a, at)), inr (few, ((h, is), (j, of_b, called))), less) l whole =
+      cluster_front p exact l whole.continuation a b i j other
+      (owner_changed p l a g (forced_owned a g forced l whole)) (owner_changed p l b h (forced_owned b h is l whole))
+      (member a i of_a l whole) (member b j of_b l whole) (before i j m n at called less)
+
+  numbers_need : (needs : NeedNumbers) → AreClusterNumbers p.calls rows needs → AreOtherNeeds p needs
+  numbers_need needs numbers = record {
+    each_by = numbers.each_by;
+    each_from = numbers.each_from;
+    needed = λ a b m n there here less other l whole early late eq.
+        front_here whole.continuation.distinct a b (needs_front a b other (m, n, (numbers.by a m there).0, (numbers.from b n here).0, less) l whole) early late eq;
+  }
+
+  nowhere_in_vain : FoundNowhere rows → (l : List ℕ) → IsLinearization p l → ⊥
+  nowhere_in_vain (g, h) l whole =
+      let row = some_and (slice_get rows g) (λ o. IsTrue (is_nowhere o)) h in
+      let one = three_true row.0.are_told (nat_eq (length row.0.calls.items) 0) (not row.0.at_start) row.2 in
+      let k = told g row.0 row.1 one.0 in
+      let at = stands l g whole (finds_completed of g k.found k.finds) in
+      elim (row_owned g row.0 row.1 one.0 [] (no_element row.0.calls.items one.1) (not_true row.0.at_start one.2) l at.0 at.1 whole at.2) [
+        | inl last ↦ last.one_of
+        | inr q ↦ true≢false (sym q.0)
+      ]
+
+  in_vain : FoundNowhere rows ⊎ (NeedEachOther p.calls rows ⊎ IsTakenTwice p.calls rows) → (l : List ℕ) → IsLinearization p l → ⊥
+  in_vain (inl nowhere) l whole = nowhere_in_vain nowhere l whole
+  in_vain (inr (inl (a, b, other, is, too, one, two))) l whole = front_both whole.continuation.distinct a b (needs_front a b other one l whole) (needs_front b a (λ e. other (sym e)) two l whole)
+  in_vain (inr (inr twice)) l whole = twice_in_vain of exact rows owners twice l whole
 
 module _ {Object : Type 0} (p : ProblemParts Object ObjState Op Reply) where
   -- what is known ahead of a register is right
-  pub register_right : (start : ℤ) → p.start ≡ Register start → (ahead : ValuesAhead) → AreRowsOf start p.calls ahead → IsRightOfValues (any_problem p) ahead
-  register_right start e ahead rows = record {
-    needs = clusters_need (of_any_register p start e) ahead.needs (are_cluster_numbers (any_problem p) start ahead.needs rows.by rows.from);
-    owners = are_owners (of_any_register p start e) state_same ahead.owners.items rows.owners;
-    found = find_one_state (of_any_register p start e) ahead.owners.items rows.owners;
-    in_vain = λ is. in_vain (any_problem p) start (of_any_register p start e) (in_vain_is (any_problem p) start (sym rows.in_vain ∙ is));
-  }
-
-  -- and all is told
-  pub register_told : (start : ℤ) → (ahead : ValuesAhead) → AreRowsOf start p.calls ahead → IsToldOfRegister (any_problem p) start ahead
-  register_told start ahead rows = record {
-    numbers = are_cluster_numbers (any_problem p) start ahead.needs rows.by rows.from;
-    in_vain = ((λ is. in_vain_is (any_problem p) start (sym rows.in_vain ∙ is)), (λ shown. rows.in_vain ∙ in_vain_told (any_problem p) start shown));
-  }
+  pub register_right : (start : ℤ) → p.start ≡ Register start → (ahead : ValuesAhead) → IsToldOfRegister start p.calls ahead → IsRightOfValues (any_problem p) ahead
+  register_right start e ahead told =
+      let of = of_any_register p start e in
+      let owners = are_owners of state_same ahead.owners.items told.owners in
+      record {
+        needs = numbers_need of state_same ahead.owners.items told.owners owners ahead.needs told.numbers;
+        owners = owners;
+        found = find_one_state of ahead.owners.items told.owners;
+        in_vain = λ is. in_vain of state_same ahead.owners.items told.owners owners (told.in_vain is);
+      }

@@ -1,10 +1,9 @@
 -- Calls that one call owns (this project's own).
-use Rattle.std.specs.Prelude.{◌≡◌, ◌≢◌, ◌⊎◌, ℕ, ◌<◌, ◌≤◌, ◌^◌, min, max, false, Option, Some, None, List, [], length, slice_get, IsSomeAnd, IsTrue}
+use Rattle.std.specs.Prelude.{◌≡◌, ◌≢◌, ◌⊎◌, ◌&&◌, ℕ, ◌<◌, ◌≤◌, ◌^◌, nat_eq, Bool, true, false, not, Option, Some, List, [], ◌∷◌, length, slice_get, IsSomeAnd, IsTrue}
 use Rattle.lin_object.specs.declared.op.Op.{Op}
 use Rattle.lin_object.specs.declared.reply.Reply.{Reply}
 use Rattle.lin_history.specs.declared.problems.problem.ProblemCall.{ProblemCall}
 use Rattle.lin_history.specs.Problems.Needs.{NeedNumbers}
-use Rattle.lin_ahead.specs.declared.items.item_calls.TheConstants.{BEYOND}
 use Rattle.lin_ahead.specs.declared.values.needed_pairs.CallNumbers.{CallNumbers}
 use Rattle.lin_ahead.specs.declared.values.owners.Owners.{Owners}
 use Rattle.lin_ahead.specs.Values.TakenTwice.{IsSoleOwner}
@@ -13,9 +12,13 @@ use Rattle.lin_ahead.specs.Values.TakenTwice.{IsSoleOwner}
 abbrev pub IsForced : List Owners → ℕ → ℕ → Type 0
 IsForced rows w g = IsSomeAnd (slice_get rows g) (λ owners. IsSoleOwner owners (Some w))
 
--- A call found what no call can have written, and what was not there from the start on.
+-- No call can have written what was found, nor was it there from the start on.
+abbrev pub is_nowhere : Owners → Bool
+is_nowhere owners = owners.are_told && nat_eq (length owners.calls.items) 0 && not owners.at_start
+
+-- A call found what is nowhere.
 abbrev pub FoundNowhere : List Owners → Type 0
-FoundNowhere rows = (g : ℕ) × IsSomeAnd (slice_get rows g) (λ owners. IsTrue owners.are_told × (owners.calls.items ≡ []) × (owners.at_start ≡ false))
+FoundNowhere rows = (g : ℕ) × IsSomeAnd (slice_get rows g) (λ owners. IsTrue (is_nowhere owners))
 
 -- The call is of the cluster of w: it is w, or what it found was written by w alone.
 abbrev pub OfCluster : List Owners → ℕ → ℕ → Type 0
@@ -59,7 +62,7 @@ module _ (calls : List (ProblemCall Op Reply)) (rows : List Owners) where
 
   -- Two calls need each other.
   abbrev pub NeedEachOther : Type 0
-  NeedEachOther = (a b : ℕ) × (a ≢ b) × NeedsByNumbers a b × NeedsByNumbers b a
+  NeedEachOther = (a b : ℕ) × (a ≢ b) × (a < length calls) × (b < length calls) × NeedsByNumbers a b × NeedsByNumbers b a
 
   -- Rows with the numbers of the calls: of those that are right the least event by which a call is needed, and the greatest number
   -- up to which it needs others.

@@ -1,15 +1,18 @@
--- What is told ahead of a register's problem, of its calls by real time: the numbers of those that write a single value (this project's own).
-use Rattle.std.specs.Prelude.{◌↔◌, ◌⊎◌, IsTrue, ℤ}
+-- What is told ahead of a register's problem, of its calls by real time: which calls may have written what a call found, and the numbers of those that alone did (this project's own).
+use Rattle.std.specs.Prelude.{◌⊎◌, ℤ, List, length, IsTrue}
 use Rattle.lin_object.specs.declared.op.Op.{Op}
 use Rattle.lin_object.specs.declared.reply.Reply.{Reply}
-use Rattle.lin_object.specs.declared.state.ObjState.{ObjState}
-use Rattle.lin_history.specs.Problems.Problem.{Problem}
+use Rattle.lin_history.specs.declared.problems.problem.ProblemCall.{ProblemCall}
 use Rattle.lin_ahead.specs.declared.values.rows.ValuesAhead.{ValuesAhead}
-use Rattle.lin_ahead.specs.Values.Register.{FoundNowhere, FoundTooLate, NeedEachOther, AreClusterNumbers}
+use Rattle.lin_ahead.specs.Values.PossibleOwners.{AreOwnerRows}
+use Rattle.lin_ahead.specs.Values.TakenTwice.{IsTakenTwice}
+use Rattle.lin_ahead.specs.Values.Clusters.{AreClusterNumbers, FoundNowhere, NeedEachOther}
 
--- All is told that the calls tell by real time, of each call, on a register that starts with this value.
-pub record IsToldOfRegister (p : Problem ObjState Op Reply) (start : ℤ) (ahead : ValuesAhead) : Type 0 where
-  pub numbers : AreClusterNumbers p start ahead.needs
-  -- There is no linearization by these facts alone where a call found what is nowhere, or found the start too late, or where
-  -- two calls need each other.
-  pub in_vain : IsTrue ahead.in_vain ↔ (FoundNowhere p start ⊎ (FoundTooLate p start ⊎ NeedEachOther p start))
+-- All is told that follows from the rows of owners, on a register that starts with this value.
+pub record IsToldOfRegister (start : ℤ) (calls : List (ProblemCall Op Reply)) (ahead : ValuesAhead) : Type 0 where
+  pub owners : AreOwnerRows calls start ahead.owners.items
+  pub numbers : AreClusterNumbers calls ahead.owners.items ahead.needs
+  -- There is no linearization by these facts alone where a call found what is nowhere, two calls need each other, or two took away
+  -- what one call made.
+  pub in_vain : IsTrue ahead.in_vain → FoundNowhere ahead.owners.items ⊎ (NeedEachOther calls ahead.owners.items ⊎ IsTakenTwice calls ahead.owners.items)
+  pub in_vain_told : FoundNowhere ahead.owners.items ⊎ NeedEachOther calls ahead.owners.items → IsTrue ahead.in_vain

@@ -1,8 +1,9 @@
 //! Calls that one call owns, by their events: when the first of them returned, and when the last was called.
 
 ghost use Rattle.std.specs.Prelude.{◌≡◌, ◌+◌, ◌<◌, ℕ, length, Some, IfOk, IfSome, IsTrue, ◌↔◌};
+ghost use Rattle.std.specs.List.{list_any};
 ghost use Rattle.lin_ahead.specs.Values.TakenTwice.{IsSoleOwner};
-ghost use Rattle.lin_ahead.specs.Values.Clusters.{AreWidened, AreNumbersTo, FoundNowhere};
+ghost use Rattle.lin_ahead.specs.Values.Clusters.{AreWidened, AreNumbersTo, is_nowhere};
 
 use crate::items::item_calls::BEYOND;
 use crate::values::needed_pairs::CallNumbers;
@@ -97,13 +98,15 @@ pub(crate) fn cluster_numbers(
 }
 
 // Whether the call found what no call can have written, and what was not there from the start on.
-fn is_nowhere(owners: &Owners) -> bool {
-    owners.are_told && owners.calls.is_empty() && !owners.at_start
+fn is_nowhere(owners: &Owners) -> bool
+    ensures { result ≡ is_nowhere owners.now }
+{
+    owners.are_told && owners.calls.as_slice().is_empty() && !owners.at_start
 }
 
 /// Whether some call found what no call can have written, and what was not there from the start on.
 pub(crate) fn some_found_nowhere(owners: &[Owners]) -> bool
-    ensures { IsTrue result ↔ FoundNowhere owners.now }
+    ensures { result ≡ list_any is_nowhere owners.now }
 {
     owners.iter().any(|row| is_nowhere(row))
 }

@@ -2,7 +2,7 @@
 
 ghost use Rattle.std.specs.Prelude.{◌≡◌};
 ghost use Rattle.lin_ahead.specs.Values.Register.{value_written, value_found};
-ghost use Rattle.lin_ahead.specs.Values.ValueCalls.{no_value_told, with_member, with_writer, is_single, is_nowhere};
+ghost use Rattle.lin_ahead.specs.Values.ValueCalls.{no_value_told, with_member, with_writer};
 
 use crate::items::item_calls::{BEYOND, Callers, one_more};
 use lin_history::ProblemCall;
@@ -78,27 +78,6 @@ impl ValueCalls {
             writers: one_more(told.writers),
             returned: told.returned,
             called: told.called,
-        }
-    }
-
-    /// Whether no two calls may write the value, and none where the register starts with it.
-    pub(crate) fn is_single(&self, at_start: bool) -> bool
-        ensures { result ≡ is_single self.now.writers at_start }
-    {
-        match self.writers {
-            Callers::Nobody => true,
-            Callers::One => !at_start,
-            Callers::Several => false,
-        }
-    }
-
-    /// Whether no call may write the value, and the register does not start with it.
-    pub(crate) fn is_nowhere(&self, at_start: bool) -> bool
-        ensures { result ≡ is_nowhere self.now.writers at_start }
-    {
-        match self.writers {
-            Callers::Nobody => !at_start,
-            _ => false,
         }
     }
 }

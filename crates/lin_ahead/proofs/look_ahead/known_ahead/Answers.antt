@@ -6,8 +6,8 @@ use Rattle.lin_ahead.proofs.queues.AheadLemmas.{is_right, is_told}
 use Rattle.lin_ahead.proofs.counters.CounterLemmas.{counter_right, counter_told}
 use Rattle.lin_ahead.proofs.stacks.StackLateLemmas.{stack_right}
 use Rattle.lin_ahead.proofs.stacks.StackRowLemmas.{stack_told}
-use Rattle.lin_ahead.proofs.values.KeyLemmas.{key_right, key_told}
-use Rattle.lin_ahead.proofs.values.VainLemmas.{register_right, register_told}
+use Rattle.lin_ahead.proofs.values.KeyLemmas.{key_right}
+use Rattle.lin_ahead.proofs.values.VainLemmas.{register_right}
 use Rattle.lin_ahead.proofs.look_ahead.known_ahead.Goals as goal
 
 pub returns-in_ok-told_of_queue-in-Queue-clause-right :
@@ -34,7 +34,7 @@ pub returns-in_ok-told_of_register-in-Register-clause-told :
     goal.returns-in_ok-told_of_register-in-Register-clause-told
 returns-in_ok-told_of_register-in-Register-clause-told c =
     let start : c.args.problem.now.start ≡ Register c.in-Register.start = search rules in
-    inl (c.in-Register.start, start, register_told c.args.problem.now c.in-Register.start _ (rw c.calls-calls.ensures.calls at c.in_ok-told_of_register-in-Register.ensures))
+    inl (c.in-Register.start, start, rw c.calls-calls.ensures.calls at c.in_ok-told_of_register-in-Register.ensures)
 
 pub returns-in_ok-told_of_stack-in-Stack-clause-right :
     goal.returns-in_ok-told_of_stack-in-Stack-clause-right
@@ -78,4 +78,4 @@ pub returns-in-Some-clause-told : goal.returns-in-Some-clause-told
 returns-in-Some-clause-told c =
     let start : c.args.problem.now.start ≡ Map [] = search rules in
     let tells = c.in_ok-ahead-in-Map.ensures in
-    inr (start, key_told c.args.problem.now c.in-Some.ahead (rw (c.in-Some.is, c.calls-calls.ensures.calls) at tells.rows))
+    inr (start, rw (c.in-Some.is, c.calls-calls.ensures.calls) at tells.rows)
