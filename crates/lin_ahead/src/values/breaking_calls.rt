@@ -11,6 +11,7 @@ use crate::values::writers::low_of;
 use indexmap::IndexMap;
 use lin_history::ProblemCall;
 use lin_object::{Op, Reply};
+use std::alloc::{AllocError, Global};
 
 // How many calls are looked at for one that breaks a value.
 const CALLS_IN_SIGHT: usize = 256;
@@ -39,19 +40,99 @@ pub(crate) struct Sought {
     pub since: u64,
 }
 
+/// The last calls up to one call that show of a value that it is there, and so break all others. A hint.
+#[derive(Clone, Copy, Debug)]
+pub(crate) struct LastShown {
+    // One more than the last of them; 0 where there is none.
+    last: usize,
+    // One more than the last of them that breaks the value which the last shows; 0 where there is none.
+    other: usize,
+}
+
+// What a call shows by its reply.
+#[derive(Clone, Copy, Debug)]
+enum Shown {
+    // No value.
+    Nothing,
+    // That this value is there all the time, or is written.
+    Only(i64),
+    // That the value changes.
+    Change,
+}
+
+// What the call shows by its reply. That a `cas` found another value is left out.
+fn shown_by(call: &ProblemCall<Op, Reply>) -> Shown {
+    match (&call.op, &call.returned) {
+        (Op::Write(value), Some(_)) => Shown::Only(*value),
+        (Op::Read, Some((_, Reply::Int(value)))) => Shown::Only(*value),
+        (Op::Cas(from, to), Some((_, Reply::Flag(true)))) => if *from == *to {
+            Shown::Only(*from)
+        } else {
+            Shown::Change
+        },
+        _ => Shown::Nothing,
+    }
+}
+
+// What the last calls show, by those before a call and by it. Whether the last one shows this value alone is told beside it.
+fn after_call(
+    row: LastShown,
+    value: Option<i64>,
+    call: usize,
+    shown: Shown,
+) -> (LastShown, Option<i64>) {
+    let last = call.saturating_add(1);
+    match shown {
+        Shown::Nothing => (row, value),
+        Shown::Only(own) if value == Some(own) => (
+            LastShown {
+                last,
+                other: row.other,
+            },
+            value,
+        ),
+        Shown::Only(own) => (
+            LastShown {
+                last,
+                other: row.last,
+            },
+            Some(own),
+        ),
+        Shown::Change => (LastShown { last, other: last }, None),
+    }
+}
+
+/// For each call the last calls up to it that show values. A hint.
+pub(crate) fn last_shown(
+    alloc: Global,
+    calls: &[ProblemCall<Op, Reply>],
+) -> Result<Vec<LastShown>, AllocError> {
+    let mut rows = Vec::with_capacity(alloc, calls.len())?;
+    let mut row = LastShown { last: 0, other: 0 };
+    let mut value = None;
+    for call in 0..calls.len() {
+        let (next, shown) = after_call(row, value, call, shown_by(&calls[call]));
+        row = next;
+        value = shown;
+        rows.push(row)?;
+    }
+    Ok(rows)
+}
+
 /// The finder that the call is, if it found a value that has a number.
 pub(crate) fn finder_of(
     values: &IndexMap<i64, ValueCalls>,
+    lows: &[u64],
     one: &ProblemCall<Op, Reply>,
     call: usize,
 ) -> Option<Finder>
-    ensures low { IfSome result (λ f. low_by (index_of int_eq values.now f.value) ≡ Some f.low) }
+    ensures low { IfSome result (λ f. low_by lows.now (index_of int_eq values.now f.value) ≡ Some f.low) }
     ensures call { IfSome result (λ f. f.call ≡ call) }
     ensures finder { IfSome result (λ f. (calls : List (ProblemCall Op Reply))
         → slice_get calls call ≡ Some one.now → IsFinder calls f) }
 {
     let value = value_found(one)?;
-    let low = low_of(values, value)?;
+    let low = low_of(values, lows, value)?;
     match &one.returned {
         Some((number, _)) => Some(Finder {
             call,
@@ -100,28 +181,50 @@ fn broken_at(calls: &[ProblemCall<Op, Reply>], finder: &Finder, call: usize) -> 
     }
 }
 
-// The last of the calls before `next` that was called by the event, or that returned before the finder was called and breaks the value
-// that this one found. 0 where there is none in sight. A hint.
+// One more than the last of the calls before `next` that breaks the value; 0 where there is none. A hint.
+fn last_breaking(
+    calls: &[ProblemCall<Op, Reply>],
+    shown: &[LastShown],
+    value: i64,
+    next: usize,
+) -> usize {
+    let Some(row) = shown.get(next.wrapping_sub(1)) else {
+        return 0;
+    };
+    match calls.get(row.last.wrapping_sub(1)) {
+        Some(call) if breaks(value, call) => row.last,
+        _ => row.other,
+    }
+}
+
+// The last of the calls before `next` that breaks the value which the finder found, and returned before the finder was called or
+// was called by the event; 0 where there is none in sight. A hint.
 fn last_to_ask(
     calls: &[ProblemCall<Op, Reply>],
+    shown: &[LastShown],
     finder: &Finder,
     next: usize,
     event: u64,
 ) -> usize {
-    for call in (next.saturating_sub(CALLS_IN_SIGHT)..next).rev() {
+    let mut next = next;
+    for _ in 0..CALLS_IN_SIGHT {
+        let call = last_breaking(calls, shown, finder.value, next).saturating_sub(1);
         match calls.get(call) {
             Some(one)
-                if u64::from(one.called) > event
-                    && !(returned_before(one, finder) && breaks(finder.value, one)) => {}
+                if 0 < call && u64::from(one.called) > event && !returned_before(one, finder) =>
+                next = call,
             _ => return call,
         }
     }
     0
 }
 
-/// Looks on for a call that breaks the value which the finder found, as far as to the calls that were called by the event.
+/// Looks on for a call that breaks the value which the finder found, as far as to the calls that were called by the event. It does
+/// nothing where one is found, or none can have been called after the event.
+#[inline]
 pub(crate) fn look_on(
     calls: &[ProblemCall<Op, Reply>],
+    shown: &[LastShown],
     finder: &Finder,
     sought: Sought,
     event: u64,
@@ -129,10 +232,10 @@ pub(crate) fn look_on(
     requires { IsSince calls.now finder.now sought.since }
     ensures { IsSince calls.now finder.now result.since }
 {
-    if sought.since > 0 {
+    if sought.since > 0 || finder.called <= event {
         return sought;
     }
-    let next = last_to_ask(calls, finder, sought.next, event);
+    let next = last_to_ask(calls, shown, finder, sought.next, event);
     Sought {
         next,
         since: broken_at(calls, finder, next),
