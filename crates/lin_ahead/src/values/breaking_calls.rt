@@ -40,15 +40,6 @@ pub(crate) struct Sought {
     pub since: u64,
 }
 
-/// The last calls up to one call that show of a value that it is there, and so break all others. A hint.
-#[derive(Clone, Copy, Debug)]
-pub(crate) struct LastShown {
-    // One more than the last of them; 0 where there is none.
-    last: usize,
-    // One more than the last of them that breaks the value which the last shows; 0 where there is none.
-    other: usize,
-}
-
 // What a call shows by its reply.
 #[derive(Clone, Copy, Debug)]
 enum Shown {
@@ -74,49 +65,35 @@ fn shown_by(call: &ProblemCall<Op, Reply>) -> Shown {
     }
 }
 
-// What the last calls show, by those before a call and by it. Whether the last one shows this value alone is told beside it.
-fn after_call(
-    row: LastShown,
-    value: Option<i64>,
-    call: usize,
-    shown: Shown,
-) -> (LastShown, Option<i64>) {
-    let last = call.saturating_add(1);
-    match shown {
-        Shown::Nothing => (row, value),
-        Shown::Only(own) if value == Some(own) => (
-            LastShown {
-                last,
-                other: row.other,
-            },
-            value,
-        ),
-        Shown::Only(own) => (
-            LastShown {
-                last,
-                other: row.last,
-            },
-            Some(own),
-        ),
-        Shown::Change => (LastShown { last, other: last }, None),
-    }
-}
-
-/// For each call the last calls up to it that show values. A hint.
-pub(crate) fn last_shown(
+/// For each call that shows a value alone, one more than the last call before it that shows another one, or 0; for other calls,
+/// themselves. All calls from there on up to the call leave its value as it is. A hint.
+pub(crate) fn others_before(
     alloc: Global,
     calls: &[ProblemCall<Op, Reply>],
-) -> Result<Vec<LastShown>, AllocError> {
-    let mut rows = Vec::with_capacity(alloc, calls.len())?;
-    let mut row = LastShown { last: 0, other: 0 };
+) -> Result<Vec<usize>, AllocError> {
+    let mut others = Vec::with_capacity(alloc, calls.len())?;
     let mut value = None;
+    let mut other = 0;
+    let mut last = 0;
     for call in 0..calls.len() {
-        let (next, shown) = after_call(row, value, call, shown_by(&calls[call]));
-        row = next;
-        value = shown;
-        rows.push(row)?;
+        match shown_by(&calls[call]) {
+            Shown::Nothing => others.push(call)?,
+            Shown::Change => {
+                value = None;
+                last = call + 1;
+                others.push(call)?;
+            }
+            Shown::Only(own) => {
+                if value != Some(own) {
+                    value = Some(own);
+                    other = last;
+                }
+                last = call + 1;
+                others.push(other)?;
+            }
+        }
     }
-    Ok(rows)
+    Ok(others)
 }
 
 /// The finder that the call is, if it found a value that has a number.
@@ -181,50 +158,59 @@ fn broken_at(calls: &[ProblemCall<Op, Reply>], finder: &Finder, call: usize) -> 
     }
 }
 
-// One more than the last of the calls before `next` that breaks the value; 0 where there is none. A hint.
-fn last_breaking(
-    calls: &[ProblemCall<Op, Reply>],
-    shown: &[LastShown],
-    value: i64,
-    next: usize,
-) -> usize {
-    let Some(row) = shown.get(next.wrapping_sub(1)) else {
-        return 0;
-    };
-    match calls.get(row.last.wrapping_sub(1)) {
-        Some(call) if breaks(value, call) => row.last,
-        _ => row.other,
-    }
-}
-
 // The last of the calls before `next` that breaks the value which the finder found, and returned before the finder was called or
 // was called by the event; 0 where there is none in sight. A hint.
 fn last_to_ask(
     calls: &[ProblemCall<Op, Reply>],
-    shown: &[LastShown],
+    others: &[usize],
     finder: &Finder,
     next: usize,
     event: u64,
 ) -> usize {
     let mut next = next;
     for _ in 0..CALLS_IN_SIGHT {
-        let call = last_breaking(calls, shown, finder.value, next).saturating_sub(1);
+        let call = next.saturating_sub(1);
         match calls.get(call) {
-            Some(one)
-                if 0 < call && u64::from(one.called) > event && !returned_before(one, finder) =>
-                next = call,
+            Some(one) if 0 < call && u64::from(one.called) > event => next = if breaks(
+                finder.value,
+                one,
+            ) {
+                if returned_before(one, finder) {
+                    return call;
+                }
+                call
+            } else {
+                others.get(call).copied().unwrap_or(0)
+            },
             _ => return call,
         }
     }
     0
 }
 
+// Looks on for a call that breaks the value which the finder found, as far as to the calls that were called by the event.
+fn look_further(
+    calls: &[ProblemCall<Op, Reply>],
+    others: &[usize],
+    finder: &Finder,
+    next: usize,
+    event: u64,
+) -> Sought
+    ensures { IsSince calls.now finder.now result.since }
+{
+    let next = last_to_ask(calls, others, finder, next, event);
+    Sought {
+        next,
+        since: broken_at(calls, finder, next),
+    }
+}
+
 /// Looks on for a call that breaks the value which the finder found, as far as to the calls that were called by the event. It does
 /// nothing where one is found, or none can have been called after the event.
-#[inline]
+#[inline(always)]
 pub(crate) fn look_on(
     calls: &[ProblemCall<Op, Reply>],
-    shown: &[LastShown],
+    others: &[usize],
     finder: &Finder,
     sought: Sought,
     event: u64,
@@ -235,9 +221,5 @@ pub(crate) fn look_on(
     if sought.since > 0 || finder.called <= event {
         return sought;
     }
-    let next = last_to_ask(calls, shown, finder, sought.next, event);
-    Sought {
-        next,
-        since: broken_at(calls, finder, next),
-    }
+    look_further(calls, others, finder, sought.next, event)
 }

@@ -113,7 +113,7 @@ fn are_many(
     match writers.rows.get(place - MOST_OWNERS - 1) {
         Some(row) if finder.low <= row.key => look_on(
             calls,
-            writers.shown.as_slice(),
+            writers.others.as_slice(),
             finder,
             nothing_sought(finder),
             0,
@@ -150,7 +150,7 @@ fn list_owners(
         };
         sought = look_on(
             calls,
-            writers.shown.as_slice(),
+            writers.others.as_slice(),
             finder,
             sought,
             row.returned,
@@ -181,7 +181,7 @@ fn may_be_from_start(
     requires since { IsSince calls.now finder.now sought.since }
     ensures { result ≡ false → IsNotFromStart calls.now start finder.now.value finder.now.call }
 {
-    finder.value == start && look_on(calls, writers.shown.as_slice(), finder, sought, 0).since == 0
+    finder.value == start && look_on(calls, writers.others.as_slice(), finder, sought, 0).since == 0
 }
 
 // The owners of a call that found a value.

@@ -7,7 +7,7 @@ ghost use Rattle.lin_ahead.specs.Values.Register.{value_written};
 ghost use Rattle.lin_ahead.specs.Values.Writers.{low_at, low_by, returned_or_beyond, HaveAllRows, AreInOrder, NoneLater, AreUnder};
 
 use crate::items::item_calls::BEYOND;
-use crate::values::breaking_calls::{LastShown, last_shown};
+use crate::values::breaking_calls::others_before;
 use crate::values::value_calls::{ValueCalls, value_written};
 use indexmap::IndexMap;
 use lin_history::ProblemCall;
@@ -43,8 +43,8 @@ pub(crate) struct Writers {
     pub under: Vec<usize>,
     /// For each value of the map from which key on its rows stand.
     pub lows: Vec<u64>,
-    /// For each call the last calls up to it that show values. A hint.
-    pub shown: Vec<LastShown>,
+    /// For each call one more than the last call before it that may break a value which this one does not break. A hint.
+    pub others: Vec<usize>,
     // For each number of a value the place behind the last of its rows. A hint.
     ends: Vec<usize>,
 }
@@ -218,7 +218,7 @@ impl Writers {
         Ok(Writers {
             under: under_each(alloc, rows.as_slice())?,
             ends: ends_of_values(alloc, rows.as_slice(), values.len().saturating_add(1))?,
-            shown: last_shown(alloc, calls)?,
+            others: others_before(alloc, calls)?,
             lows,
             rows,
         })

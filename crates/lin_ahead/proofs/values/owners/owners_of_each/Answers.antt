@@ -13,7 +13,7 @@ loop-call-preserved c =
     let size : length rows ≡ c.loop-call.call = c.loop-call.invariant.each in
     record {
       each = ap (λ (l : List Owners). length l) c.in_ok-push.ensures.items ∙ simp length-append (omega (arith, size));
-      told = subst (λ (l : List Owners). AreOwnerRows calls start l) (sym c.in_ok-push.ensures.items) (rows_pushed calls start rows c.loop-call.call c.in_ok-owners_of_call.field-0 size c.in_ok-owners_of_call.ensures c.loop-call.invariant.told);
+      told = subst (λ (l : List Owners). AreOwnerRows calls start l) (sym {A = List Owners} c.in_ok-push.ensures.items) (rows_pushed calls start rows c.loop-call.call c.in_ok-owners_of_call.field-0 size c.in_ok-owners_of_call.ensures c.loop-call.invariant.told);
     }
 
 pub returns : goal.returns
