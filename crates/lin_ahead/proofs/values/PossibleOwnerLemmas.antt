@@ -1,6 +1,6 @@
 -- Which calls are not the one that wrote what a call found, by real time.
 use Rattle.std.proofs.Common.{◌≡◌, ◌≢◌, ◌⊎◌, inl, inr, ℕ, zero, suc, ◌+◌, ◌-◌, ◌<◌, ◌≤◌, ◌^◌, Bool, true, false, Option, Some, None, List, [], ◌∷◌, ◌++◌, length, refl, sym, ◌∙◌, ap, subst, arith}
-use Rattle.std.specs.Prelude.{ℤ, slice_index_or, IsSomeAnd, IsTrue}
+use Rattle.std.specs.Prelude.{ℤ, slice_index_or, nat_eq, IsSomeAnd, IsTrue}
 use Rattle.std.specs.List.{slice_get}
 use Rattle.std.proofs.lemmas.Bool.{cases_lt}
 use Rattle.std.proofs.lemmas.Option.{slice_get-get_or, get_or_from_slice_get, slice_get_within}
@@ -15,6 +15,7 @@ use Rattle.lin_ahead.specs.declared.values.owners.Owners.{Owners}
 use Rattle.lin_ahead.specs.declared.values.writers.Writer.{Writer}
 use Rattle.lin_ahead.specs.Values.Register.{value_written, value_found}
 use Rattle.lin_ahead.specs.Values.PossibleOwners.{breaks, ReturnedBefore, Breaks, IsNoOwner, IsNotFromStart, AreOwnersOf, AreOwnerRows}
+use Rattle.lin_ahead.proofs.values.WriterLemmas.{pushed_either}
 use Rattle.lin_ahead.specs.Values.Writers.{returned_or_beyond, NoneLater, AreUnder, IsRowOf, HasAllRows, IsFinder, IsBroken, IsSince, NoOwners, AreListedFrom}
 
 one : {A : Type 0} (x y : A) → Some x ≡ Some y → x ≡ y
@@ -117,3 +118,16 @@ module _ (calls : List (ProblemCall Op Reply)) where
     each = λ w x there writes. (let k = all w x there writes in listed k.0 w k.1 (omega arith) k.2 k.3);
     start_too = not_start;
   }
+
+  pub not_zero : (n : ℕ) → nat_eq n 0 ≡ false → 0 < n
+  not_zero zero e = absurd (cc)
+  not_zero (suc n) e = omega arith
+
+  -- the rows with one more
+  pub rows_pushed : (start : ℤ) (rows : List Owners) (n : ℕ) (row : Owners) → length rows ≡ n → (IsTrue row.are_told → AreOwnersOf calls start n row) → AreOwnerRows calls start rows → AreOwnerRows calls start (rows ++ row ∷ [])
+  rows_pushed start rows n row size told so_far g own e is_told = elim (pushed_either rows row g own e) [
+    | inl there ↦ so_far g own there is_told
+    | inr (at, same) ↦ (
+        let k : n ≡ g = sym (at ∙ size) in
+        subst (λ (i : ℕ). AreOwnersOf calls start i own) k (subst (λ (o : Owners). AreOwnersOf calls start n o) same (told (subst (λ (o : Owners). IsTrue o.are_told) (sym same) is_told))))
+  ]

@@ -1,10 +1,10 @@
 -- Rows of the calls that may write each value.
 use Rattle.std.proofs.Common.{◌≡◌, ◌≢◌, ◌⊎◌, inl, inr, ℕ, zero, suc, ◌+◌, ◌-◌, ◌*◌, ◌<◌, ◌≤◌, ◌^◌, Bool, true, false, Option, Some, None, List, [], ◌∷◌, ◌++◌, length, refl, sym, ◌∙◌, ap, subst, arith}
-use Rattle.std.specs.Prelude.{ℤ, nat_lt, if◌then◌else◌}
+use Rattle.std.specs.Prelude.{ℤ}
 use Rattle.std.specs.List.{slice_get, All}
 use Rattle.std.specs.List.Sorted.{IsPermutation, IsNonDecreasingBy}
 use Rattle.std.specs.Prelude.{slice_index_or}
-use Rattle.std.proofs.lemmas.Bool.{cases_lt, lt-ltb, ltb-true}
+use Rattle.std.proofs.lemmas.Bool.{cases_lt}
 use Rattle.std.proofs.lemmas.List.Sorted.{Contains-permutation}
 use Rattle.std.proofs.lemmas.Option.{slice_get-get_or, get_or_from_slice_get, slice_get_within}
 use Rattle.lin_object.specs.declared.op.Op.{Op}
@@ -17,26 +17,11 @@ use Rattle.lin_ahead.specs.Values.Writers.{low_by, returned_or_beyond, IsRowOf, 
 one : {A : Type 0} (x y : A) → Some x ≡ Some y → x ≡ y
 one x y e = cc
 
--- ---- the number of a value
+-- ---- where the rows of a value begin
 
-pub low_none : (number : ℤ → Option ℕ) (a b : ℤ) → a ≡ b → None ≡ number a → None ≡ low_by (number b)
-low_none number a b same e = ap low_by (e ∙ ap number same)
-
-few : (n : ℕ) → n < 2 ^ 31 → Some (n * 2 ^ 32) ≡ low_by (Some n)
-few n less = rw (lt-ltb n (2 ^ 31) less) refl
-
-pub low_few : (number : ℤ → Option ℕ) (a b : ℤ) (n : ℕ) → a ≡ b → Some n ≡ number a → n < 2 ^ 31 → Some (n * 2 ^ 32) ≡ low_by (number b)
-low_few number a b n same e less = few n less ∙ ap low_by (e ∙ ap number same)
-
-many : (n : ℕ) → 2 ^ 31 ≤ n → None ≡ low_by (Some n)
-many n more = go (nat_lt n (2 ^ 31)) refl
-  where
-    go : (b : Bool) → nat_lt n (2 ^ 31) ≡ b → None ≡ low_by (Some n)
-    go true e = absurd (let less = ltb-true n (2 ^ 31) e in omega (arith, less, more))
-    go false e = rw e refl
-
-pub low_many : (number : ℤ → Option ℕ) (a b : ℤ) (n : ℕ) → a ≡ b → Some n ≡ number a → 2 ^ 31 ≤ n → None ≡ low_by (number b)
-low_many number a b n same e more = many n more ∙ ap low_by (e ∙ ap number same)
+-- by the index of a value, as the value is passed on and as it was
+pub by_index : (lows : List ℕ) (index : ℤ → Option ℕ) (a b : ℤ) (o : Option ℕ) → a ≡ b → o ≡ index a → low_by lows o ≡ low_by lows (index b)
+by_index lows index a b o same e = ap (low_by lows) (e ∙ ap index same)
 
 -- ---- the rows of the first calls
 

@@ -1,5 +1,5 @@
 -- Rows of the calls that may write each value, and which of them a call that found one may have found (this project's own).
-use Rattle.std.specs.Prelude.{◌≡◌, ◌⊎◌, ℕ, ◌+◌, ◌*◌, ◌^◌, ◌<◌, ◌≤◌, ℤ, true, nat_lt, Option, Some, None, List, length, slice_get, if◌then◌else◌}
+use Rattle.std.specs.Prelude.{◌≡◌, ◌⊎◌, ℕ, ◌+◌, ◌^◌, ◌<◌, ◌≤◌, ℤ, true, nat_lt, Option, Some, None, List, length, slice_get, if◌then◌else◌}
 use Rattle.lin_object.specs.declared.op.Op.{Op}
 use Rattle.lin_object.specs.declared.reply.Reply.{Reply}
 use Rattle.lin_history.specs.declared.problems.problem.ProblemCall.{ProblemCall}
@@ -9,10 +9,15 @@ use Rattle.lin_ahead.specs.declared.values.writers.Writer.{Writer}
 use Rattle.lin_ahead.specs.Values.Register.{value_written, value_found}
 use Rattle.lin_ahead.specs.Values.PossibleOwners.{breaks, IsNoOwner}
 
--- From which key on the rows of a value stand, by its number.
-abbrev pub low_by : Option ℕ → Option ℕ
-low_by None = None
-low_by (Some n) = if nat_lt n (2 ^ 31) then Some (n * 2 ^ 32) else None
+-- From which key on rows stand, as a list says of it.
+abbrev pub low_at : Option ℕ → Option ℕ
+low_at None = None
+low_at (Some low) = if nat_lt low (2 ^ 63) then Some low else None
+
+-- From which key on the rows of a value stand, by its index.
+abbrev pub low_by : List ℕ → Option ℕ → Option ℕ
+low_by lows None = None
+low_by lows (Some n) = low_at (slice_get lows n)
 
 -- When a call returned; beyond all events while it is pending.
 abbrev pub returned_or_beyond : Option (ℕ × Reply) → ℕ

@@ -11,6 +11,7 @@ use crate::values::writers::low_of;
 use indexmap::IndexMap;
 use lin_history::ProblemCall;
 use lin_object::{Op, Reply};
+use std::alloc::{AllocError, Global};
 
 // How many calls are looked at for one that breaks a value.
 const CALLS_IN_SIGHT: usize = 256;
@@ -39,19 +40,76 @@ pub(crate) struct Sought {
     pub since: u64,
 }
 
+// What a call shows by its reply.
+#[derive(Clone, Copy, Debug)]
+enum Shown {
+    // No value.
+    Nothing,
+    // That this value is there all the time, or is written.
+    Only(i64),
+    // That the value changes.
+    Change,
+}
+
+// What the call shows by its reply. That a `cas` found another value is left out.
+fn shown_by(call: &ProblemCall<Op, Reply>) -> Shown {
+    match (&call.op, &call.returned) {
+        (Op::Write(value), Some(_)) => Shown::Only(*value),
+        (Op::Read, Some((_, Reply::Int(value)))) => Shown::Only(*value),
+        (Op::Cas(from, to), Some((_, Reply::Flag(true)))) => if *from == *to {
+            Shown::Only(*from)
+        } else {
+            Shown::Change
+        },
+        _ => Shown::Nothing,
+    }
+}
+
+/// For each call that shows a value alone, one more than the last call before it that shows another one, or 0; for other calls,
+/// themselves. All calls from there on up to the call leave its value as it is. A hint.
+pub(crate) fn others_before(
+    alloc: Global,
+    calls: &[ProblemCall<Op, Reply>],
+) -> Result<Vec<usize>, AllocError> {
+    let mut others = Vec::with_capacity(alloc, calls.len())?;
+    let mut value = None;
+    let mut other = 0;
+    let mut last = 0;
+    for call in 0..calls.len() {
+        match shown_by(&calls[call]) {
+            Shown::Nothing => others.push(call)?,
+            Shown::Change => {
+                value = None;
+                last = call + 1;
+                others.push(call)?;
+            }
+            Shown::Only(own) => {
+                if value != Some(own) {
+                    value = Some(own);
+                    other = last;
+                }
+                last = call + 1;
+                others.push(other)?;
+            }
+        }
+    }
+    Ok(others)
+}
+
 /// The finder that the call is, if it found a value that has a number.
 pub(crate) fn finder_of(
     values: &IndexMap<i64, ValueCalls>,
+    lows: &[u64],
     one: &ProblemCall<Op, Reply>,
     call: usize,
 ) -> Option<Finder>
-    ensures low { IfSome result (λ f. low_by (index_of int_eq values.now f.value) ≡ Some f.low) }
+    ensures low { IfSome result (λ f. low_by lows.now (index_of int_eq values.now f.value) ≡ Some f.low) }
     ensures call { IfSome result (λ f. f.call ≡ call) }
     ensures finder { IfSome result (λ f. (calls : List (ProblemCall Op Reply))
         → slice_get calls call ≡ Some one.now → IsFinder calls f) }
 {
     let value = value_found(one)?;
-    let low = low_of(values, value)?;
+    let low = low_of(values, lows, value)?;
     match &one.returned {
         Some((number, _)) => Some(Finder {
             call,
@@ -100,28 +158,59 @@ fn broken_at(calls: &[ProblemCall<Op, Reply>], finder: &Finder, call: usize) -> 
     }
 }
 
-// The last of the calls before `next` that was called by the event, or that returned before the finder was called and breaks the value
-// that this one found. 0 where there is none in sight. A hint.
+// The last of the calls before `next` that breaks the value which the finder found, and returned before the finder was called or
+// was called by the event; 0 where there is none in sight. A hint.
 fn last_to_ask(
     calls: &[ProblemCall<Op, Reply>],
+    others: &[usize],
     finder: &Finder,
     next: usize,
     event: u64,
 ) -> usize {
-    for call in (next.saturating_sub(CALLS_IN_SIGHT)..next).rev() {
+    let mut next = next;
+    for _ in 0..CALLS_IN_SIGHT {
+        let call = next.saturating_sub(1);
         match calls.get(call) {
-            Some(one)
-                if u64::from(one.called) > event
-                    && !(returned_before(one, finder) && breaks(finder.value, one)) => {}
+            Some(one) if 0 < call && u64::from(one.called) > event => next = if breaks(
+                finder.value,
+                one,
+            ) {
+                if returned_before(one, finder) {
+                    return call;
+                }
+                call
+            } else {
+                others.get(call).copied().unwrap_or(0)
+            },
             _ => return call,
         }
     }
     0
 }
 
-/// Looks on for a call that breaks the value which the finder found, as far as to the calls that were called by the event.
+// Looks on for a call that breaks the value which the finder found, as far as to the calls that were called by the event.
+fn look_further(
+    calls: &[ProblemCall<Op, Reply>],
+    others: &[usize],
+    finder: &Finder,
+    next: usize,
+    event: u64,
+) -> Sought
+    ensures { IsSince calls.now finder.now result.since }
+{
+    let next = last_to_ask(calls, others, finder, next, event);
+    Sought {
+        next,
+        since: broken_at(calls, finder, next),
+    }
+}
+
+/// Looks on for a call that breaks the value which the finder found, as far as to the calls that were called by the event. It does
+/// nothing where one is found, or none can have been called after the event.
+#[inline(always)]
 pub(crate) fn look_on(
     calls: &[ProblemCall<Op, Reply>],
+    others: &[usize],
     finder: &Finder,
     sought: Sought,
     event: u64,
@@ -129,12 +218,8 @@ pub(crate) fn look_on(
     requires { IsSince calls.now finder.now sought.since }
     ensures { IsSince calls.now finder.now result.since }
 {
-    if sought.since > 0 {
+    if sought.since > 0 || finder.called <= event {
         return sought;
     }
-    let next = last_to_ask(calls, finder, sought.next, event);
-    Sought {
-        next,
-        since: broken_at(calls, finder, next),
-    }
+    look_further(calls, others, finder, sought.next, event)
 }

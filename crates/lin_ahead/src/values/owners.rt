@@ -4,7 +4,8 @@ ghost use Rattle.std.specs.Prelude.{◌≡◌, ◌-◌, ◌≤◌, ◌<◌, ℕ,
 ghost use Rattle.std.specs.Ordering.{int_eq};
 ghost use Rattle.indexmap.specs.IndexMap.{index_of};
 ghost use Rattle.lin_ahead.specs.Values.PossibleOwners.{IsNotFromStart, AreOwnersOf, AreOwnerRows};
-ghost use Rattle.lin_ahead.specs.Values.Writers.{low_by, HasAllRows, HaveAllRows, AreInOrder, AreUnder, IsFinder, IsSince, NoOwners, AreListedFrom};
+ghost use Rattle.lin_ahead.specs.Values.Writers.{low_by, AreInOrder, AreUnder};
+ghost use Rattle.lin_ahead.specs.Values.Writers.{HasAllRows, HaveAllRows, IsFinder, IsSince, NoOwners, AreListedFrom};
 
 use crate::values::breaking_calls::{Finder, Sought, finder_of, look_on};
 use crate::values::value_calls::ValueCalls;
@@ -42,6 +43,16 @@ fn untold(alloc: Global) -> Owners
     }
 }
 
+// No call in front of the finder was looked at.
+fn nothing_sought(finder: &Finder) -> Sought
+    ensures { result.since ≡ 0 }
+{
+    Sought {
+        next: finder.call,
+        since: 0,
+    }
+}
+
 // The row before this place, if it is one of the value that the finder found.
 fn row_before(rows: &[Writer], finder: &Finder, place: usize) -> Option<Writer>
     requires within { place ≤ length rows.now }
@@ -61,8 +72,8 @@ fn row_before(rows: &[Writer], finder: &Finder, place: usize) -> Option<Writer>
     }
 }
 
-// A place from which on up to this one no row is that of an owner; none where the row in front of this place may be. A call that breaks
-// the value was called at `since`, and returned before the finder was called; or this is 0.
+// A place from which on up to this one no row is that of an owner; none where the row in front of this place may be. A call that
+// breaks the value was called at `since`, and returned before the finder was called; or this is 0.
 fn passed(
     calls: &[ProblemCall<Op, Reply>],
     writers: &Writers,
@@ -88,8 +99,33 @@ fn passed(
     None
 }
 
-// Lists the calls with rows before this place that may have written what the finder found. When the call was called that breaks the
-// value last, as far as was asked; `None` if there are too many.
+// Whether more calls than are told of may have written what the finder found, of those with rows in front of this place: they were
+// called after the last call that breaks the value. A hint.
+fn are_many(
+    calls: &[ProblemCall<Op, Reply>],
+    writers: &Writers,
+    finder: &Finder,
+    place: usize,
+) -> bool {
+    if place <= MOST_OWNERS {
+        return false;
+    }
+    match writers.rows.get(place - MOST_OWNERS - 1) {
+        Some(row) if finder.low <= row.key => look_on(
+            calls,
+            writers.others.as_slice(),
+            finder,
+            nothing_sought(finder),
+            0,
+        )
+        .since
+            < row.key - finder.low,
+        _ => false,
+    }
+}
+
+// Lists the calls that may have written what the finder found, and tells how far calls were looked at for one that breaks its
+// value. `None` if they are too many.
 fn list_owners(
     calls: &[ProblemCall<Op, Reply>],
     writers: &Writers,
@@ -104,18 +140,27 @@ fn list_owners(
         writers.now.rows.items 0 owners.new.items)) }
 {
     let mut place = writers.end(finder.low, finder.high);
-    let mut sought = Sought {
-        next: finder.call,
-        since: 0,
-    };
+    if are_many(calls, writers, finder, place) {
+        return Ok(None);
+    }
+    let mut sought = nothing_sought(finder);
     for _ in 0..MOST_STEPS {
         let Some(row) = row_before(writers.rows.as_slice(), finder, place) else {
             return Ok(Some(sought));
         };
-        sought = look_on(calls, finder, sought, row.returned);
+        sought = look_on(
+            calls,
+            writers.others.as_slice(),
+            finder,
+            sought,
+            row.returned,
+        );
         match passed(calls, writers, finder, place, row, sought.since) {
             Some(next) => place = next,
             None => {
+                if owners.len() >= MOST_OWNERS {
+                    return Ok(None);
+                }
                 owners.push(row.call)?;
                 place -= 1;
             }
@@ -127,6 +172,7 @@ fn list_owners(
 // Whether the value that the finder found may have been there from the start on.
 fn may_be_from_start(
     calls: &[ProblemCall<Op, Reply>],
+    writers: &Writers,
     start: i64,
     finder: &Finder,
     sought: Sought,
@@ -135,7 +181,7 @@ fn may_be_from_start(
     requires since { IsSince calls.now finder.now sought.since }
     ensures { result ≡ false → IsNotFromStart calls.now start finder.now.value finder.now.call }
 {
-    finder.value == start && look_on(calls, finder, sought, 0).since == 0
+    finder.value == start && look_on(calls, writers.others.as_slice(), finder, sought, 0).since == 0
 }
 
 // The owners of a call that found a value.
@@ -154,12 +200,12 @@ fn owners_of_finder(
 {
     let mut owners = Vec::new(alloc);
     match list_owners(calls, writers, finder, &mut owners)? {
-        Some(sought) if owners.len() <= MOST_OWNERS => Ok(Owners {
+        Some(sought) => Ok(Owners {
+            at_start: may_be_from_start(calls, writers, start, finder, sought),
             calls: owners,
-            at_start: may_be_from_start(calls, start, finder, sought),
             are_told: true,
         }),
-        _ => Ok(untold(alloc)),
+        None => Ok(untold(alloc)),
     }
 }
 
@@ -173,12 +219,13 @@ fn owners_of_call(
     call: usize,
 ) -> Result<Owners, AllocError>
     requires within { call < length calls.now }
-    requires all { HaveAllRows calls.now (λ v. low_by (index_of int_eq values.now v)) writers.now.rows.items }
+    requires all { HaveAllRows calls.now
+        (λ v. low_by writers.now.lows.items (index_of int_eq values.now v)) writers.now.rows.items }
     requires order { AreInOrder writers.now.rows.items }
     requires under { AreUnder writers.now.rows.items writers.now.under.items }
     ensures { IfOk result (λ row. IsTrue row.are_told → AreOwnersOf calls.now start call row) }
 {
-    match finder_of(values, &calls[call], call) {
+    match finder_of(values, writers.lows.as_slice(), &calls[call], call) {
         Some(finder) => owners_of_finder(alloc, start, calls, writers, &finder),
         None => Ok(untold(alloc)),
     }

@@ -4,17 +4,18 @@ ghost use Rattle.std.specs.Prelude.{◌≡◌, ◌+◌, ◌*◌, ◌^◌, ◌<�
 ghost use Rattle.std.specs.Ordering.{int_eq};
 ghost use Rattle.indexmap.specs.IndexMap.{index_of};
 ghost use Rattle.lin_ahead.specs.Values.Register.{value_written};
-ghost use Rattle.lin_ahead.specs.Values.Writers.{low_by, returned_or_beyond, HaveAllRows, AreInOrder, NoneLater, AreUnder};
+ghost use Rattle.lin_ahead.specs.Values.Writers.{low_at, low_by, returned_or_beyond, HaveAllRows, AreInOrder, NoneLater, AreUnder};
 
 use crate::items::item_calls::BEYOND;
+use crate::values::breaking_calls::others_before;
 use crate::values::value_calls::{ValueCalls, value_written};
 use indexmap::IndexMap;
 use lin_history::ProblemCall;
 use lin_object::{Op, Reply};
 use std::alloc::{AllocError, Global};
 
-// With so many values none is numbered.
-const MOST_VALUES: u64 = 1 << 31;
+// The keys of a value that has rows begin below this.
+const MOST_LOW: u64 = 1 << 63;
 
 // How many rows are passed by links for one link.
 const LINKS_IN_SIGHT: usize = 64;
@@ -40,21 +41,54 @@ pub(crate) struct Writers {
     pub rows: Vec<Writer>,
     /// For each row a place from which on no row up to it returned later.
     pub under: Vec<usize>,
-    /// For each number of a value the place behind the last row of it and of those before it. A hint.
+    /// For each value of the map from which key on its rows stand.
+    pub lows: Vec<u64>,
+    /// For each call one more than the last call before it that may break a value which this one does not break. A hint.
+    pub others: Vec<usize>,
+    // For each number of a value the place behind the last of its rows. A hint.
     ends: Vec<usize>,
 }
 
-/// From which key on the rows of the calls stand that may write the value. `None` for a value that has no number.
-pub(crate) fn low_of(values: &IndexMap<i64, ValueCalls>, value: i64) -> Option<u64>
-    ensures is { result ≡ low_by (index_of int_eq values.now value) }
+// From which key on the rows of the value with this index stand, if that is told.
+fn low_at(lows: &[u64], index: usize) -> Option<u64>
+    ensures is { result ≡ low_at (slice_get lows.now index) }
     ensures below { IfSome result (λ low. low < 2 ^ 63) }
 {
-    let number = values.get_index_of(&value)? as u64;
-    if number < MOST_VALUES {
-        Some(number * BEYOND)
-    } else {
-        None
+    match lows.get(index) {
+        Some(low) if *low < MOST_LOW => Some(*low),
+        _ => None,
     }
+}
+
+/// From which key on the rows of the calls stand that may write the value, by that of each value of the map. `None` for a
+/// value that is not in the map.
+pub(crate) fn low_of(values: &IndexMap<i64, ValueCalls>, lows: &[u64], value: i64) -> Option<u64>
+    ensures is { result ≡ low_by lows.now (index_of int_eq values.now value) }
+    ensures below { IfSome result (λ low. low < 2 ^ 63) }
+{
+    low_at(lows, values.get_index_of(&value)?)
+}
+
+// For each value of the map from which key on its rows stand: its number times 2^32. Values are numbered from 1 on in the order in
+// which calls write them, so that rows of values that are written once are in order from the beginning. A hint.
+fn lows_of_values(
+    alloc: Global,
+    values: &IndexMap<i64, ValueCalls>,
+    calls: &[ProblemCall<Op, Reply>],
+) -> Result<Vec<u64>, AllocError> {
+    let mut lows = vec![in alloc; 0u64; values.len()]?;
+    let mut last: u64 = 0;
+    for call in calls {
+        if let Some(value) = value_written(call)
+            && let Some(index) = values.get_index_of(&value)
+            && let Some(low) = lows.get_mut(index)
+            && *low == 0
+        {
+            last = last.saturating_add(BEYOND);
+            *low = last;
+        }
+    }
+    Ok(lows)
 }
 
 // When the call returned; beyond all events while it is pending.
@@ -70,17 +104,18 @@ fn returned_or_beyond(call: &ProblemCall<Op, Reply>) -> u64
 // The row of the call, if it may write a value that has a number.
 fn writer_of(
     values: &IndexMap<i64, ValueCalls>,
+    lows: &[u64],
     one: &ProblemCall<Op, Reply>,
     call: usize,
 ) -> Option<Writer>
     ensures { (v : ℤ) (n : ℕ) → value_written one.now.op one.now.returned ≡ Some v
-        → low_by (index_of int_eq values.now v) ≡ Some n → result ≡ Some record {
+        → low_by lows.now (index_of int_eq values.now v) ≡ Some n → result ≡ Some record {
           key = n + one.now.called;
           call = call;
           returned = returned_or_beyond one.now.returned;
         } }
 {
-    let low = low_of(values, value_written(one)?)?;
+    let low = low_of(values, lows, value_written(one)?)?;
     Some(Writer {
         key: low + u64::from(one.called),
         call,
@@ -92,13 +127,14 @@ fn writer_of(
 fn writers_by_calls(
     alloc: Global,
     values: &IndexMap<i64, ValueCalls>,
+    lows: &[u64],
     calls: &[ProblemCall<Op, Reply>],
 ) -> Result<Vec<Writer>, AllocError>
-    ensures { IfOk result (λ rows. HaveAllRows calls.now (λ v. low_by (index_of int_eq values.now v)) rows.items) }
+    ensures { IfOk result (λ rows. HaveAllRows calls.now (λ v. low_by lows.now (index_of int_eq values.now v)) rows.items) }
 {
     let mut rows = Vec::new(alloc);
     for call in 0..calls.len() {
-        if let Some(row) = writer_of(values, &calls[call], call) {
+        if let Some(row) = writer_of(values, lows, &calls[call], call) {
             rows.push(row)?;
         }
     }
@@ -109,12 +145,13 @@ fn writers_by_calls(
 fn writers_in_order(
     alloc: Global,
     values: &IndexMap<i64, ValueCalls>,
+    lows: &[u64],
     calls: &[ProblemCall<Op, Reply>],
 ) -> Result<Vec<Writer>, AllocError>
-    ensures all { IfOk result (λ rows. HaveAllRows calls.now (λ v. low_by (index_of int_eq values.now v)) rows.items) }
+    ensures all { IfOk result (λ rows. HaveAllRows calls.now (λ v. low_by lows.now (index_of int_eq values.now v)) rows.items) }
     ensures order { IfOk result (λ rows. AreInOrder rows.items) }
 {
-    let mut rows = writers_by_calls(alloc, values, calls)?;
+    let mut rows = writers_by_calls(alloc, values, lows, calls)?;
     rows.sort_by_key(|one| one.key)?;
     Ok(rows)
 }
@@ -153,18 +190,13 @@ fn number_of(key: u64) -> usize {
     (key / BEYOND) as usize
 }
 
-// For each of so many numbers the place behind the last row of it and of those before it.
+// For each of so many numbers the place behind the last of its rows. It is 0 for the number 0, which values without rows have.
 fn ends_of_values(alloc: Global, rows: &[Writer], count: usize) -> Result<Vec<usize>, AllocError> {
     let mut ends = vec![in alloc; 0usize; count]?;
     for place in 0..rows.len() {
         if let Some(slot) = ends.get_mut(number_of(rows[place].key)) {
             *slot = place + 1;
         }
-    }
-    let mut end = 0;
-    for slot in ends.iter_mut() {
-        end = usize::max(end, *slot);
-        *slot = end;
     }
     Ok(ends)
 }
@@ -176,14 +208,18 @@ impl Writers {
         values: &IndexMap<i64, ValueCalls>,
         calls: &[ProblemCall<Op, Reply>],
     ) -> Result<Self, AllocError>
-        ensures all { IfOk result (λ writers. HaveAllRows calls.now (λ v. low_by (index_of int_eq values.now v)) writers.rows.items) }
+        ensures all { IfOk result (λ writers. HaveAllRows calls.now
+            (λ v. low_by writers.lows.items (index_of int_eq values.now v)) writers.rows.items) }
         ensures order { IfOk result (λ writers. AreInOrder writers.rows.items) }
         ensures under { IfOk result (λ writers. AreUnder writers.rows.items writers.under.items) }
     {
-        let rows = writers_in_order(alloc, values, calls)?;
+        let lows = lows_of_values(alloc, values, calls)?;
+        let rows = writers_in_order(alloc, values, lows.as_slice(), calls)?;
         Ok(Writers {
             under: under_each(alloc, rows.as_slice())?,
-            ends: ends_of_values(alloc, rows.as_slice(), values.len())?,
+            ends: ends_of_values(alloc, rows.as_slice(), values.len().saturating_add(1))?,
+            others: others_before(alloc, calls)?,
+            lows,
             rows,
         })
     }

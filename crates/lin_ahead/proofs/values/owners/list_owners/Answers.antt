@@ -5,7 +5,7 @@ use Rattle.lin_ahead.specs.declared.values.writers.Writer.{Writer}
 use Rattle.lin_ahead.specs.Values.Writers.{AreListedFrom}
 use Rattle.lin_ahead.proofs.values.PossibleOwnerLemmas.{listed_none, listed_passed, listed_pushed, listed_all}
 use Rattle.lin_ahead.proofs.values.owners.list_owners.Goals as goal
-use Rattle.lin_ahead.proofs.values.owners.list_owners.Goals.{in-Some-passed, in-None+in_ok-push-in-None}
+use Rattle.lin_ahead.proofs.values.owners.list_owners.Goals.{in-Some-passed, in-None+else-len-ge-MOST_OWNERS+in_ok-push-in-None}
 
 pub loop-init : goal.loop-init
 loop-init c = record {
@@ -24,15 +24,15 @@ loop-preserved c =
     let within : c.loop.place ≤ length rows = c.loop.invariant.within in
     elim c.match-passed.branch [
       | in-Some-passed w ↦ rw (w.place-is, w.owners-is) (record {
-          within = let low = w.in-Some-passed.ensures.0 in omega (arith, low, within);
-          since = c.look_on-sought.ensures;
-          listed = listed_passed calls finder rows w.in-Some-passed.next c.loop.place c.loop.owners.items w.in-Some-passed.ensures.1 c.loop.invariant.listed;
-        })
-      | in-None+in_ok-push-in-None w ↦ rw (w.place-is, w.owners-is) (record {
-          within = omega (arith, within);
-          since = c.look_on-sought.ensures;
-          listed = subst (λ (l : List ℕ). AreListedFrom calls finder rows (c.loop.place - 1) l) (sym w.in_ok-push-in-None.ensures.items) (listed_pushed calls finder rows c.loop.place c.in-Some.row c.loop.owners.items first here c.loop.invariant.listed);
-        })
+        within = let low = w.in-Some-passed.ensures.0 in omega (arith, low, within);
+        since = c.look_on-sought.ensures;
+        listed = listed_passed calls finder rows w.in-Some-passed.next c.loop.place c.loop.owners.items w.in-Some-passed.ensures.1 c.loop.invariant.listed;
+      })
+      | in-None+else-len-ge-MOST_OWNERS+in_ok-push-in-None w ↦ rw (w.place-is, w.owners-is) (record {
+        within = omega (arith, within);
+        since = c.look_on-sought.ensures;
+        listed = subst (λ (l : List ℕ). AreListedFrom calls finder rows (c.loop.place - 1) l) (sym w.in_ok-push-in-None.ensures.items) (listed_pushed calls finder rows c.loop.place c.in-Some.row c.loop.owners.items first here c.loop.invariant.listed);
+      })
     ]
 
 pub returns-in_default-clause-listed : goal.returns-in_default-clause-listed

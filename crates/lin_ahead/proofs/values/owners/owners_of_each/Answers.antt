@@ -1,7 +1,20 @@
-use Rattle.std.proofs.Common.{◌≡◌, rules, subst, to_z, of_z, w64}
+use Rattle.std.proofs.Common.{◌≡◌, ◌++◌, ◌∷◌, [], List, length, length-append, rules, sym, ◌∙◌, ap, subst, to_z, of_z, w64, arith}
 use Rattle.std.specs.Prelude.{ℤ}
+use Rattle.lin_ahead.specs.declared.values.owners.Owners.{Owners}
 use Rattle.lin_ahead.specs.Values.PossibleOwners.{AreOwnerRows}
+use Rattle.lin_ahead.proofs.values.PossibleOwnerLemmas.{rows_pushed}
 use Rattle.lin_ahead.proofs.values.owners.owners_of_each.Goals as goal
+
+pub loop-call-preserved : goal.loop-call-preserved
+loop-call-preserved c =
+    let calls = c.args.calls.now in
+    let start = to_z w64 (of_z w64 c.args.start) in
+    let rows = c.loop-call.rows.items in
+    let size : length rows ≡ c.loop-call.call = c.loop-call.invariant.each in
+    record {
+      each = ap (λ (l : List Owners). length l) c.in_ok-push.ensures.items ∙ simp length-append (omega (arith, size));
+      told = subst (λ (l : List Owners). AreOwnerRows calls start l) (sym {A = List Owners} c.in_ok-push.ensures.items) (rows_pushed calls start rows c.loop-call.call c.in_ok-owners_of_call.field-0 size c.in_ok-owners_of_call.ensures c.loop-call.invariant.told);
+    }
 
 pub returns : goal.returns
 returns c =

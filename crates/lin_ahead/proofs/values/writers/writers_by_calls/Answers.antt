@@ -10,7 +10,7 @@ use Rattle.lin_ahead.proofs.values.writers.writers_by_calls.Goals.{in-Some+in_ok
 
 pub loop-call-preserved : goal.loop-call-preserved
 loop-call-preserved c =
-    let low = λ (v : ℤ). low_by (index_of int_eq c.args.values.now v) in
+    let low = λ (v : ℤ). low_by c.args.lows.now (index_of int_eq c.args.values.now v) in
     elim c.match-writer_of.branch [
       | in-Some+in_ok-push w ↦ rw w.rows-is (subst (λ (l : List Writer). RowsTo c.args.calls.now low (c.loop-call.call + 1) l) (sym w.in_ok-push.ensures.items)
           (row_more_at c.args.calls.now low c.loop-call.call c.loop-call.rows.items _ w.in-Some.row c.loop-call-test.true w.in-Some.ensures c.loop-call.invariant))
@@ -18,4 +18,4 @@ loop-call-preserved c =
     ]
 
 pub returns : goal.returns
-returns c = rows_all c.args.calls.now (λ (v : ℤ). low_by (index_of int_eq c.args.values.now v)) c.loop-call.call c.loop-call.rows.items c.loop-call-test.false c.loop-call.invariant
+returns c = rows_all c.args.calls.now (λ (v : ℤ). low_by c.args.lows.now (index_of int_eq c.args.values.now v)) c.loop-call.call c.loop-call.rows.items c.loop-call-test.false c.loop-call.invariant

@@ -6,4 +6,4 @@ use Rattle.lin_ahead.proofs.values.WriterLemmas.{RowsTo}
 use Rattle.lin_ahead.proofs.values.writers.writers_by_calls.Given as goal
 
 abbrev pub invariant-loop-call : goal.invariant-loop-call
-invariant-loop-call l = RowsTo l.calls (λ (v : ℤ). low_by (index_of int_eq l.values v)) l.call l.rows.items
+invariant-loop-call l = RowsTo l.calls (λ (v : ℤ). low_by l.lows (index_of int_eq l.values v)) l.call l.rows.items
