@@ -20,10 +20,10 @@ use Rattle.lin_ahead.specs.declared.values.needed_pairs.CallNumbers.{CallNumbers
 use Rattle.lin_ahead.specs.declared.values.value_calls.ValueCalls.{ValueCalls}
 use Rattle.lin_ahead.specs.Items.ItemCalls.{is_of, one_more}
 use Rattle.lin_ahead.specs.Items.Numbers.{CalledFrom}
-use Rattle.lin_ahead.specs.Values.Register.{IsOfRegister, value_written, value_found, MayWrite, Finds, IsSingle, OfCluster, IsClusterBy, IsClusterFrom, AreClusterNumbers}
+use Rattle.lin_ahead.specs.Values.Register.{IsOfRegister, value_written, value_found, MayWrite, IsSingle, OfCluster, IsClusterBy, IsClusterFrom, AreClusterNumbers}
 use Rattle.lin_ahead.specs.Values.ValueCalls.{no_value_told, least_return, written_next, found_next, value_next, value_from, value_told, is_single, single_by, cluster_by, cluster_from, cluster_numbers_row, cluster_by_row, cluster_from_row}
 use Rattle.lin_history.specs.ReplyLemmas.{reply_same}
-use Rattle.lin_ahead.proofs.items.RowLemmas.{through, seen_through}
+use Rattle.lin_ahead.proofs.items.RowLemmas.{through}
 
 -- ---- values
 
