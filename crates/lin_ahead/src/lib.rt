@@ -15,7 +15,8 @@
 //! - *hint*: which call or event to ask about. Nothing follows from it before the configuration is asked.
 //! - *needs*: a call needs another one that stands before it in each linearization which has it.
 //! - *owed*: a reply that a completed call returned with, and that no other call can get.
-//! - *held*: while a completed call could follow which found a value that one call alone wrote, no other call changes the state.
+//! - *owner*: of a call that found a value, the last call in front of it that changed the state. Real time tells which calls may be.
+//! - *due*: a completed call that is not lifted, while all calls that may be its owner are.
 //! - *lost*: an item that a call put in and no completed call returned with. A *taker* is a pending call that may have taken it.
 //! - *late*: a call that puts an item in is too late if the item would still be there when a call finds it gone.
 //! - *hurried*: an enqueue is hurried if its item would have to be out by an event by which too few calls that may take it were called.
@@ -50,8 +51,9 @@
 //!   at most. A call that leaves fewer of these than items that must be gone before another call begins no completion.
 //! - *owed replies* (queue, stack): An item that goes in once and that a completed call returned with is that call's: no pending
 //!   call gets it.
-//! - *held values* (register, key of a map): While a value is there that one call alone wrote, no other call changes it until all
-//!   that found it are lifted.
+//! - *due calls* (register, key of a map): No call that changes the state stands in front of a call that is due. So none changes it
+//!   while another one is due. Nor does a call begin a completion behind which one is due that finds another value, or behind which
+//!   two are due that change the value, or one that another call comes before which does not leave the value as it is.
 //! - *too late* (queue, stack): A push begins no completion if what must lie above it is popped only after a call that has to find
 //!   what lies below; nor does an enqueue if what went in before its item was taken comes out only after a call that has to find
 //!   the queue empty.
@@ -93,8 +95,9 @@
 //!   passed over.
 //! - Late pushes are found by one pass over the pushes left, by their returns. All passes together take calls times backlog. *To
 //!   change:* a tree of greatest numbers, for backlogs far above 128.
-//! - The state of a register is held until a call: a flag for each call, and one step of the one finder that a search follows. With
-//!   the next 64 finders instead, no order was found for 64 processes.
+//! - Which calls are due is counted: for each call how many of its owners are not lifted. Of the calls that a lift makes due the
+//!   search asks about the one that was called last, and of those that come before it about the first that by its reply does not
+//!   leave the value as it is. It makes one step for that, so the rule knows nothing of values.
 //! - A first search of a queue asks at the root, for each call, whether takers are lacking. Otherwise it would find that out behind
 //!   every order of the calls in front. So items that were lost for too long show before the first lift; if no dequeue is pending,
 //!   two calls that cross show them. A separate test before any search would show nothing more: queues of 8 to 24 clients that

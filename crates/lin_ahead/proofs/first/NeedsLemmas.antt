@@ -1,10 +1,10 @@
 -- A completion of a reachable configuration, put behind its run, is a linearization: so none begins with a call that needs one that is left out, or with a pending one that would get a reply which is owed.
-use Rattle.std.proofs.Common.{◌≡◌, ◌≢◌, ℕ, Bool, true, false, Some, List, [], ◌∷◌, ◌++◌, length, ◌⊎◌, inl, inr, refl, sym, ◌∙◌, ap, subst, append_assoc}
+use Rattle.std.proofs.Common.{◌≡◌, ℕ, Bool, true, false, Some, List, [], ◌∷◌, ◌++◌, length, ◌⊎◌, inl, inr, refl, sym, ◌∙◌, ap, subst, append_assoc}
 use Rattle.std.specs.Prelude.{Option, None, is_some, IfSome}
 use Rattle.lin_history.specs.Problems.Problem.{Problem}
 use Rattle.lin_history.specs.Problems.Lists.{In, IsDistinct}
 use Rattle.lin_history.specs.Problems.ListLemmas.{apart, has_none, in_early, in_late, in_either, in_place}
-use Rattle.lin_history.specs.Problems.LegalLists.{next, Legal}
+use Rattle.lin_history.specs.Problems.LegalLists.{Legal}
 use Rattle.lin_history.specs.Problems.Precedence.{Before, IsCompleted}
 use Rattle.lin_history.specs.Problems.Continuations.{has, no_calls, IsCompletion}
 use Rattle.lin_history.specs.Problems.Linearizations.{IsRun, IsLinearization}

@@ -1,19 +1,18 @@
 -- No call that changes the state stands in front of a call that is due: so no completion begins with a call that changes it, or makes the calls between that and one that is due change it.
-use Rattle.std.proofs.Common.{◌≡◌, ◌≢◌, ℕ, Bool, true, false, Option, Some, None, List, [], ◌∷◌, ◌++◌, length, ◌⊎◌, inl, inr, refl, sym, ◌∙◌, ap, subst, append_assoc}
+use Rattle.std.proofs.Common.{◌≡◌, ◌≢◌, ℕ, Bool, true, false, Option, Some, None, List, [], ◌∷◌, ◌++◌, inl, inr, refl, sym, ◌∙◌, ap, subst, append_assoc}
 use Rattle.std.proofs.Common.{Result, Ok, Err}
 use Rattle.std.specs.Prelude.{IfOk, IsTrue}
 use Rattle.lin_history.specs.Problems.Problem.{Problem}
-use Rattle.lin_history.specs.Problems.Lists.{In, IsDistinct}
-use Rattle.lin_history.specs.Problems.ListLemmas.{apart, has_none, in_early, in_late, in_either, in_place}
+use Rattle.lin_history.specs.Problems.Lists.{In}
+use Rattle.lin_history.specs.Problems.ListLemmas.{apart, in_early, in_late, in_either, in_place}
 use Rattle.lin_history.specs.Problems.LegalLists.{next, Legal}
-use Rattle.lin_history.specs.Problems.Precedence.{Before, IsCompleted}
 use Rattle.lin_history.specs.Problems.Continuations.{has, IsCompletion}
 use Rattle.lin_history.specs.Problems.Linearizations.{IsLinearization}
 use Rattle.lin_history.specs.Problems.Configurations.{IsReachable}
 use Rattle.lin_search.specs.NextCall.{IsNext}
 use Rattle.lin_search.specs.AlikeLemmas.{AreAlike}
 use Rattle.lin_ahead.specs.First.FirstProgress.{BeginsNone}
-use Rattle.lin_ahead.specs.Values.Owners.{Leaves, Changes, AllLeave, LastChange, IsOwnedBy}
+use Rattle.lin_ahead.specs.Values.Owners.{AllLeave, LastChange, IsOwnedBy}
 use Rattle.lin_ahead.specs.Values.Due.{IsInWith, AreInWith, IsDue, AnotherIsDue, FindsAnother, ComesBetween, TwoChange}
 use Rattle.lin_ahead.proofs.first.NeedsLemmas.{place_split, joined, stands}
 

@@ -298,10 +298,6 @@ module _ (law : MapLaw after state_eq.it) where
     legal_split [] ys s u legal = (s, refl, legal)
     legal_split (x ∷ xs) ys s u legal = let r = legal_split xs ys legal.0 u legal.2 in (r.0, (legal.0, legal.1, r.1), r.2)
 
-    legal_one : (l : List ℕ) (s t u : ObjState) → Legal P s l t → Legal P s l u → t ≡ u
-    legal_one [] s t u a b = sym a ∙ b
-    legal_one (c ∷ cs) s t u a b = legal_one cs a.0 t u a.2 (subst (λ (m : ObjState). Legal P m cs u) (let f = a.1 in let g = b.1 in cc) b.2)
-
     -- a call that leaves the register as it is leaves the map so
     same_map : (pairs behind : List Pair) (s m t to : ObjState) → Shows k pairs s t → Shows k behind m to → ((key : ℤ) → int_eq k key ≡ false → value_at key behind ≡ value_at key pairs) → state_eq.it to t ≡ true → state_eq.it m s ≡ true
     same_map pairs behind s m t to here there others same =

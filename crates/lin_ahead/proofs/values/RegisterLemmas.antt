@@ -121,10 +121,6 @@ module _ {p : Problem ObjState Op Reply} {start : ℤ} (of : IsOfRegister p star
   legal_split [] ys s u k = (s, refl, k)
   legal_split (x ∷ xs) ys s u k = let r = legal_split xs ys k.0 u k.2 in (r.0, (k.0, k.1, r.1), r.2)
 
-  pub legal_one : (l : List ℕ) (s t u : ObjState) → Legal p s l t → Legal p s l u → t ≡ u
-  legal_one [] s t u a b = sym a ∙ b
-  legal_one (c ∷ cs) s t u a b = legal_one cs a.0 t u a.2 (subst (λ (m : ObjState). Legal p m cs u) (let f = a.1 in let g = b.1 in cc) b.2)
-
   pub from_start : (l : List ℕ) (s : ObjState) → Legal p p.start l s → Legal p (Register start) l s
   from_start l s k = subst (λ (u : ObjState). Legal p u l s) of.start_is k
 
