@@ -18,8 +18,8 @@ fn takes(call: &ProblemCall<Op, Reply>) -> bool
     }
 }
 
-// The one owner, if there is just one: a call, or none where it is the start.
-fn sole_owner(owners: &Owners) -> Option<Option<usize>>
+/// The one owner, if there is just one: a call, or none where it is the start.
+pub(crate) fn sole_owner(owners: &Owners) -> Option<Option<usize>>
     ensures { IfSome result (λ owner. IsSoleOwner owners.now owner) }
 {
     if !owners.are_told {
