@@ -10,4 +10,6 @@ pub mod PairLemmas
 pub mod VainLemmas
 pub mod KeyLemmas
 pub mod WriterLemmas
+pub mod NumberLemmas
 pub mod DueLemmas
+pub mod PossibleOwnerLemmas

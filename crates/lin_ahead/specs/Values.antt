@@ -10,3 +10,4 @@ pub mod ValueCalls
 pub mod ToldOfRegister
 pub mod KeyValue
 pub mod TakenTwice
+pub mod Clusters

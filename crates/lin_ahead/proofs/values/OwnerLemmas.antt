@@ -57,10 +57,13 @@ module _ (p : Problem ObjState Op Reply) (exact : (s t : ObjState) → p.same_st
       go : (b : Bool) → p.same_state m s ≡ b → t ≡ m → AllLeave p m cs → Changed s t (c ∷ cs)
       go true same e kept =
           let is : m ≡ s = exact m s same in
-          inr (e ∙ is, λ d h. elim h [
-            | inl here ↦ subst (λ (n : ℕ). Leaves p s n) (sym here) (m, step, same)
-            | inr there ↦ subst (λ (u : ObjState). Leaves p u d) is (kept d there)
-          ])
+          inr (
+            e ∙ is,
+            λ d h. elim h [
+              | inl here ↦ subst (λ (n : ℕ). Leaves p s n) (sym here) (m, step, same)
+              | inr there ↦ subst (λ (u : ObjState). Leaves p u d) is (kept d there)
+            ],
+          )
       go false other e kept = inl (record {
         owner = c;
         front = [];

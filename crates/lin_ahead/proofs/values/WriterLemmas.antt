@@ -82,15 +82,19 @@ module _ (calls : List (ProblemCall Op Reply)) (low : ℤ → Option ℕ) where
     | inr from ↦ (
         let at : w ≡ n = omega (arith, less, from) in
         let same : x ≡ y = one x y (sym here ∙ subst (λ (i : ℕ). slice_get calls i ≡ Some y) at there) in
-        let is : r ≡ record { key = m + x.called; call = n; returned = returned_or_beyond x.returned } = one r (record { key = m + x.called; call = n; returned = returned_or_beyond x.returned }) (told v m (subst (λ (z : ProblemCall Op Reply). value_written z.op z.returned ≡ Some v) (sym same) writes) numbered) in
-        (length rows, r, pushed_last rows r, record {
-          one = y;
-          there = there;
-          writes = writes;
-          call = ap (λ (s : Writer). s.call) is ∙ sym at;
-          key = ap (λ (s : Writer). s.key) is ∙ ap (λ (z : ProblemCall Op Reply). m + z.called) same;
-          returned = ap (λ (s : Writer). s.returned) is ∙ ap (λ (z : ProblemCall Op Reply). returned_or_beyond z.returned) same;
-        }))
+        let is : r ≡ record { key = m + x.called; call = n; returned = returned_or_beyond x.returned } = one r (record { key = m + x.called; call = n; returned = returned_or_beyond x.returned }) (told v m (subst (λ (z : ProblemCall Op Reply). value_written z.op z.returned ≡ Some v) (sym same) writes) numbered) in (
+          length rows,
+          r,
+          pushed_last rows r,
+          record {
+            one = y;
+            there = there;
+            writes = writes;
+            call = ap (λ (s : Writer). s.call) is ∙ sym at;
+            key = ap (λ (s : Writer). s.key) is ∙ ap (λ (z : ProblemCall Op Reply). m + z.called) same;
+            returned = ap (λ (s : Writer). s.returned) is ∙ ap (λ (z : ProblemCall Op Reply). returned_or_beyond z.returned) same;
+          },
+        ))
   ]
 
   pub row_same : (n : ℕ) (rows : List Writer) (x : ProblemCall Op Reply) → slice_get calls n ≡ Some x → RowFor n x None → RowsTo n rows → RowsTo (n + 1) rows

@@ -50,7 +50,7 @@ module _ (calls : List (ProblemCall Op Reply)) where
   abbrev pub HaveAllRows : (ℤ → Option ℕ) → List Writer → Type 0
   HaveAllRows low rows = (v : ℤ) (n : ℕ) → low v ≡ Some n → HasAllRows v n rows
 
-  -- The call found this value, and was called and returned at these events.
+  -- The call found this value, and was called at this event; the greatest key is that of a call called when it returned.
   pub record IsFinder (f : Finder) : Type 0 where
     pub one : ProblemCall Op Reply
     pub there : slice_get calls f.call ≡ Some one
@@ -58,7 +58,7 @@ module _ (calls : List (ProblemCall Op Reply)) where
     pub called : f.called ≡ one.called
     pub back : ℕ × Reply
     pub returns : one.returned ≡ Some back
-    pub returned : f.returned ≡ back.0
+    pub high : f.high ≡ f.low + back.0
 
   -- A call that was called at this event breaks the value, and returned before the finder was called.
   pub record IsBroken (f : Finder) (since : ℕ) : Type 0 where
@@ -66,6 +66,7 @@ module _ (calls : List (ProblemCall Op Reply)) where
     pub one : ProblemCall Op Reply
     pub there : slice_get calls call ≡ Some one
     pub called : one.called ≡ since
+    pub few : since < 2 ^ 32
     pub back : ℕ × Reply
     pub returns : one.returned ≡ Some back
     pub before : back.0 < f.called

@@ -1,6 +1,6 @@
 //! Calls that found a value, and calls that break one: while such a call stands in a run, the value is not there all the time.
 
-ghost use Rattle.std.specs.Prelude.{◌≡◌, ◌^◌, ◌<◌, Some, List, slice_get, IfSome, IsSomeAnd, IsTrue};
+ghost use Rattle.std.specs.Prelude.{◌≡◌, ◌<◌, Some, List, slice_get, IfSome, IsSomeAnd, IsTrue};
 ghost use Rattle.std.specs.Ordering.{int_eq};
 ghost use Rattle.indexmap.specs.IndexMap.{index_of};
 ghost use Rattle.lin_ahead.specs.Values.PossibleOwners.{breaks};
@@ -24,10 +24,10 @@ pub(crate) struct Finder {
     pub value: i64,
     /// When it was called.
     pub called: u64,
-    /// When it returned.
-    pub returned: u64,
     /// From which key on the rows of the calls stand that may write the value.
     pub low: u64,
+    /// Up to which key, of those that were called before it returned.
+    pub high: u64,
 }
 
 /// How far the calls in front of a finder were looked at for one that breaks its value.
@@ -46,7 +46,6 @@ pub(crate) fn finder_of(
     call: usize,
 ) -> Option<Finder>
     ensures low { IfSome result (λ f. low_by (index_of int_eq values.now f.value) ≡ Some f.low) }
-    ensures below { IfSome result (λ f. f.low < 2 ^ 63) }
     ensures call { IfSome result (λ f. f.call ≡ call) }
     ensures finder { IfSome result (λ f. (calls : List (ProblemCall Op Reply))
         → slice_get calls call ≡ Some one.now → IsFinder calls f) }
@@ -58,8 +57,8 @@ pub(crate) fn finder_of(
             call,
             value,
             called: u64::from(one.called),
-            returned: u64::from(*number),
             low,
+            high: low + u64::from(*number),
         }),
         None => None,
     }

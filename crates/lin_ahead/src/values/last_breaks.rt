@@ -85,7 +85,11 @@ impl Last {
     // With a call more.
     fn with(&self, one: &Break) -> Self {
         if is_later(one, self.most) {
-            let other = if leaves_same(one, self.most) { self.other } else { self.most };
+            let other = if leaves_same(one, self.most) {
+                self.other
+            } else {
+                self.most
+            };
             return Last {
                 most: Some(*one),
                 other,
@@ -123,15 +127,15 @@ impl LastBreaks {
             so_far = so_far.with(row);
             last.push(so_far)?;
         }
-        Ok(LastBreaks {
-            rows,
-            last,
-        })
+        Ok(LastBreaks { rows, last })
     }
 
     /// Of the calls that returned before the event and do not leave the value, the one that was called last.
     pub(crate) fn last_before(&self, event: u64, value: i64) -> Option<Break> {
-        let count = self.rows.as_slice().partition_point(|one| one.returned < event);
+        let count = self
+            .rows
+            .as_slice()
+            .partition_point(|one| one.returned < event);
         self.last.get(count.checked_sub(1)?)?.breaking(value)
     }
 }

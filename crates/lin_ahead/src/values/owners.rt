@@ -1,6 +1,6 @@
 //! Which calls may have written what a call found.
 
-ghost use Rattle.std.specs.Prelude.{◌≡◌, ◌-◌, ◌^◌, ◌≤◌, ◌<◌, ℕ, ℤ, false, Some, length, slice_get, IfNone, IfOk, IfSome, IsTrue};
+ghost use Rattle.std.specs.Prelude.{◌≡◌, ◌-◌, ◌≤◌, ◌<◌, ℕ, ℤ, false, Some, length, slice_get, IfNone, IfOk, IfSome, IsTrue};
 ghost use Rattle.std.specs.Ordering.{int_eq};
 ghost use Rattle.indexmap.specs.IndexMap.{index_of};
 ghost use Rattle.lin_ahead.specs.Values.PossibleOwners.{IsNotFromStart, AreOwnersOf, AreOwnerRows};
@@ -61,28 +61,28 @@ fn row_before(rows: &[Writer], finder: &Finder, place: usize) -> Option<Writer>
     }
 }
 
-// A place before this one up to which no row is that of an owner; none where the row before this place may be. A call since which the
-// value was not there all the time was called at `since`, or there is none and this is 0.
+// A place from which on up to this one no row is that of an owner; none where the row in front of this place may be. A call that breaks
+// the value was called at `since`, and returned before the finder was called; or this is 0.
 fn passed(
     calls: &[ProblemCall<Op, Reply>],
     writers: &Writers,
     finder: &Finder,
     place: usize,
+    row: Writer,
     since: u64,
 ) -> Option<usize>
     requires first { 0 < place }
-    requires within { place ≤ length writers.now.rows.items }
+    requires row { slice_get writers.now.rows.items (place - 1) ≡ Some row }
     requires under { AreUnder writers.now.rows.items writers.now.under.items }
     requires finder { IsFinder calls.now finder.now }
     requires since { IsSince calls.now finder.now since }
     ensures { IfSome result (λ next. (next ≤ place)
         × NoOwners calls.now finder.now writers.now.rows.items next place) }
 {
-    let row = &writers.rows[place - 1];
     if row.returned < since {
         return Some(writers.under[place - 1]);
     }
-    if row.call == finder.call || finder.low + finder.returned < row.key {
+    if row.call == finder.call || finder.high < row.key {
         return Some(place - 1);
     }
     None
@@ -99,12 +99,11 @@ fn list_owners(
     requires order { AreInOrder writers.now.rows.items }
     requires under { AreUnder writers.now.rows.items writers.now.under.items }
     requires finder { IsFinder calls.now finder.now }
-    requires low { finder.now.low < 2 ^ 63 }
     ensures since { IfOk result (λ told. IfSome told (λ sought. IsSince calls.now finder.now sought.since)) }
     ensures listed { IfOk result (λ told. IfSome told (λ sought. AreListedFrom calls.now finder.now
         writers.now.rows.items 0 owners.new.items)) }
 {
-    let mut place = writers.end(finder.low, finder.low + finder.returned);
+    let mut place = writers.end(finder.low, finder.high);
     let mut sought = Sought {
         next: finder.call,
         since: 0,
@@ -114,7 +113,7 @@ fn list_owners(
             return Ok(Some(sought));
         };
         sought = look_on(calls, finder, sought, row.returned);
-        match passed(calls, writers, finder, place, sought.since) {
+        match passed(calls, writers, finder, place, row, sought.since) {
             Some(next) => place = next,
             None => {
                 owners.push(row.call)?;
@@ -151,7 +150,6 @@ fn owners_of_finder(
     requires order { AreInOrder writers.now.rows.items }
     requires under { AreUnder writers.now.rows.items writers.now.under.items }
     requires finder { IsFinder calls.now finder.now }
-    requires low { finder.now.low < 2 ^ 63 }
     ensures { IfOk result (λ row. IsTrue row.are_told → AreOwnersOf calls.now start finder.now.call row) }
 {
     let mut owners = Vec::new(alloc);

@@ -8,7 +8,7 @@ use crate::first::calls_in_turn::CallsInTurn;
 use crate::first::needed_calls::{left_out, needed_in_turn};
 use crate::first::rules::Rules;
 use crate::values::call_values::CallValues;
-use crate::values::clusters::Clusters;
+use crate::values::crossings::Crossings;
 use crate::values::due::Due;
 use crate::values::due_rules::{Next, another_is_due};
 use crate::values::key_value::value_held;
@@ -26,7 +26,7 @@ pub(crate) struct ValueRules<'a> {
     ahead: &'a ValuesAhead,
     needed: CallsInTurn,
     due: Due,
-    clusters: Clusters,
+    crossings: Crossings,
 }
 
 impl<'a> ValueRules<'a> {
@@ -39,7 +39,7 @@ impl<'a> ValueRules<'a> {
             ahead,
             needed: needed_in_turn(alloc, &ahead.needs)?,
             due: Due::new(alloc, ahead.values.as_slice(), ahead.owners.as_slice())?,
-            clusters: Clusters::new(alloc, ahead.values.as_slice(), ahead.owners.as_slice())?,
+            crossings: Crossings::new(alloc, ahead.values.as_slice(), ahead.owners.as_slice())?,
         })
     }
 }
@@ -56,7 +56,7 @@ impl<'a> ValueRules<'a> {
             return Ok(false);
         };
         let values = self.ahead.values.as_slice();
-        match self.clusters.stranded(values, &self.due, next.call, value) {
+        match self.crossings.stranded(values, &self.due, next.call, value) {
             Some(calls) => next.are_stranded(self.alloc, self.ahead.owners.as_slice(), &calls),
             None => Ok(false),
         }
@@ -98,7 +98,7 @@ impl<'a> Rules<AnyObject> for ValueRules<'a> {
     // It may change the state while another call is due, or makes one due.
     fn looks_at_next(&self, _config: &Config<AnyObject>, call: usize) -> bool {
         may_write(self.ahead.values.as_slice(), call)
-            && (self.clusters.are_told()
+            && (self.crossings.are_told()
                 || self.due.has_another(call)
                 || self.due.last_behind(call).is_some())
     }

@@ -1,6 +1,6 @@
 //! Two calls on a register that took away one and the same value: each found what one call alone had made, and changed it.
 
-ghost use Rattle.std.specs.Prelude.{◌≡◌, IfOk, IfSome, IsTrue};
+ghost use Rattle.std.specs.Prelude.{◌≡◌, ℕ, Option, Some, IfOk, IfSome, IsTrue};
 ghost use Rattle.lin_ahead.specs.Values.TakenTwice.{takes, TakesFrom, IsSoleOwner, IsTakenTwice};
 
 use crate::values::owners::Owners;
@@ -20,7 +20,8 @@ fn takes(call: &ProblemCall<Op, Reply>) -> bool
 
 /// The one owner, if there is just one: a call, or none where it is the start.
 pub(crate) fn sole_owner(owners: &Owners) -> Option<Option<usize>>
-    ensures { IfSome result (λ owner. IsSoleOwner owners.now owner) }
+    ensures is { IfSome result (λ owner. IsSoleOwner owners.now owner) }
+    ensures every { (owner : Option ℕ) → IsSoleOwner owners.now owner → result ≡ Some owner }
 {
     if !owners.are_told {
         return None;

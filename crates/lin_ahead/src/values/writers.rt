@@ -40,7 +40,7 @@ pub(crate) struct Writers {
     pub rows: Vec<Writer>,
     /// For each row a place from which on no row up to it returned later.
     pub under: Vec<usize>,
-    /// For each number of a value the place behind the last of its rows. A hint.
+    /// For each number of a value the place behind the last row of it and of those before it. A hint.
     ends: Vec<usize>,
 }
 
@@ -153,13 +153,18 @@ fn number_of(key: u64) -> usize {
     (key / BEYOND) as usize
 }
 
-// For each of so many numbers the place behind the last of its rows.
+// For each of so many numbers the place behind the last row of it and of those before it.
 fn ends_of_values(alloc: Global, rows: &[Writer], count: usize) -> Result<Vec<usize>, AllocError> {
     let mut ends = vec![in alloc; 0usize; count]?;
     for place in 0..rows.len() {
         if let Some(slot) = ends.get_mut(number_of(rows[place].key)) {
             *slot = place + 1;
         }
+    }
+    let mut end = 0;
+    for slot in ends.iter_mut() {
+        end = usize::max(end, *slot);
+        *slot = end;
     }
     Ok(ends)
 }

@@ -1,0 +1,9 @@
+use Rattle.std.proofs.Common.{◌≡◌, length}
+use Rattle.lin_ahead.specs.Values.PossibleOwners.{AreOwnerRows}
+use Rattle.lin_ahead.proofs.values.owners.owners_of_each.Given as goal
+
+abbrev pub invariant-loop-call : goal.invariant-loop-call
+invariant-loop-call l = record {
+  each : length l.rows.items ≡ l.call;
+  told : AreOwnerRows l.calls l.start l.rows.items;
+}
