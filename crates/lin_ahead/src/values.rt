@@ -4,19 +4,22 @@
 //!   called; `each_value`: the same of each value, by one pass; `call_values`: what each call shows of values; `rows`: what is known
 //!   ahead; `needed_pairs`: two calls that need each other; `taken_values`: two calls that took away one and the same value.
 //! - `owners`: the calls of which one wrote what a call found; `writers`: those that may write each value; `breaking_calls`: those by
-//!   which a value is not there all the time.
+//!   which a value is not there all the time; `clusters`: the calls that one call owns, by their events.
 //! - `key_value`: the calls of a map on one key, as calls of a register that holds the key's value.
 //! - `rules`: the rules of a first search; `due_rules`: what follows from calls that are due; `due`: which are; `calls_left`: the completed
-//!   calls that are left, by their returns; `stranded`: what follows from calls that are left to one owner.
+//!   calls that are left, by their returns; `stranded`: what follows from calls that are left to one owner;
+//!   `crossings`: which are, and what stands between them; `last_breaks`: the calls that do not leave a value, by their returns.
 
 pub(crate) mod breaking_calls;
 pub(crate) mod call_values;
 pub(crate) mod calls_left;
 pub(crate) mod clusters;
+pub(crate) mod crossings;
 pub(crate) mod due;
 pub(crate) mod due_rules;
 pub(crate) mod each_value;
 pub(crate) mod key_value;
+pub(crate) mod last_breaks;
 pub(crate) mod needed_pairs;
 pub(crate) mod owners;
 pub(crate) mod rows;

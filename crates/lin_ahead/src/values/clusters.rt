@@ -14,11 +14,7 @@ use lin_object::{Op, Reply};
 use std::alloc::{AllocError, Global};
 
 // The numbers, with the events of a call more.
-fn with_call(
-    numbers: CallNumbers,
-    calls: &[ProblemCall<Op, Reply>],
-    call: usize,
-) -> CallNumbers
+fn with_call(numbers: CallNumbers, calls: &[ProblemCall<Op, Reply>], call: usize) -> CallNumbers
     ensures { AreWidened calls.now call call numbers result }
 {
     let Some(one) = calls.get(call) else {

@@ -5,6 +5,7 @@ use crate::values::call_values::CallValues;
 use crate::values::calls_left::CallsLeft;
 use crate::values::owners::Owners;
 use std::alloc::{AllocError, Global};
+use std::ops::Range;
 
 // So many owners of a call are never all lifted: those of a call are not known.
 const NEVER: usize = usize::MAX;
@@ -121,8 +122,8 @@ impl Due {
         }
     }
 
-    // Whether the call is lifted.
-    fn has(&self, call: usize) -> bool {
+    /// Whether the call is lifted.
+    pub(crate) fn has(&self, call: usize) -> bool {
         match self.is_lifted.get(call) {
             Some(is_lifted) => *is_lifted,
             None => true,
@@ -132,6 +133,16 @@ impl Due {
     // Where those begin that the call may own.
     fn begin_of(&self, call: usize) -> usize {
         self.begins.get(call).copied().unwrap_or(0)
+    }
+
+    /// The places of the calls that the call may own.
+    pub(crate) fn places_of(&self, call: usize) -> Range<usize> {
+        self.begin_of(call)..self.begin_of(call.saturating_add(1))
+    }
+
+    /// The call left that returned first.
+    pub(crate) fn first_left(&self) -> Option<usize> {
+        self.calls_left.first()
     }
 
     // Notes that all owners of the call are lifted.
@@ -232,8 +243,8 @@ impl Due {
         None
     }
 
-    // The call at the place that the call may own, where it will be due once the call is lifted.
-    fn due_behind(&self, place: usize, call: usize) -> Option<usize> {
+    /// The call at the place that the call may own, where it will be due once the call is lifted.
+    pub(crate) fn due_behind(&self, place: usize, call: usize) -> Option<usize> {
         let owned = *self.owned.get(place)?;
         let left = *self.left.get(owned)?;
         if left == 1 && owned != call && !self.has(owned) {

@@ -4,7 +4,7 @@ ghost use Rattle.std.specs.Prelude.{◌≡◌, map, IfOk, slice_get};
 ghost use Rattle.lin_ahead.specs.Values.KeyValue.{key_of, key_at, is_on, are_on, of_one_key, op_on_value, reply_on_value, returned_on_value, call_on_value};
 
 use lin_history::ProblemCall;
-use lin_object::{Op, Reply};
+use lin_object::{ObjState, Op, Reply};
 use std::alloc::{AllocError, Global};
 
 /// What the register holds where the key has no value. No call that is looked at gives the key this value.
@@ -49,6 +49,15 @@ fn are_on(key: i64, calls: &[ProblemCall<Op, Reply>]) -> bool
     ensures { result ≡ are_on key calls.now }
 {
     calls.iter().all(|call| is_on(key, &call.op))
+}
+
+/// The value that the register holds, or the key of the first call; none of other states. A hint.
+pub(crate) fn value_held(calls: &[ProblemCall<Op, Reply>], state: &ObjState) -> Option<i64> {
+    match state {
+        ObjState::Register(value) => Some(*value),
+        ObjState::Map(pairs) => Some(pairs.value_at(first_key(calls)?).unwrap_or(NOTHING)),
+        _ => None,
+    }
 }
 
 /// Whether all calls are operations of a map on one key, and none gives it the value that stands for none. Of no calls none is.

@@ -1,14 +1,17 @@
 //! The rules of a first search of a register, or of a map whose calls are on one key: needs, and calls that are due.
-ghost use Rattle.std.specs.Prelude.{◌≡◌, IfOk};
+ghost use Rattle.std.specs.Prelude.{◌≡◌, IfOk, IsTrue};
 ghost use Rattle.lin_history.specs.Problems.AnyProblem.{any_problem};
 ghost use Rattle.lin_ahead.specs.Behind.{IsRightOfValues};
+ghost use Rattle.lin_ahead.specs.Values.Stranded.{AreStranded};
 
 use crate::first::calls_in_turn::CallsInTurn;
 use crate::first::needed_calls::{left_out, needed_in_turn};
 use crate::first::rules::Rules;
 use crate::values::call_values::CallValues;
+use crate::values::crossings::Crossings;
 use crate::values::due::Due;
 use crate::values::due_rules::{Next, another_is_due};
+use crate::values::key_value::value_held;
 use crate::values::rows::ValuesAhead;
 use lin_history::Problem;
 use lin_object::{AnyObject, ObjState, lawful};
@@ -23,6 +26,7 @@ pub(crate) struct ValueRules<'a> {
     ahead: &'a ValuesAhead,
     needed: CallsInTurn,
     due: Due,
+    crossings: Crossings,
 }
 
 impl<'a> ValueRules<'a> {
@@ -35,7 +39,27 @@ impl<'a> ValueRules<'a> {
             ahead,
             needed: needed_in_turn(alloc, &ahead.needs)?,
             due: Due::new(alloc, ahead.values.as_slice(), ahead.owners.as_slice())?,
+            crossings: Crossings::new(alloc, ahead.values.as_slice(), ahead.owners.as_slice())?,
         })
+    }
+}
+
+impl<'a> ValueRules<'a> {
+    // Whether calls are known to be stranded, once the next call has changed the state.
+    fn strands(&self, next: &Next) -> Result<bool, AllocError>
+        requires { IsRightOfValues (any_problem next.now.problem.now) self.now.ahead.now }
+        ensures { IfOk result (λ stranded. IsTrue stranded
+            → AreStranded (any_problem next.now.problem.now) next.now.config.now.lifted
+            next.now.config.now.state next.now.call) }
+    {
+        let Some(value) = value_held(next.problem.calls(), next.config.state()) else {
+            return Ok(false);
+        };
+        let values = self.ahead.values.as_slice();
+        match self.crossings.stranded(values, &self.due, next.call, value) {
+            Some(calls) => next.are_stranded(self.alloc, self.ahead.owners.as_slice(), &calls),
+            None => Ok(false),
+        }
     }
 }
 
@@ -74,10 +98,12 @@ impl<'a> Rules<AnyObject> for ValueRules<'a> {
     // It may change the state while another call is due, or makes one due.
     fn looks_at_next(&self, _config: &Config<AnyObject>, call: usize) -> bool {
         may_write(self.ahead.values.as_slice(), call)
-            && (self.due.has_another(call) || self.due.last_behind(call).is_some())
+            && (self.crossings.are_told()
+                || self.due.has_another(call)
+                || self.due.last_behind(call).is_some())
     }
 
-    // It changes the state while another call is due, or behind it; or one that is due behind it has no step there.
+    // It changes the state while another call is due, or behind it, or strands others; or one that is due behind it has no step there.
     fn leads_to_none(
         &self,
         problem: &Problem<AnyObject>,
@@ -103,6 +129,9 @@ impl<'a> Rules<AnyObject> for ValueRules<'a> {
         if next.two_change(self.alloc, owners, &self.due, values)? {
             return Ok(true);
         }
-        next.comes_between(self.alloc, owners, &self.due, values)
+        if next.comes_between(self.alloc, owners, &self.due, values)? {
+            return Ok(true);
+        }
+        self.strands(&next)
     }
 }

@@ -165,7 +165,9 @@ impl<'a> Next<'a> {
         ensures { IfOk result (λ parted. IsTrue parted → IsParted (any_problem self.now.problem.now)
             self.now.config.now.lifted self.now.config.now.state self.now.call) }
     {
-        if !self.stands_between(owners, calls) || !finds_one_state(self.problem, owners, calls.last) {
+        if !self.stands_between(owners, calls)
+            || !finds_one_state(self.problem, owners, calls.last)
+        {
             return Ok(false);
         }
         let here = self.config.state();

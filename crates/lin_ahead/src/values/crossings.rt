@@ -1,0 +1,323 @@
+//! The calls that one call alone may own, its cluster, and which clusters cross once a call has changed the state. All of it is a hint.
+
+use crate::items::item_calls::BEYOND;
+use crate::values::call_values::CallValues;
+use crate::values::due::Due;
+use crate::values::last_breaks::LastBreaks;
+use crate::values::owners::Owners;
+use crate::values::stranded::{Crossing, Parting, Stranded};
+use crate::values::taken_values::sole_owner;
+use std::alloc::{AllocError, Global};
+
+// How many calls that may write the value which is taken away are looked at.
+const WRITERS_IN_SIGHT: usize = 64;
+
+// How many events behind the first return of a call that is left they may be called.
+const EVENTS_AHEAD: u64 = 400;
+
+/// Calls that one call alone may own: the one that returned first, and the one that was called last.
+#[derive(Clone, Copy, Debug)]
+struct Cluster {
+    owner: usize,
+    first: usize,
+    by: u64,
+    last: usize,
+    from: u64,
+}
+
+// A cluster by its place in the order of first returns, and another one: of those up to a place the two whose last call was called
+// last.
+#[derive(Clone, Copy)]
+struct Tops {
+    most: usize,
+    next: usize,
+}
+
+// A call that may write a value, and when it was called.
+#[derive(Clone, Copy)]
+struct Written {
+    value: i64,
+    called: u64,
+    call: usize,
+}
+
+/// The clusters of the calls whose owner is known, in the order of their first returns, and the calls that may write each value.
+#[derive(Drop)]
+pub(crate) struct Crossings {
+    rows: Vec<Cluster>,
+    tops: Vec<Tops>,
+    written: Vec<Written>,
+    breaks: LastBreaks,
+}
+
+impl Cluster {
+    // No call.
+    fn none(owner: usize) -> Self {
+        Cluster {
+            owner,
+            first: owner,
+            by: BEYOND,
+            last: owner,
+            from: 0,
+        }
+    }
+
+    // Whether there is a call.
+    fn has_any(&self) -> bool {
+        self.by < BEYOND
+    }
+
+    // With a completed call more.
+    fn with(&self, call: usize, values: &CallValues) -> Self {
+        let mut cluster = *self;
+        if values.returned < cluster.by {
+            cluster.first = call;
+            cluster.by = values.returned;
+        }
+        if values.called >= cluster.from {
+            cluster.last = call;
+            cluster.from = values.called;
+        }
+        cluster
+    }
+
+    // With the owner itself; but it is not both the first call and the last.
+    fn with_owner(&self, calls: &[CallValues]) -> Self {
+        let Some(values) = calls.get(self.owner) else {
+            return *self;
+        };
+        let mut cluster = self.with(self.owner, values);
+        if cluster.first == self.owner && cluster.last == self.owner {
+            cluster.last = self.last;
+            cluster.from = self.from;
+        }
+        cluster
+    }
+}
+
+// The clusters of all calls, by the owners that are known.
+fn clusters_of_each(
+    alloc: Global,
+    calls: &[CallValues],
+    owners: &[Owners],
+) -> Result<Vec<Cluster>, AllocError> {
+    let mut clusters = Vec::with_capacity(alloc, calls.len())?;
+    for owner in 0..calls.len() {
+        clusters.push(Cluster::none(owner))?;
+    }
+    for call in 0..owners.len() {
+        if let Some(Some(owner)) = sole_owner(&owners[call])
+            && let Some(values) = calls.get(call)
+            && let Some(slot) = clusters.get_mut(owner)
+        {
+            *slot = slot.with(call, values);
+        }
+    }
+    Ok(clusters)
+}
+
+// Those with a call, in the order of their first returns.
+fn clusters_in_order(
+    alloc: Global,
+    calls: &[CallValues],
+    owners: &[Owners],
+) -> Result<Vec<Cluster>, AllocError> {
+    let mut rows = Vec::new(alloc);
+    for cluster in &clusters_of_each(alloc, calls, owners)? {
+        if cluster.has_any() {
+            rows.push(cluster.with_owner(calls))?;
+        }
+    }
+    rows.sort_by_key(|one| one.by)?;
+    Ok(rows)
+}
+
+// When the last call of the cluster at the place was called.
+fn from_at(rows: &[Cluster], place: usize) -> u64 {
+    match rows.get(place) {
+        Some(cluster) => cluster.from,
+        None => 0,
+    }
+}
+
+// For each place the two clusters up to it whose last call was called last.
+fn tops_of(alloc: Global, rows: &[Cluster]) -> Result<Vec<Tops>, AllocError> {
+    let mut tops = Vec::with_capacity(alloc, rows.len())?;
+    let mut top = Tops {
+        most: 0,
+        next: rows.len(),
+    };
+    for place in 0..rows.len() {
+        if place > 0 && rows[place].from > from_at(rows, top.most) {
+            top = Tops {
+                most: place,
+                next: top.most,
+            };
+        } else if place > 0 && rows[place].from > from_at(rows, top.next) {
+            top.next = place;
+        }
+        tops.push(top)?;
+    }
+    Ok(tops)
+}
+
+// The calls that may write values, by their values, and of each in the order of their calls.
+fn written_by_value(alloc: Global, calls: &[CallValues]) -> Result<Vec<Written>, AllocError> {
+    let mut rows = Vec::new(alloc);
+    for call in 0..calls.len() {
+        let called = calls[call].called;
+        if let Some(value) = calls[call].written {
+            rows.push(Written {
+                value,
+                called,
+                call,
+            })?;
+        }
+    }
+    rows.sort_by_key(|one| one.value)?;
+    Ok(rows)
+}
+
+// The calls left to the writer alone once the other one has changed the state, if there are any.
+fn left_to(calls: &[CallValues], due: &Due, writer: usize, call: usize) -> Cluster {
+    let mut cluster = Cluster::none(writer);
+    for place in due.places_of(writer) {
+        if let Some(left) = due.due_behind(place, writer)
+            && left != call
+            && let Some(values) = calls.get(left)
+        {
+            cluster = cluster.with(left, values);
+        }
+    }
+    cluster
+}
+
+// Whether one of several calls may own the call, or it found the start or what one call made.
+fn has_several(owners: &Owners) -> bool {
+    owners.are_told && (owners.calls.len() > 1 || (owners.at_start && owners.calls.len() > 0))
+}
+
+impl Crossings {
+    /// Those of these calls; none where no call may have one of several owners.
+    pub(crate) fn new(
+        alloc: Global,
+        calls: &[CallValues],
+        owners: &[Owners],
+    ) -> Result<Self, AllocError> {
+        if owners.iter().any(|row| has_several(row)) {
+            Crossings::of(alloc, calls, owners)
+        } else {
+            Crossings::of(alloc, &[], &[])
+        }
+    }
+
+    // Those of these calls.
+    fn of(alloc: Global, calls: &[CallValues], owners: &[Owners]) -> Result<Self, AllocError> {
+        let rows = clusters_in_order(alloc, calls, owners)?;
+        Ok(Crossings {
+            tops: tops_of(alloc, rows.as_slice())?,
+            rows,
+            written: written_by_value(alloc, calls)?,
+            breaks: LastBreaks::new(alloc, calls)?,
+        })
+    }
+
+    /// Whether calls may be stranded at all.
+    pub(crate) fn are_told(&self) -> bool {
+        self.written.len() > 0
+    }
+
+    // Of the clusters of other owners whose first call returned before the event, the one whose last call was called last.
+    fn other_before(&self, event: u64, owner: usize) -> Option<Cluster> {
+        let count = self.rows.as_slice().partition_point(|one| one.by < event);
+        let top = *self.tops.get(count.checked_sub(1)?)?;
+        let most = *self.rows.get(top.most)?;
+        if most.owner != owner {
+            Some(most)
+        } else {
+            self.rows.get(top.next).copied()
+        }
+    }
+
+    // A cluster that crosses this one.
+    fn crossing(&self, cluster: &Cluster) -> Option<Stranded> {
+        let other = self.other_before(cluster.from, cluster.owner)?;
+        if other.from <= cluster.by {
+            return None;
+        }
+        Some(Stranded::Crossed(Crossing {
+            writer: cluster.owner,
+            first: cluster.first,
+            last: cluster.last,
+            other: other.owner,
+            early: other.last,
+            late: other.first,
+        }))
+    }
+
+    // A call that comes between the first of the cluster and the last of those left to the owner, and does not leave the value.
+    fn parting(&self, value: i64, cluster: &Cluster, left: &Cluster) -> Option<Stranded> {
+        let between = self.breaks.last_before(left.from, value)?;
+        if between.called <= cluster.by {
+            return None;
+        }
+        Some(Stranded::Parted(Parting {
+            writer: cluster.owner,
+            first: cluster.first,
+            last: left.last,
+            between: between.call,
+        }))
+    }
+
+    // Where the calls that write the value and are called later than this event begin.
+    fn end_of(&self, value: i64, event: u64) -> usize {
+        self.written.as_slice().partition_point(|one| one.value < value
+            || (one.value == value && one.called <= event))
+    }
+
+    // How calls that are left to the writer alone would be stranded.
+    fn stranded_by(
+        &self,
+        calls: &[CallValues],
+        due: &Due,
+        call: usize,
+        value: i64,
+        writer: usize,
+    ) -> Option<Stranded> {
+        let left = left_to(calls, due, writer, call);
+        if !left.has_any() {
+            return None;
+        }
+        let cluster = left.with_owner(calls);
+        match self.crossing(&cluster) {
+            Some(stranded) => Some(stranded),
+            None => self.parting(value, &cluster, &left),
+        }
+    }
+
+    /// Calls that are stranded once the call takes the value away, if some are found.
+    pub(crate) fn stranded(
+        &self,
+        calls: &[CallValues],
+        due: &Due,
+        call: usize,
+        value: i64,
+    ) -> Option<Stranded> {
+        let first = due.first_left()?;
+        let event = calls.get(first)?.returned.saturating_add(EVENTS_AHEAD);
+        let end = self.end_of(value, event);
+        for place in (end.saturating_sub(WRITERS_IN_SIGHT)..end).rev() {
+            let written = self.written.get(place)?;
+            if written.value != value {
+                return None;
+            }
+            if written.call != call && !due.has(written.call) {
+                let stranded = self.stranded_by(calls, due, call, value, written.call);
+                if stranded.is_some() {
+                    return stranded;
+                }
+            }
+        }
+        None
+    }
+}
