@@ -6,7 +6,6 @@ pub mod Stranded
 pub mod PossibleOwners
 pub mod Writers
 pub mod NeededPairs
-pub mod ValueCalls
 pub mod ToldOfRegister
 pub mod KeyValue
 pub mod TakenTwice

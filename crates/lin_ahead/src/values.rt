@@ -1,8 +1,8 @@
 //! Registers, and maps whose calls are on one key.
 //!
-//! - `value_calls`: what the calls show of one value: how many may write it, and when those that wrote or found it returned and were
-//!   called; `each_value`: the same of each value, by one pass; `call_values`: what each call shows of values; `rows`: what is known
-//!   ahead; `needed_pairs`: two calls that need each other; `taken_values`: two calls that took away one and the same value.
+//! - `shown_values`: the value that a call may write, and that it found; `call_values`: all that it shows of values, for a search; `rows`:
+//!   what is known ahead; `needed_pairs`: two calls that need each other; `taken_values`: two calls that took away one and the same
+//!   value.
 //! - `owners`: the calls of which one wrote what a call found; `writers`: those that may write each value; `breaking_calls`: those by
 //!   which a value is not there all the time; `clusters`: the calls that one call owns, by their events.
 //! - `key_value`: the calls of a map on one key, as calls of a register that holds the key's value.
@@ -17,14 +17,13 @@ pub(crate) mod clusters;
 pub(crate) mod crossings;
 pub(crate) mod due;
 pub(crate) mod due_rules;
-pub(crate) mod each_value;
 pub(crate) mod key_value;
 pub(crate) mod last_breaks;
 pub(crate) mod needed_pairs;
 pub(crate) mod owners;
 pub(crate) mod rows;
 pub(crate) mod rules;
+pub(crate) mod shown_values;
 pub(crate) mod stranded;
 pub(crate) mod taken_values;
-pub(crate) mod value_calls;
 pub(crate) mod writers;

@@ -6,7 +6,7 @@ ghost use Rattle.indexmap.specs.IndexMap.{index_of};
 ghost use Rattle.lin_ahead.specs.Values.PossibleOwners.{breaks};
 ghost use Rattle.lin_ahead.specs.Values.Writers.{low_by, IsFinder, IsSince};
 
-use crate::values::value_calls::{ValueCalls, value_found};
+use crate::values::shown_values::value_found;
 use crate::values::writers::low_of;
 use indexmap::IndexMap;
 use lin_history::ProblemCall;
@@ -98,7 +98,7 @@ pub(crate) fn others_before(
 
 /// The finder that the call is, if it found a value that has a number.
 pub(crate) fn finder_of(
-    values: &IndexMap<i64, ValueCalls>,
+    values: &IndexMap<i64, ()>,
     lows: &[u64],
     one: &ProblemCall<Op, Reply>,
     call: usize,

@@ -1,7 +1,7 @@
 //! What each call on a register shows of its values: by it a search finds which calls to ask about. It is a hint.
 
 use crate::items::item_calls::BEYOND;
-use crate::values::value_calls::value_written;
+use crate::values::shown_values::value_written;
 use lin_history::ProblemCall;
 use lin_object::{Op, Reply};
 use std::alloc::{AllocError, Global};

@@ -8,7 +8,6 @@ ghost use Rattle.lin_ahead.specs.Values.Writers.{low_by, AreInOrder, AreUnder};
 ghost use Rattle.lin_ahead.specs.Values.Writers.{HasAllRows, HaveAllRows, IsFinder, IsSince, NoOwners, AreListedFrom};
 
 use crate::values::breaking_calls::{Finder, Sought, finder_of, look_on};
-use crate::values::value_calls::ValueCalls;
 use crate::values::writers::{Writer, Writers};
 use indexmap::IndexMap;
 use lin_history::ProblemCall;
@@ -213,7 +212,7 @@ fn owners_of_finder(
 fn owners_of_call(
     alloc: Global,
     start: i64,
-    values: &IndexMap<i64, ValueCalls>,
+    values: &IndexMap<i64, ()>,
     calls: &[ProblemCall<Op, Reply>],
     writers: &Writers,
     call: usize,
@@ -236,7 +235,7 @@ fn owners_of_call(
 pub(crate) fn owners_of_each(
     alloc: Global,
     start: i64,
-    values: &IndexMap<i64, ValueCalls>,
+    values: &IndexMap<i64, ()>,
     calls: &[ProblemCall<Op, Reply>],
 ) -> Result<Vec<Owners>, AllocError>
     ensures { IfOk result (λ rows. AreOwnerRows calls.now start rows.items) }

@@ -9,7 +9,7 @@ ghost use Rattle.lin_ahead.specs.Values.ToldOfRegister.{IsToldOfRegister};
 
 use crate::values::call_values::{CallValues, values_of_each};
 use crate::values::clusters::{cluster_numbers, some_found_nowhere};
-use crate::values::each_value::values_told;
+use crate::values::shown_values::values_of_calls;
 use crate::values::needed_pairs::{CallNumbers, some_pair};
 use crate::values::owners::{Owners, owners_of_each};
 use crate::values::taken_values::some_value_taken_twice;
@@ -74,7 +74,7 @@ pub(crate) fn told_of_register(
 ) -> Result<ValuesAhead, AllocError>
     ensures { IfOk result (IsToldOfRegister start.now calls.now) }
 {
-    let values = values_told(alloc, calls)?;
+    let values = values_of_calls(alloc, calls)?;
     let owners = owners_of_each(alloc, *start, &values, calls)?;
     let rows = owners.as_slice();
     let row = cluster_numbers(alloc, calls, rows)?;

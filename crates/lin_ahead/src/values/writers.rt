@@ -8,7 +8,7 @@ ghost use Rattle.lin_ahead.specs.Values.Writers.{low_at, low_by, returned_or_bey
 
 use crate::items::item_calls::BEYOND;
 use crate::values::breaking_calls::others_before;
-use crate::values::value_calls::{ValueCalls, value_written};
+use crate::values::shown_values::value_written;
 use indexmap::IndexMap;
 use lin_history::ProblemCall;
 use lin_object::{Op, Reply};
@@ -62,7 +62,7 @@ fn low_at(lows: &[u64], index: usize) -> Option<u64>
 
 /// From which key on the rows of the calls stand that may write the value, by that of each value of the map. `None` for a
 /// value that is not in the map.
-pub(crate) fn low_of(values: &IndexMap<i64, ValueCalls>, lows: &[u64], value: i64) -> Option<u64>
+pub(crate) fn low_of(values: &IndexMap<i64, ()>, lows: &[u64], value: i64) -> Option<u64>
     ensures is { result ≡ low_by lows.now (index_of int_eq values.now value) }
     ensures below { IfSome result (λ low. low < 2 ^ 63) }
 {
@@ -73,7 +73,7 @@ pub(crate) fn low_of(values: &IndexMap<i64, ValueCalls>, lows: &[u64], value: i6
 // which calls write them, so that rows of values that are written once are in order from the beginning. A hint.
 fn lows_of_values(
     alloc: Global,
-    values: &IndexMap<i64, ValueCalls>,
+    values: &IndexMap<i64, ()>,
     calls: &[ProblemCall<Op, Reply>],
 ) -> Result<Vec<u64>, AllocError> {
     let mut lows = vec![in alloc; 0u64; values.len()]?;
@@ -103,7 +103,7 @@ fn returned_or_beyond(call: &ProblemCall<Op, Reply>) -> u64
 
 // The row of the call, if it may write a value that has a number.
 fn writer_of(
-    values: &IndexMap<i64, ValueCalls>,
+    values: &IndexMap<i64, ()>,
     lows: &[u64],
     one: &ProblemCall<Op, Reply>,
     call: usize,
@@ -126,7 +126,7 @@ fn writer_of(
 // The rows of all calls that may write values, in the order of the calls.
 fn writers_by_calls(
     alloc: Global,
-    values: &IndexMap<i64, ValueCalls>,
+    values: &IndexMap<i64, ()>,
     lows: &[u64],
     calls: &[ProblemCall<Op, Reply>],
 ) -> Result<Vec<Writer>, AllocError>
@@ -144,7 +144,7 @@ fn writers_by_calls(
 // The same in the order of their keys.
 fn writers_in_order(
     alloc: Global,
-    values: &IndexMap<i64, ValueCalls>,
+    values: &IndexMap<i64, ()>,
     lows: &[u64],
     calls: &[ProblemCall<Op, Reply>],
 ) -> Result<Vec<Writer>, AllocError>
@@ -205,7 +205,7 @@ impl Writers {
     /// The calls that may write values. `AllocError` where memory was refused.
     pub(crate) fn new(
         alloc: Global,
-        values: &IndexMap<i64, ValueCalls>,
+        values: &IndexMap<i64, ()>,
         calls: &[ProblemCall<Op, Reply>],
     ) -> Result<Self, AllocError>
         ensures all { IfOk result (λ writers. HaveAllRows calls.now
