@@ -206,7 +206,7 @@ fn look_further(
 }
 
 /// Looks on for a call that breaks the value which the finder found, as far as to the calls that were called by the event. It does
-/// nothing where one is found, or none can have been called after the event.
+/// nothing where one is found, no call is left, or none can have been called after the event.
 #[inline(always)]
 pub(crate) fn look_on(
     calls: &[ProblemCall<Op, Reply>],
@@ -218,7 +218,7 @@ pub(crate) fn look_on(
     requires { IsSince calls.now finder.now sought.since }
     ensures { IsSince calls.now finder.now result.since }
 {
-    if sought.since > 0 || finder.called <= event {
+    if sought.since > 0 || sought.next == 0 || finder.called <= event {
         return sought;
     }
     look_further(calls, others, finder, sought.next, event)
