@@ -1,22 +1,20 @@
 -- Which calls are not the one that wrote what a call found, by real time.
-use Rattle.std.proofs.Common.{◌≡◌, ◌≢◌, ◌⊎◌, inl, inr, ℕ, zero, suc, ◌+◌, ◌-◌, ◌<◌, ◌≤◌, ◌^◌, Bool, true, false, Option, Some, None, List, [], ◌∷◌, ◌++◌, length, refl, sym, ◌∙◌, ap, subst, arith}
-use Rattle.std.specs.Prelude.{ℤ, slice_index_or, nat_eq, IsSomeAnd, IsTrue}
+use Rattle.std.proofs.Common.{◌≡◌, ◌⊎◌, inl, inr, ℕ, zero, suc, ◌+◌, ◌-◌, ◌<◌, ◌≤◌, ◌^◌, true, false, Option, Some, None, List, [], ◌∷◌, ◌++◌, length, refl, sym, ◌∙◌, ap, subst, arith}
+use Rattle.std.specs.Prelude.{ℤ, slice_index_or, nat_eq, IsTrue}
 use Rattle.std.specs.List.{slice_get}
 use Rattle.std.proofs.lemmas.Bool.{cases_lt}
-use Rattle.std.proofs.lemmas.Option.{slice_get-get_or, get_or_from_slice_get, slice_get_within}
+use Rattle.std.proofs.lemmas.Option.{slice_get-get_or}
 use Rattle.lin_object.specs.declared.op.Op.{Op}
 use Rattle.lin_object.specs.declared.reply.Reply.{Reply}
 use Rattle.lin_history.specs.declared.problems.problem.ProblemCall.{ProblemCall}
 use Rattle.lin_history.specs.OptionLemmas.{and_some}
-use Rattle.lin_history.specs.Problems.Lists.{In}
 use Rattle.lin_history.specs.Problems.ListLemmas.{in_early, in_late}
 use Rattle.lin_ahead.specs.declared.values.breaking_calls.Finder.{Finder}
 use Rattle.lin_ahead.specs.declared.values.owners.Owners.{Owners}
 use Rattle.lin_ahead.specs.declared.values.writers.Writer.{Writer}
-use Rattle.lin_ahead.specs.Values.Register.{value_written, value_found}
 use Rattle.lin_ahead.specs.Values.PossibleOwners.{breaks, ReturnedBefore, Breaks, IsNoOwner, IsNotFromStart, AreOwnersOf, AreOwnerRows}
 use Rattle.lin_ahead.proofs.values.WriterLemmas.{pushed_either}
-use Rattle.lin_ahead.specs.Values.Writers.{returned_or_beyond, NoneLater, AreUnder, IsRowOf, HasAllRows, IsFinder, IsBroken, IsSince, NoOwners, AreListedFrom}
+use Rattle.lin_ahead.specs.Values.Writers.{returned_or_beyond, AreUnder, IsRowOf, HasAllRows, IsFinder, IsBroken, IsSince, NoOwners, AreListedFrom}
 
 one : {A : Type 0} (x y : A) → Some x ≡ Some y → x ≡ y
 one x y e = cc

@@ -1,7 +1,7 @@
 -- Rows of the calls that may write each value.
-use Rattle.std.proofs.Common.{◌≡◌, ◌≢◌, ◌⊎◌, inl, inr, ℕ, zero, suc, ◌+◌, ◌-◌, ◌*◌, ◌<◌, ◌≤◌, ◌^◌, Bool, true, false, Option, Some, None, List, [], ◌∷◌, ◌++◌, length, refl, sym, ◌∙◌, ap, subst, arith}
+use Rattle.std.proofs.Common.{◌≡◌, ◌⊎◌, inl, inr, ℕ, zero, suc, ◌+◌, ◌-◌, ◌<◌, ◌≤◌, Option, Some, None, List, [], ◌∷◌, ◌++◌, length, refl, sym, ◌∙◌, ap, subst, arith}
 use Rattle.std.specs.Prelude.{ℤ}
-use Rattle.std.specs.List.{slice_get, All}
+use Rattle.std.specs.List.{slice_get}
 use Rattle.std.specs.List.Sorted.{IsPermutation, IsNonDecreasingBy}
 use Rattle.std.specs.Prelude.{slice_index_or}
 use Rattle.std.proofs.lemmas.Bool.{cases_lt}
@@ -12,7 +12,7 @@ use Rattle.lin_object.specs.declared.reply.Reply.{Reply}
 use Rattle.lin_history.specs.declared.problems.problem.ProblemCall.{ProblemCall}
 use Rattle.lin_ahead.specs.declared.values.writers.Writer.{Writer}
 use Rattle.lin_ahead.specs.Values.Register.{value_written}
-use Rattle.lin_ahead.specs.Values.Writers.{low_by, returned_or_beyond, IsRowOf, HasAllRows, HaveAllRows, AreInOrder, NoneLater, AreUnder}
+use Rattle.lin_ahead.specs.Values.Writers.{low_by, returned_or_beyond, IsRowOf, HaveAllRows, AreInOrder, NoneLater}
 
 one : {A : Type 0} (x y : A) → Some x ≡ Some y → x ≡ y
 one x y e = cc

@@ -1,6 +1,6 @@
 //! Which calls may have written what a call found.
 
-ghost use Rattle.std.specs.Prelude.{◌≡◌, ◌-◌, ◌≤◌, ◌<◌, ℕ, ℤ, false, Some, length, slice_get, IfNone, IfOk, IfSome, IsTrue};
+ghost use Rattle.std.specs.Prelude.{◌≡◌, ◌-◌, ◌≤◌, ◌<◌, ℕ, false, Some, length, slice_get, IfNone, IfOk, IfSome, IsTrue};
 ghost use Rattle.std.specs.Ordering.{int_eq};
 ghost use Rattle.indexmap.specs.IndexMap.{index_of};
 ghost use Rattle.lin_ahead.specs.Values.PossibleOwners.{IsNotFromStart, AreOwnersOf, AreOwnerRows};

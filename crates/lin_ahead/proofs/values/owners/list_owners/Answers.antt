@@ -1,6 +1,5 @@
-use Rattle.std.proofs.Common.{◌≡◌, ◌+◌, ◌-◌, ◌<◌, ◌≤◌, ℕ, Some, List, length, refl, sym, ap, subst, arith}
+use Rattle.std.proofs.Common.{◌≡◌, ◌+◌, ◌-◌, ◌<◌, ◌≤◌, ℕ, Some, List, length, sym, subst, arith}
 use Rattle.std.specs.List.{slice_get}
-use Rattle.std.proofs.lemmas.Option.{slice_get_within}
 use Rattle.lin_ahead.specs.declared.values.writers.Writer.{Writer}
 use Rattle.lin_ahead.specs.Values.Writers.{AreListedFrom}
 use Rattle.lin_ahead.proofs.values.PossibleOwnerLemmas.{listed_none, listed_passed, listed_pushed, listed_all}

@@ -1,4 +1,4 @@
-use Rattle.std.proofs.Common.{◌≡◌, ◌++◌, ◌∷◌, [], List, length, length-append, rules, sym, ◌∙◌, ap, subst, to_z, of_z, w64, arith}
+use Rattle.std.proofs.Common.{◌≡◌, List, length, length-append, rules, sym, ◌∙◌, ap, subst, to_z, of_z, w64, arith}
 use Rattle.std.specs.Prelude.{ℤ}
 use Rattle.lin_ahead.specs.declared.values.owners.Owners.{Owners}
 use Rattle.lin_ahead.specs.Values.PossibleOwners.{AreOwnerRows}

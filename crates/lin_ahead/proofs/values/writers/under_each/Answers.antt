@@ -1,4 +1,4 @@
-use Rattle.std.proofs.Common.{◌≡◌, ◌+◌, ◌++◌, ◌∷◌, [], ℕ, List, length, length-append, sym, ◌∙◌, ap, subst, arith}
+use Rattle.std.proofs.Common.{◌≡◌, ℕ, List, length, length-append, sym, ◌∙◌, ap, subst, arith}
 use Rattle.lin_ahead.proofs.values.WriterLemmas.{AreUnderTo, under_pushed}
 use Rattle.lin_ahead.proofs.values.writers.under_each.Goals as goal
 
