@@ -106,12 +106,14 @@ module _ (calls : List (ProblemCall Op Reply)) (rows : List Owners) (numbers : L
     each_from = ap length from ∙ length-map numbers (λ n. n.from) ∙ told.each;
     by = λ a m there. (
         let n = through (λ (x : CallNumbers). x.by) numbers a m (rw by at there) in (
-        subst (λ (k : ℕ). IsClusterBy calls rows a k) n.2 (told.by a n.0 n.1),
-        λ k few is. subst (λ (x : ℕ). x ≤ k) n.2 (by_least a n.0 n.1 k few is)));
+          subst (λ (k : ℕ). IsClusterBy calls rows a k) n.2 (told.by a n.0 n.1),
+          λ k few is. subst (λ (x : ℕ). x ≤ k) n.2 (by_least a n.0 n.1 k few is),
+        ));
     from = λ b m there. (
         let n = through (λ (x : CallNumbers). x.from) numbers b m (rw from at there) in (
-        subst (λ (k : ℕ). IsClusterFrom calls rows b k) n.2 (told.from b n.0 n.1),
-        λ k is. subst (λ (x : ℕ). k ≤ x) n.2 (from_greatest b n.0 n.1 k is)));
+          subst (λ (k : ℕ). IsClusterFrom calls rows b k) n.2 (told.from b n.0 n.1),
+          λ k is. subst (λ (x : ℕ). k ≤ x) n.2 (from_greatest b n.0 n.1 k is),
+        ));
   }
 
   pub pair_is : some_pair numbers ≡ true → NeedEachOther calls rows

@@ -9,9 +9,9 @@ ghost use Rattle.lin_ahead.specs.Values.ToldOfRegister.{IsToldOfRegister};
 
 use crate::values::call_values::{CallValues, values_of_each};
 use crate::values::clusters::{cluster_numbers, some_found_nowhere};
-use crate::values::shown_values::values_of_calls;
 use crate::values::needed_pairs::{CallNumbers, some_pair};
 use crate::values::owners::{Owners, owners_of_each};
+use crate::values::shown_values::values_of_calls;
 use crate::values::taken_values::some_value_taken_twice;
 use lin_history::{NeedRows, ProblemCall};
 use lin_object::{Op, Reply};

@@ -10,9 +10,9 @@ are_in_vain-requires c = rw (c.as_slice-rows.ensures.value, c.as_slice-numbers.e
 pub returns : goal.returns
 returns c = record {
   owners = (
-    let fits : FitsSigned w64 c.args.start.now = search rules in
-    let passed : to_z w64 (of_z w64 c.args.start.now) ≡ c.args.start.now = to_z-of_z w64 c.args.start.now fits in
-    rw passed at c.in_ok-owners.ensures);
+      let fits : FitsSigned w64 c.args.start.now = search rules in
+      let passed : to_z w64 (of_z w64 c.args.start.now) ≡ c.args.start.now = to_z-of_z w64 c.args.start.now fits in
+      rw passed at c.in_ok-owners.ensures);
   numbers = are_cluster_numbers c.args.calls.now _ c.in_ok-row.row.items (rw c.as_slice-rows.ensures.value at c.in_ok-row.ensures) _ (ap (λ (rows : NeedNumbers). rows.by) c.new.ensures ∙ rw c.as_slice-numbers.ensures.value at c.in_ok-by.ensures) (ap (λ (rows : NeedNumbers). rows.from) c.new.ensures ∙ rw c.as_slice-numbers.ensures.value at c.in_ok-from.ensures);
   in_vain = rw c.as_slice-rows.ensures.value at c.in_ok-in_vain.ensures.is;
   in_vain_told = rw c.as_slice-rows.ensures.value at c.in_ok-in_vain.ensures.told;
