@@ -54,8 +54,8 @@
 //! - *due calls* (register, key of a map): No call that changes the state stands in front of a call that is due. So none changes it
 //!   while another one is due. Nor does a call begin a completion behind which one is due that finds another value, or behind which
 //!   two are due that change the value, or one that another call comes before which does not leave the value as it is.
-//! - *stranded calls* (register, key of a map): Once the state is changed, a call all but one of whose owners are lifted can be owned
-//!   by that one alone. A call that changes the state begins no completion if one owner would be left with two such calls between
+//! - *stranded calls* (register, key of a map): Once the state is changed, a call all but one of whose owners are lifted is owned by
+//!   that one. A call that changes the state begins no completion if one owner would be left with two such calls between
 //!   which another one stands that does not leave what they found, or if two owners would each be left with a call that goes before
 //!   one of the other's.
 //! - *too late* (queue, stack): A push begins no completion if what must lie above it is popped only after a call that has to find

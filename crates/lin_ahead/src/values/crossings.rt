@@ -1,4 +1,4 @@
-//! The calls that one call alone may own, its cluster, and which clusters cross once a call has changed the state. All of it is a hint.
+//! The calls that one call alone may own, its cluster, and which clusters cross once a call has changed the state. It is a hint.
 
 use crate::items::item_calls::BEYOND;
 use crate::values::call_values::CallValues;

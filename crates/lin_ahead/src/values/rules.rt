@@ -103,7 +103,7 @@ impl<'a> Rules<AnyObject> for ValueRules<'a> {
                 || self.due.last_behind(call).is_some())
     }
 
-    // It changes the state while another call is due, or behind it, or strands others; or one that is due behind it has no step there.
+    // It changes the state while another call is due, or behind it, or strands others; or one due behind it has no step there.
     fn leads_to_none(
         &self,
         problem: &Problem<AnyObject>,
