@@ -10,12 +10,12 @@ use lin_history::Problem;
 use lin_object::AnyObject;
 use std::alloc::{AllocError, Global};
 
-/// Whether what is known ahead of the problem shows by itself that there is no linearization: of values, where a call found one that
-/// nobody put there in time, or two values would each have to be written before the other; of a stack, where some push crosses a call:
-/// the push returned before that call was called, which popped what was pushed before the push was called, or found the stack empty,
-/// and the item of the push was popped by a call that was called after that one returned; of a mutex, where two acquires exclude each
-/// other. `true` only where there is none. `AllocError`
-/// where memory was refused. The time is O(n log n) for n calls. (This project's own.)
+/// Whether what is known ahead of the problem shows by itself that there is no linearization: of values, where a call found one
+/// that nobody put there in time, two writes would each have to stand before the other, or two calls changed the value that one
+/// write alone can have made; of a stack, where some push crosses a call: the push returned before that call was called, which
+/// popped what was pushed before the push was called, or found the stack empty, and the item of the push was popped by a call
+/// that was called after that one returned; of a mutex, where two acquires exclude each other. `true` only where there is none.
+/// `AllocError` where memory was refused. The time is O(n log n) for n calls. (This project's own.)
 pub fn are_in_vain(
     alloc: Global,
     problem: &Problem<AnyObject>,

@@ -30,7 +30,7 @@
 //!   map of one key that starts empty, for a register, for a counter and for a mutex on which the calls of each process come one
 //!   after another, and for no other problem. `KnownAhead` is one enum, with a value of its own for each kind. All of it speaks of
 //!   *linearizations* (`IsRightAhead`), and for most of it nothing more could be told by real time (`IsToldAhead`); for a stack it
-//!   may leave out which call popped an item.
+//!   may leave out which call popped an item, and of values it may name as an owner a call that cannot be one.
 //! - `search_first` looks from the root for the least linearization only, and passes over a call if a rule below shows that it
 //!   begins no completion, or none that an earlier call does not begin too. Its answer is right (`Told`). It is `Nothing` only if
 //!   there are more runs than lifts may be made, or if the stop answered. No clause says which calls it passes over. The search
@@ -46,7 +46,7 @@
 //! Its rules, with the kinds that have them:
 //!
 //! - *needs* (queue, register, key of a map): b is in no linearization without a before it: since b's item comes out behind a's, or
-//!   since a's value was used up before b's was written.
+//!   since a call that a alone can own returned before one that b alone can own was called.
 //! - *takers* (queue, stack): An item that no completed call returned with is taken by a pending `deq` or `pop`, and each takes one
 //!   at most. A call that leaves fewer of these than items that must be gone before another call begins no completion.
 //! - *owed replies* (queue, stack): An item that goes in once and that a completed call returned with is that call's: no pending
@@ -75,14 +75,16 @@
 //!   give it back first, and called no unlock before that acquire returned. So acquires stand in the order of their returns, and no
 //!   pending call takes the mutex before one.
 //! - *repeated calls* (all): Calls that add nothing, as in `search_passing_over`.
-//! - *in vain* (queue, stack, register, mutex): A call found what nobody put there in time, two calls took what was put there once,
-//!   an item was popped too late for a call that found what lies under it, two values would each have to be written before the
-//!   other, two acquires exclude each other: between their returns the first one's process called no unlock, or an unlock returned
-//!   whose process did not hold the mutex by its calls before. There is no linearization then.
+//! - *in vain* (queue, stack, register, mutex): A call found what nobody put there in time, two calls took what was put there
+//!   once, an item was popped too late for a call that found what lies under it, two writes would each have to stand before the
+//!   other, two calls changed the value that one write alone can have made, two acquires exclude each other: between their
+//!   returns the first one's process called no unlock, or an unlock returned whose process did not hold the mutex by its calls
+//!   before. There is no linearization then.
 //!
-//! For the rules on registers, a value counts if only one call may write it and the register does not start with it, or if the
-//! register starts with it and no call may write it. A map of one key is read as a register if no call gives the key the least
-//! number of 64 bits, which stands for 'no value'.
+//! For the rules on registers, the owners of a call are those that may write the value which it found, were called before it returned,
+//! and between which and it no call stands in real time that breaks the value: it wrote another one, or found another one. Of a call
+//! with more than 64 of them nothing is told. A map of one key is read as a register if no call gives the key the least number of 64
+//! bits, which stands for 'no value'; a delete writes that.
 //!
 //! Which call, item or event to ask about is always a hint; the configuration is asked before anything follows from it.
 //!
