@@ -982,7 +982,7 @@ FAMILIES = {
     "swaps_lost": Family("the same, and one change is lost", "calls", [1000, 4000], 1, swapping(8, True)),
     "swaps_lost_unknown": Family("the same, 2 in 100 of the calls never return", "calls", [1000, 4000], 1, swapping(8, True, 2)),
     **{
-        f"keys_stale_{processes}": Family(f"a map of 10 keys, {processes} processes, and one stale get", "calls", [3000, 20000], 1, forgetful_map(processes, 10, 1))
+        f"keys_stale_{processes}": Family(f"a map of 10 keys, {processes} processes, and one stale get", "calls", [3000, 16000], 1, forgetful_map(processes, 10, 1))
         for processes in (24, 50)
     },
     "stopping_20": Family("a register with cas, 4 processes, and 20 more that stop within a cas", "calls", CALLS, 0, stopping(20)),
