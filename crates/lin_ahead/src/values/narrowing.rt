@@ -267,6 +267,32 @@ fn is_past_start(
     returned_before(calls, cluster.first, call)
 }
 
+// Whether the start is still an owner of the call.
+fn is_at_start(
+    calls: &[ProblemCall<Op, Reply>],
+    rows: &[Owners],
+    hints: &Hints<'_>,
+    call: usize,
+    at_start: bool,
+) -> bool
+    ensures { IsTrue at_start → IsTrue result ⊎ IsPastStart calls.now rows.now call }
+{
+    if !at_start {
+        return false;
+    }
+    !is_past_start(calls, rows, hints, call)
+}
+
+// Whether several may own the call, or the start.
+fn may_be_narrowed(row: &Owners) -> bool
+    ensures { IsTrue result → IsTrue row.now.are_told }
+{
+    if !row.are_told {
+        return false;
+    }
+    row.at_start || has_several(row)
+}
+
 // The owners of the call that are left.
 fn owners_left(
     alloc: Global,
@@ -301,11 +327,11 @@ fn narrowed_row(
     let Some(row) = rows.get(call) else {
         return Ok(None);
     };
-    if !row.are_told || (!row.at_start && !has_several(row)) {
+    if !may_be_narrowed(row) {
         return Ok(None);
     }
     let left = owners_left(alloc, calls, rows, hints, call, row.calls.as_slice())?;
-    let at_start = row.at_start && !is_past_start(calls, rows, hints, call);
+    let at_start = is_at_start(calls, rows, hints, call, row.at_start);
     if left.len() == row.calls.len() && at_start == row.at_start {
         return Ok(None);
     }
