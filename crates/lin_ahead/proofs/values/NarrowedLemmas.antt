@@ -19,7 +19,7 @@ use Rattle.lin_ahead.specs.Values.PossibleOwners.{Breaks, AreOwnerRows}
 use Rattle.lin_ahead.specs.Values.TakenTwice.{IsSoleOwner}
 use Rattle.lin_ahead.specs.Values.Clusters.{OfCluster}
 use Rattle.lin_ahead.specs.Values.Clusters as rows_of
-use Rattle.lin_ahead.specs.Values.Narrowing.{ShowsFound, OfClusterWith, AreOfOther, IsCrossed, IsParted, IsTakenOut, IsPastStart, IsNarrowedRow, AreRightRows, AreNarrowed}
+use Rattle.lin_ahead.specs.Values.Narrowing.{ShowsFound, OfClusterWith, AreOfOther, IsTakenOut, IsNarrowedRow, AreRightRows, AreNarrowed}
 use Rattle.lin_ahead.proofs.values.RegisterLemmas.{finds_completed}
 use Rattle.lin_ahead.proofs.values.OwnerLemmas.{are_owners, broken}
 use Rattle.lin_ahead.proofs.values.FoundStateLemmas.{found_here}

@@ -1,10 +1,11 @@
-//! Fewer owners: a call is no owner of another one where the cluster that the two would be of crosses another cluster, or is parted.
+//! Fewer owners: a call is no owner of another one where the cluster that the two would be of crosses another one, or is parted.
 
-ghost use Rattle.std.specs.Prelude.{◌≡◌, ℕ, ◌<◌, ◌⊎◌, false, OnOk, IfOk, IfSome, IsSomeAnd, IsTrue};
+ghost use Rattle.std.specs.Prelude.{ℕ, ◌<◌, ◌⊎◌, OnOk, IfOk, IfSome, IsSomeAnd, IsTrue};
 ghost use Rattle.lin_history.specs.Problems.Lists.{In};
 ghost use Rattle.lin_ahead.specs.Values.PossibleOwners.{ReturnedBefore, Breaks};
 ghost use Rattle.lin_ahead.specs.Values.Clusters.{IsForced, OfCluster};
-ghost use Rattle.lin_ahead.specs.Values.Narrowing.{OfClusterWith, AreOfOther, ShowsFound, IsCrossed, IsParted, IsTakenOut, IsPastStart, IsNarrowedRow, AreNarrowed};
+ghost use Rattle.lin_ahead.specs.Values.Narrowing.{OfClusterWith, AreOfOther, ShowsFound, IsCrossed, IsParted, IsTakenOut};
+ghost use Rattle.lin_ahead.specs.Values.Narrowing.{IsPastStart, IsNarrowedRow, AreNarrowed};
 
 use crate::values::breaking_calls::breaks;
 use crate::values::call_values::CallValues;
@@ -188,7 +189,8 @@ impl<'a> Hints<'a> {
 
     // A cluster of which a call returned before this one was called.
     fn cluster_before(&self, call: usize) -> Option<Cluster> {
-        self.clusters.other_before(self.values.get(call)?.called, self.values.len())
+        self.clusters
+            .other_before(self.values.get(call)?.called, self.values.len())
     }
 }
 
