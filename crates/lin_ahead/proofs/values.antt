@@ -3,6 +3,7 @@ pub mod TakenTwiceLemmas
 pub mod StrandedLemmas
 pub mod FoundStateLemmas
 pub mod NarrowLemmas
+pub mod NarrowedLemmas
 pub mod RegisterLemmas
 pub mod OwnerLemmas
 pub mod PairLemmas

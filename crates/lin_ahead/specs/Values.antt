@@ -5,6 +5,7 @@ pub mod Due
 pub mod Stranded
 pub mod PossibleOwners
 pub mod Writers
+pub mod Narrowing
 pub mod NeededPairs
 pub mod ToldOfRegister
 pub mod KeyValue

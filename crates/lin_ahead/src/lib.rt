@@ -16,6 +16,7 @@
 //! - *needs*: a call needs another one that stands before it in each linearization which has it.
 //! - *owed*: a reply that a completed call returned with, and that no other call can get.
 //! - *owner*: of a call that found a value, the last call in front of it that changed the state. Real time tells which calls may be.
+//! - *cluster*: a call, and those that it alone may own.
 //! - *due*: a completed call that is not lifted, while all calls that may be its owner are.
 //! - *lost*: an item that a call put in and no completed call returned with. A *taker* is a pending call that may have taken it.
 //! - *late*: a call that puts an item in is too late if the item would still be there when a call finds it gone.
@@ -58,6 +59,10 @@
 //!   that one. A call that changes the state begins no completion if one owner would be left with two such calls between
 //!   which another one stands that does not leave what they found, or if two owners would each be left with a call that goes before
 //!   one of the other's.
+//! - *fewer owners* (register, key of a map): So it is before any search, too: a call is no owner of another one if its cluster would
+//!   cross another cluster with that call, or would be parted by a call that breaks the value. Nor is the start, if a call of a
+//!   cluster returned before the call was called. Such owners are taken out before the search, which then has more calls that are
+//!   due.
 //! - *too late* (queue, stack): A push begins no completion if what must lie above it is popped only after a call that has to find
 //!   what lies below; nor does an enqueue if what went in before its item was taken comes out only after a call that has to find
 //!   the queue empty.

@@ -4,7 +4,8 @@
 //!   what is known ahead; `needed_pairs`: two calls that need each other; `taken_values`: two calls that took away one and the same
 //!   value.
 //! - `owners`: the calls of which one wrote what a call found; `writers`: those that may write each value; `breaking_calls`: those by
-//!   which a value is not there all the time; `clusters`: the calls that one call owns, by their events.
+//!   which a value is not there all the time; `clusters`: the calls that one call owns, by their events;
+//!   `narrowing`: fewer owners, by such calls.
 //! - `key_value`: the calls of a map on one key, as calls of a register that holds the key's value.
 //! - `rules`: the rules of a first search; `due_rules`: what follows from calls that are due; `due`: which are; `calls_left`: the completed
 //!   calls that are left, by their returns; `stranded`: what follows from calls that are left to one owner;
@@ -19,6 +20,7 @@ pub(crate) mod due;
 pub(crate) mod due_rules;
 pub(crate) mod key_value;
 pub(crate) mod last_breaks;
+pub(crate) mod narrowing;
 pub(crate) mod needed_pairs;
 pub(crate) mod owners;
 pub(crate) mod rows;

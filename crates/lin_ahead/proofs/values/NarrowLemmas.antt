@@ -9,7 +9,7 @@ use Rattle.lin_ahead.specs.Values.Owners.{LastChange, IsOwnedBy}
 use Rattle.lin_ahead.proofs.values.ClusterLemmas.{Changed, Owned, Member, Parts, Cross, before_front, front_here, owned_here, owned_in, owner_changed, owner_front, front_trans, start_unchanged, none_cross, none_between}
 
 -- the list with its owner among others
-one_more : {State Op Reply : Type 0} (p : Problem State Op Reply) (calls more early : List ℕ) (k : LastChange p calls early) → In k.owner more → LastChange p more early
+pub one_more : {State Op Reply : Type 0} (p : Problem State Op Reply) (calls more early : List ℕ) (k : LastChange p calls early) → In k.owner more → LastChange p more early
 one_more p calls more early k among = record {
   owner = k.owner;
   front = k.front;

@@ -14,7 +14,7 @@ use Rattle.lin_ahead.specs.Values.TakenTwice.{IsSoleOwner}
 use Rattle.lin_ahead.specs.Values.Clusters.{IsForced, Returned, CalledBy, OfCluster, IsClusterBy, IsClusterFrom, Covers, AreWidened, AreNumbersTo}
 
 -- what was written at an index, or what was there
-written : {A : Type 0} (xs : List A) (i j : ℕ) (y z : A) → slice_get (slice_set xs i y) j ≡ Some z → ((j ≡ i) × (y ≡ z)) ⊎ ((j ≢ i) × (slice_get xs j ≡ Some z))
+pub written : {A : Type 0} (xs : List A) (i j : ℕ) (y z : A) → slice_get (slice_set xs i y) j ≡ Some z → ((j ≡ i) × (y ≡ z)) ⊎ ((j ≢ i) × (slice_get xs j ≡ Some z))
 written [] i j y z h = absurd (cc)
 written (x ∷ xs) zero zero y z h = inl (refl, (let k : y ≡ z = cc in k))
 written (x ∷ xs) zero (suc j) y z h = inr ((λ e. omega (arith, e)), h)

@@ -17,17 +17,17 @@ use Rattle.lin_history.specs.Problems.ProblemParts.{ProblemParts}
 use Rattle.lin_history.specs.Problems.Problem.{Problem}
 use Rattle.lin_history.specs.Problems.AnyProblem.{any_problem}
 use Rattle.lin_history.specs.Problems.Lists.{In}
-use Rattle.lin_history.specs.Problems.Precedence.{Before}
+use Rattle.lin_history.specs.Problems.Precedence.{Before, IsCompleted}
 use Rattle.lin_history.specs.Problems.Linearizations.{IsLinearization}
 use Rattle.lin_history.specs.Problems.Needs.{Needs, NeedNumbers}
 use Rattle.lin_ahead.specs.declared.values.owners.Owners.{Owners}
 use Rattle.lin_ahead.specs.declared.values.rows.ValuesAhead.{ValuesAhead}
 use Rattle.lin_ahead.specs.declared.values.needed_pairs.CallNumbers.{CallNumbers}
 use Rattle.lin_ahead.specs.Behind.{AreOtherNeeds, IsRightOfValues}
-use Rattle.lin_ahead.specs.Values.Register.{IsOfRegister}
+use Rattle.lin_ahead.specs.Values.Register.{IsOfRegister, value_found}
 use Rattle.lin_ahead.specs.Values.NeededPairs.{need_each_other, some_pair}
 use Rattle.lin_ahead.specs.Values.Owners.{IsOwnedBy, AreOwners}
-use Rattle.lin_ahead.specs.Values.PossibleOwners.{AreOwnerRows}
+use Rattle.lin_ahead.specs.Values.Narrowing.{AreRightRows}
 use Rattle.lin_ahead.specs.Values.TakenTwice.{IsSoleOwner, IsTakenTwice}
 use Rattle.lin_ahead.specs.Values.Clusters.{IsForced, OfCluster, Returned, CalledBy, IsClusterBy, IsClusterFrom, NeedsByNumbers, NeedEachOther, AreClusterNumbers, AreNumbersTo, FoundNowhere, is_nowhere}
 use Rattle.lin_ahead.specs.Values.ToldOfRegister.{IsToldOfRegister}
@@ -35,7 +35,6 @@ use Rattle.lin_ahead.proofs.first.NeedsLemmas.{stands}
 use Rattle.lin_ahead.proofs.items.RowLemmas.{through}
 use Rattle.lin_ahead.proofs.values.PairLemmas.{Both, both_are, both_told, both_at, or_left, or_right}
 use Rattle.lin_ahead.proofs.values.RegisterLemmas.{finds_completed, of_any_register}
-use Rattle.lin_ahead.proofs.values.OwnerLemmas.{are_owners}
 use Rattle.lin_ahead.proofs.values.FoundStateLemmas.{find_one_state}
 use Rattle.lin_ahead.proofs.values.ClusterLemmas.{Front, front_here, front_both, Changed, Owned, Member, owned_in, owner_changed, cluster_front}
 use Rattle.lin_ahead.proofs.values.TakenTwiceLemmas.{twice_in_vain}
@@ -175,15 +174,22 @@ not_true false e = refl
 
 -- ---- a register
 
-module _ {p : Problem ObjState Op Reply} {start : ℤ} (of : IsOfRegister p start) (exact : (s t : ObjState) → p.same_state s t ≡ true → s ≡ t) (rows : List Owners) (told : AreOwnerRows p.calls start rows) (owners : AreOwners p rows) where
+module _ {p : Problem ObjState Op Reply} {start : ℤ} (of : IsOfRegister p start) (exact : (s t : ObjState) → p.same_state s t ≡ true → s ≡ t) (rows : List Owners) (right : AreRightRows p.calls start rows) where
+  owners : AreOwners p rows
+  owners = right.owned p refl of exact
+
+  completed : (g : ℕ) (row : Owners) → slice_get rows g ≡ Some row → IsTrue row.are_told → IsCompleted p g
+  completed g row there is =
+      let k = right.found g row there is in
+      finds_completed of g k.0 (some_and (slice_get p.calls g) (λ (x : ProblemCall Op Reply). value_found x.op x.returned ≡ Some k.0) k.1)
+
   row_owned : (g : ℕ) (row : Owners) → slice_get rows g ≡ Some row → IsTrue row.are_told → (calls : List ℕ) → row.calls.items ≡ calls → row.at_start ≡ false → IsOwnedBy p calls false g
   row_owned g row there is calls same none = subst (λ (b : Bool). IsOwnedBy p calls b g) none (subst (λ (l : List ℕ). IsOwnedBy p l row.at_start g) same (owners g row there is))
 
   forced_owned : (w g : ℕ) → IsForced rows w g → (l : List ℕ) → IsLinearization p l → Owned p l w g
   forced_owned w g forced l whole =
       let row = some_and (slice_get rows g) (λ o. IsSoleOwner o (Some w)) forced in
-      let finds = (told g row.0 row.1 row.2.0).finds in
-      owned_in p l whole w g (row_owned g row.0 row.1 row.2.0 (w ∷ []) row.2.1 row.2.2) (finds_completed of g (told g row.0 row.1 row.2.0).found finds)
+      owned_in p l whole w g (row_owned g row.0 row.1 row.2.0 (w ∷ []) row.2.1 row.2.2) (completed g row.0 row.1 row.2.0)
 
   member : (w c : ℕ) → OfCluster rows w c → (l : List ℕ) → IsLinearization p l → Member p l w c
   member w c (inl e) l whole = inl e
@@ -220,8 +226,7 @@ module _ {p : Problem ObjState Op Reply} {start : ℤ} (of : IsOfRegister p star
   nowhere_in_vain (g, h) l whole =
       let row = some_and (slice_get rows g) (λ o. IsTrue (is_nowhere o)) h in
       let one = three_true row.0.are_told (nat_eq (length row.0.calls.items) 0) (not row.0.at_start) row.2 in
-      let k = told g row.0 row.1 one.0 in
-      let at = stands l g whole (finds_completed of g k.found k.finds) in
+      let at = stands l g whole (completed g row.0 row.1 one.0) in
       elim (row_owned g row.0 row.1 one.0 [] (no_element row.0.calls.items one.1) (not_true row.0.at_start one.2) l at.0 at.1 whole at.2) [
         | inl last ↦ last.one_of
         | inr q ↦ true≢false (sym q.0)
@@ -237,10 +242,9 @@ module _ {Object : Type 0} (p : ProblemParts Object ObjState Op Reply) where
   pub register_right : (start : ℤ) → p.start ≡ Register start → (ahead : ValuesAhead) → IsToldOfRegister start p.calls ahead → IsRightOfValues (any_problem p) ahead
   register_right start e ahead told =
       let of = of_any_register p start e in
-      let owners = are_owners of state_same ahead.owners.items told.owners in
       record {
-        needs = numbers_need of state_same ahead.owners.items told.owners owners ahead.needs told.numbers;
-        owners = owners;
+        needs = numbers_need of state_same ahead.owners.items told.owners ahead.needs told.numbers;
+        owners = told.owners.owned (any_problem p) refl of state_same;
         found = find_one_state of ahead.owners.items told.owners;
-        in_vain = λ is. in_vain of state_same ahead.owners.items told.owners owners (told.in_vain is);
+        in_vain = λ is. in_vain of state_same ahead.owners.items told.owners (told.in_vain is);
       }

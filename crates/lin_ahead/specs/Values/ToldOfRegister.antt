@@ -4,13 +4,13 @@ use Rattle.lin_object.specs.declared.op.Op.{Op}
 use Rattle.lin_object.specs.declared.reply.Reply.{Reply}
 use Rattle.lin_history.specs.declared.problems.problem.ProblemCall.{ProblemCall}
 use Rattle.lin_ahead.specs.declared.values.rows.ValuesAhead.{ValuesAhead}
-use Rattle.lin_ahead.specs.Values.PossibleOwners.{AreOwnerRows}
+use Rattle.lin_ahead.specs.Values.Narrowing.{AreRightRows}
 use Rattle.lin_ahead.specs.Values.TakenTwice.{IsTakenTwice}
 use Rattle.lin_ahead.specs.Values.Clusters.{AreClusterNumbers, FoundNowhere, NeedEachOther}
 
 -- All is told that follows from the rows of owners, on a register that starts with this value.
 pub record IsToldOfRegister (start : ℤ) (calls : List (ProblemCall Op Reply)) (ahead : ValuesAhead) : Type 0 where
-  pub owners : AreOwnerRows calls start ahead.owners.items
+  pub owners : AreRightRows calls start ahead.owners.items
   pub numbers : AreClusterNumbers calls ahead.owners.items ahead.needs
   -- There is no linearization by these facts alone where a call found what is nowhere, two calls need each other, or two took away
   -- what one call made.

@@ -17,11 +17,14 @@ const EVENTS_AHEAD: u64 = 400;
 
 /// Calls that one call alone may own: the one that returned first, and the one that was called last.
 #[derive(Clone, Copy, Debug)]
-struct Cluster {
-    owner: usize,
-    first: usize,
+pub(crate) struct Cluster {
+    /// The one call.
+    pub owner: usize,
+    /// The call that returned first.
+    pub first: usize,
     by: u64,
-    last: usize,
+    /// The call that was called last.
+    pub last: usize,
     from: u64,
 }
 
@@ -41,11 +44,17 @@ struct Written {
     call: usize,
 }
 
-/// The clusters of the calls whose owner is known, in the order of their first returns, and the calls that may write each value.
+/// The clusters of the calls whose owner is known, in the order of their first returns.
 #[derive(Drop)]
-pub(crate) struct Crossings {
+pub(crate) struct Clusters {
     rows: Vec<Cluster>,
     tops: Vec<Tops>,
+}
+
+/// The clusters of the calls whose owner is known, and the calls that may write each value.
+#[derive(Drop)]
+pub(crate) struct Crossings {
+    clusters: Clusters,
     written: Vec<Written>,
     breaks: LastBreaks,
 }
@@ -67,8 +76,8 @@ impl Cluster {
         self.by < BEYOND
     }
 
-    // With a completed call more.
-    fn with(&self, call: usize, values: &CallValues) -> Self {
+    /// With a completed call more.
+    pub(crate) fn with(&self, call: usize, values: &CallValues) -> Self {
         let mut cluster = *self;
         if values.returned < cluster.by {
             cluster.first = call;
@@ -81,8 +90,8 @@ impl Cluster {
         cluster
     }
 
-    // With the owner itself; but it is not both the first call and the last.
-    fn with_owner(&self, calls: &[CallValues]) -> Self {
+    /// With the owner itself; but it is not both the first call and the last.
+    pub(crate) fn with_owner(&self, calls: &[CallValues]) -> Self {
         let Some(values) = calls.get(self.owner) else {
             return *self;
         };
@@ -95,8 +104,8 @@ impl Cluster {
     }
 }
 
-// The clusters of all calls, by the owners that are known.
-fn clusters_of_each(
+/// The clusters of all calls, by the owners that are known. `AllocError` where memory was refused.
+pub(crate) fn clusters_of_each(
     alloc: Global,
     calls: &[CallValues],
     owners: &[Owners],
@@ -120,10 +129,10 @@ fn clusters_of_each(
 fn clusters_in_order(
     alloc: Global,
     calls: &[CallValues],
-    owners: &[Owners],
+    each: &[Cluster],
 ) -> Result<Vec<Cluster>, AllocError> {
     let mut rows = Vec::new(alloc);
-    for cluster in &clusters_of_each(alloc, calls, owners)? {
+    for cluster in each {
         if cluster.has_any() {
             rows.push(cluster.with_owner(calls))?;
         }
@@ -192,9 +201,71 @@ fn left_to(calls: &[CallValues], due: &Due, writer: usize, call: usize) -> Clust
     cluster
 }
 
-// Whether one of several calls may own the call, or it found the start or what one call made.
-fn has_several(owners: &Owners) -> bool {
+/// Whether one of several calls may own the call, or it found the start or what one call made.
+pub(crate) fn has_several(owners: &Owners) -> bool {
     owners.are_told && (owners.calls.len() > 1 || (owners.at_start && owners.calls.len() > 0))
+}
+
+impl Clusters {
+    /// Those of these clusters that have a call. `AllocError` where memory was refused.
+    pub(crate) fn new(
+        alloc: Global,
+        calls: &[CallValues],
+        each: &[Cluster],
+    ) -> Result<Self, AllocError> {
+        let rows = clusters_in_order(alloc, calls, each)?;
+        Ok(Clusters {
+            tops: tops_of(alloc, rows.as_slice())?,
+            rows,
+        })
+    }
+
+    /// Of the clusters of other owners whose first call returned before the event, the one whose last call was called last.
+    pub(crate) fn other_before(&self, event: u64, owner: usize) -> Option<Cluster> {
+        let count = self.rows.as_slice().partition_point(|one| one.by < event);
+        let top = *self.tops.get(count.checked_sub(1)?)?;
+        let most = *self.rows.get(top.most)?;
+        if most.owner != owner {
+            Some(most)
+        } else {
+            self.rows.get(top.next).copied()
+        }
+    }
+
+    /// A cluster that crosses this one.
+    pub(crate) fn crossing(&self, cluster: &Cluster) -> Option<Crossing> {
+        let other = self.other_before(cluster.from, cluster.owner)?;
+        if other.from <= cluster.by {
+            return None;
+        }
+        Some(Crossing {
+            writer: cluster.owner,
+            first: cluster.first,
+            last: cluster.last,
+            other: other.owner,
+            early: other.last,
+            late: other.first,
+        })
+    }
+}
+
+/// A call that comes between the first of the cluster and the last of those left to the owner, and does not leave the value.
+pub(crate) fn parting_of(
+    breaks: &LastBreaks,
+    value: i64,
+    cluster: &Cluster,
+    left: &Cluster,
+) -> Option<Parting> {
+    let between = breaks.last_before(left.from, value)?;
+    if between.called <= cluster.by {
+        return None;
+    }
+    Some(Parting {
+        writer: cluster.owner,
+        first: cluster.first,
+        last: left.last,
+        between: between.call,
+    })
 }
 
 impl Crossings {
@@ -213,10 +284,9 @@ impl Crossings {
 
     // Those of these calls.
     fn of(alloc: Global, calls: &[CallValues], owners: &[Owners]) -> Result<Self, AllocError> {
-        let rows = clusters_in_order(alloc, calls, owners)?;
+        let each = clusters_of_each(alloc, calls, owners)?;
         Ok(Crossings {
-            tops: tops_of(alloc, rows.as_slice())?,
-            rows,
+            clusters: Clusters::new(alloc, calls, each.as_slice())?,
             written: written_by_value(alloc, calls)?,
             breaks: LastBreaks::new(alloc, calls)?,
         })
@@ -225,48 +295,6 @@ impl Crossings {
     /// Whether calls may be stranded at all.
     pub(crate) fn are_told(&self) -> bool {
         self.written.len() > 0
-    }
-
-    // Of the clusters of other owners whose first call returned before the event, the one whose last call was called last.
-    fn other_before(&self, event: u64, owner: usize) -> Option<Cluster> {
-        let count = self.rows.as_slice().partition_point(|one| one.by < event);
-        let top = *self.tops.get(count.checked_sub(1)?)?;
-        let most = *self.rows.get(top.most)?;
-        if most.owner != owner {
-            Some(most)
-        } else {
-            self.rows.get(top.next).copied()
-        }
-    }
-
-    // A cluster that crosses this one.
-    fn crossing(&self, cluster: &Cluster) -> Option<Stranded> {
-        let other = self.other_before(cluster.from, cluster.owner)?;
-        if other.from <= cluster.by {
-            return None;
-        }
-        Some(Stranded::Crossed(Crossing {
-            writer: cluster.owner,
-            first: cluster.first,
-            last: cluster.last,
-            other: other.owner,
-            early: other.last,
-            late: other.first,
-        }))
-    }
-
-    // A call that comes between the first of the cluster and the last of those left to the owner, and does not leave the value.
-    fn parting(&self, value: i64, cluster: &Cluster, left: &Cluster) -> Option<Stranded> {
-        let between = self.breaks.last_before(left.from, value)?;
-        if between.called <= cluster.by {
-            return None;
-        }
-        Some(Stranded::Parted(Parting {
-            writer: cluster.owner,
-            first: cluster.first,
-            last: left.last,
-            between: between.call,
-        }))
     }
 
     // Where the calls that write the value and are called later than this event begin.
@@ -289,9 +317,12 @@ impl Crossings {
             return None;
         }
         let cluster = left.with_owner(calls);
-        match self.crossing(&cluster) {
-            Some(stranded) => Some(stranded),
-            None => self.parting(value, &cluster, &left),
+        match self.clusters.crossing(&cluster) {
+            Some(crossing) => Some(Stranded::Crossed(crossing)),
+            None => match parting_of(&self.breaks, value, &cluster, &left) {
+                Some(parting) => Some(Stranded::Parted(parting)),
+                None => None,
+            },
         }
     }
 

@@ -9,6 +9,7 @@ ghost use Rattle.lin_ahead.specs.Values.ToldOfRegister.{IsToldOfRegister};
 
 use crate::values::call_values::{CallValues, values_of_each};
 use crate::values::clusters::{cluster_numbers, some_found_nowhere};
+use crate::values::narrowing::narrow;
 use crate::values::needed_pairs::{CallNumbers, some_pair};
 use crate::values::owners::{Owners, owners_of_each};
 use crate::values::shown_values::values_of_calls;
@@ -74,8 +75,10 @@ pub(crate) fn told_of_register(
 ) -> Result<ValuesAhead, AllocError>
     ensures { IfOk result (IsToldOfRegister start.now calls.now) }
 {
-    let values = values_of_calls(alloc, calls)?;
-    let owners = owners_of_each(alloc, *start, &values, calls)?;
+    let shown = values_of_calls(alloc, calls)?;
+    let values = values_of_each(alloc, calls)?;
+    let mut owners = owners_of_each(alloc, *start, &shown, calls)?;
+    narrow(alloc, calls, values.as_slice(), &mut owners)?;
     let rows = owners.as_slice();
     let row = cluster_numbers(alloc, calls, rows)?;
     let numbers = row.as_slice();
@@ -86,6 +89,6 @@ pub(crate) fn told_of_register(
         needs: NeedRows::new(by, from),
         owners,
         in_vain,
-        values: values_of_each(alloc, calls)?,
+        values,
     })
 }

@@ -1,6 +1,7 @@
 use Rattle.std.proofs.Common.{◌≡◌, ◌∙◌, ap, rules, w64, to_z, of_z, FitsSigned}
 use Rattle.std.proofs.lemmas.Int.{to_z-of_z}
 use Rattle.lin_history.specs.Problems.Needs.{NeedNumbers}
+use Rattle.lin_ahead.proofs.values.NarrowedLemmas.{right_rows}
 use Rattle.lin_ahead.proofs.values.VainLemmas.{are_cluster_numbers}
 use Rattle.lin_ahead.proofs.values.rows.told_of_register.Goals as goal
 
@@ -12,7 +13,7 @@ returns c = record {
   owners = (
       let fits : FitsSigned w64 c.args.start.now = search rules in
       let passed : to_z w64 (of_z w64 c.args.start.now) ≡ c.args.start.now = to_z-of_z w64 c.args.start.now fits in
-      rw passed at c.in_ok-owners.ensures);
+      c.in_ok-narrow.ensures c.args.start.now (right_rows c.args.calls.now c.args.start.now _ (rw passed at c.in_ok-owners.ensures)));
   numbers = are_cluster_numbers c.args.calls.now _ c.in_ok-row.row.items (rw c.as_slice-rows.ensures.value at c.in_ok-row.ensures) _ (ap (λ (rows : NeedNumbers). rows.by) c.new.ensures ∙ rw c.as_slice-numbers.ensures.value at c.in_ok-by.ensures) (ap (λ (rows : NeedNumbers). rows.from) c.new.ensures ∙ rw c.as_slice-numbers.ensures.value at c.in_ok-from.ensures);
   in_vain = rw c.as_slice-rows.ensures.value at c.in_ok-in_vain.ensures.is;
   in_vain_told = rw c.as_slice-rows.ensures.value at c.in_ok-in_vain.ensures.told;
