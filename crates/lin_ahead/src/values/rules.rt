@@ -8,25 +8,64 @@ use crate::first::calls_in_turn::CallsInTurn;
 use crate::first::needed_calls::{left_out, needed_in_turn};
 use crate::first::rules::Rules;
 use crate::values::call_values::CallValues;
-use crate::values::crossings::Crossings;
+use crate::values::crossings::{Crossings, has_several};
 use crate::values::due::Due;
 use crate::values::due_rules::{Next, another_is_due};
 use crate::values::key_value::value_held;
+use crate::values::owners::Owners;
 use crate::values::rows::ValuesAhead;
 use lin_history::Problem;
 use lin_object::{AnyObject, ObjState, lawful};
 use lin_search::Config;
 use std::alloc::{AllocError, Global};
 
+// What a search asks about calls that are due, by what it lifted.
+#[derive(Drop)]
+struct Asked {
+    due: Due,
+    crossings: Crossings,
+}
+
 /// What is known ahead, and by which calls to ask it: the calls by how early they are needed, and those that are due. All but what is
 /// known ahead are hints.
+///
+/// Where no call has several owners, what is asked of needs leads most searches straight on. So the calls that are due are not made
+/// before the search went back: on a path that no other call was tried on, one that is due stays so until a step misses it.
 #[derive(Drop)]
 pub(crate) struct ValueRules<'a> {
     alloc: Global,
     ahead: &'a ValuesAhead,
     needed: CallsInTurn,
-    due: Due,
-    crossings: Crossings,
+    // The calls that are lifted, in turn, while no calls are asked about.
+    path: Vec<usize>,
+    went_back: bool,
+    asked: Option<Asked>,
+}
+
+// Whether one of several calls may own some call, or it found the start or what one call made.
+fn some_has_several(owners: &[Owners]) -> bool {
+    owners.iter().any(|row| has_several(row))
+}
+
+// What is asked, while these calls are lifted, in turn.
+fn asked_after(alloc: Global, ahead: &ValuesAhead, lifted: &[usize]) -> Result<Asked, AllocError> {
+    let mut due = Due::new(alloc, ahead.values.as_slice(), ahead.owners.as_slice())?;
+    for call in lifted {
+        due.lifted(*call)?;
+    }
+    Ok(Asked {
+        due,
+        crossings: Crossings::new(alloc, ahead.values.as_slice(), ahead.owners.as_slice())?,
+    })
+}
+
+// What is asked from the root on: nothing, where no call has several owners.
+fn asked_first(alloc: Global, ahead: &ValuesAhead) -> Result<Option<Asked>, AllocError> {
+    if some_has_several(ahead.owners.as_slice()) {
+        Ok(Some(asked_after(alloc, ahead, &[])?))
+    } else {
+        Ok(None)
+    }
 }
 
 impl<'a> ValueRules<'a> {
@@ -38,15 +77,16 @@ impl<'a> ValueRules<'a> {
             alloc,
             ahead,
             needed: needed_in_turn(alloc, &ahead.needs)?,
-            due: Due::new(alloc, ahead.values.as_slice(), ahead.owners.as_slice())?,
-            crossings: Crossings::new(alloc, ahead.values.as_slice(), ahead.owners.as_slice())?,
+            path: Vec::new(alloc),
+            went_back: false,
+            asked: asked_first(alloc, ahead)?,
         })
     }
 }
 
 impl<'a> ValueRules<'a> {
     // Whether calls are known to be stranded, once the next call has changed the state.
-    fn strands(&self, next: &Next) -> Result<bool, AllocError>
+    fn strands(&self, asked: &Asked, next: &Next) -> Result<bool, AllocError>
         requires { IsRightOfValues (any_problem next.now.problem.now) self.now.ahead.now }
         ensures { IfOk result (λ stranded. IsTrue stranded
             → AreStranded (any_problem next.now.problem.now) next.now.config.now.lifted
@@ -56,9 +96,39 @@ impl<'a> ValueRules<'a> {
             return Ok(false);
         };
         let values = self.ahead.values.as_slice();
-        match self.crossings.stranded(values, &self.due, next.call, value) {
+        match asked
+            .crossings
+            .stranded(values, &asked.due, next.call, value)
+        {
             Some(calls) => next.are_stranded(self.alloc, self.ahead.owners.as_slice(), &calls),
             None => Ok(false),
+        }
+    }
+
+    // Goes on after the call, which is lifted now.
+    fn note_lifted(&mut self, call: usize) -> Result<(), AllocError>
+        ensures { self.new.ahead.now ≡ self.old.ahead.now }
+    {
+        if let Some(asked) = &mut self.asked {
+            return asked.due.lifted(call);
+        }
+        self.path.push(call)?;
+        if self.went_back {
+            self.asked = Some(asked_after(self.alloc, self.ahead, self.path.as_slice())?);
+        }
+        Ok(())
+    }
+
+    // Goes back to before the call, which was lifted last.
+    fn note_unlifted(&mut self, call: usize)
+        ensures { self.new.ahead.now ≡ self.old.ahead.now }
+    {
+        match &mut self.asked {
+            Some(asked) => asked.due.unlifted(call),
+            None => {
+                self.path.pop();
+                self.went_back = true;
+            }
         }
     }
 }
@@ -76,12 +146,12 @@ impl<'a> Rules<AnyObject> for ValueRules<'a> {
 
     fn lifted(&mut self, config: &Config<AnyObject>, call: usize) -> Result<(), AllocError> {
         self.needed.lifted(config);
-        self.due.lifted(call)
+        self.note_lifted(call)
     }
 
     fn unlifted(&mut self, call: usize) {
         self.needed.unlifted(call);
-        self.due.unlifted(call);
+        self.note_unlifted(call);
     }
 
     // It needs a call that is not lifted.
@@ -97,10 +167,13 @@ impl<'a> Rules<AnyObject> for ValueRules<'a> {
 
     // It may change the state while another call is due, or makes one due.
     fn looks_at_next(&self, _config: &Config<AnyObject>, call: usize) -> bool {
-        may_write(self.ahead.values.as_slice(), call)
-            && (self.crossings.are_told()
-                || self.due.has_another(call)
-                || self.due.last_behind(call).is_some())
+        match &self.asked {
+            Some(asked) => may_write(self.ahead.values.as_slice(), call)
+                && (asked.crossings.are_told()
+                    || asked.due.has_another(call)
+                    || asked.due.last_behind(call).is_some()),
+            None => false,
+        }
     }
 
     // It changes the state while another call is due, or behind it, or strands others; or one due behind it has no step there.
@@ -112,6 +185,9 @@ impl<'a> Rules<AnyObject> for ValueRules<'a> {
         state: &ObjState,
     ) -> Result<bool, AllocError> {
         lawful::<AnyObject>();
+        let Some(asked) = &self.asked else {
+            return Ok(false);
+        };
         let owners = self.ahead.owners.as_slice();
         let next = Next {
             problem,
@@ -120,18 +196,18 @@ impl<'a> Rules<AnyObject> for ValueRules<'a> {
             state,
         };
         if *state == *config.state() {
-            return next.finds_another(self.alloc, owners, &self.due);
+            return next.finds_another(self.alloc, owners, &asked.due);
         }
-        if another_is_due(problem, owners, &self.due, config, call) {
+        if another_is_due(problem, owners, &asked.due, config, call) {
             return Ok(true);
         }
         let values = self.ahead.values.as_slice();
-        if next.two_change(self.alloc, owners, &self.due, values)? {
+        if next.two_change(self.alloc, owners, &asked.due, values)? {
             return Ok(true);
         }
-        if next.comes_between(self.alloc, owners, &self.due, values)? {
+        if next.comes_between(self.alloc, owners, &asked.due, values)? {
             return Ok(true);
         }
-        self.strands(&next)
+        self.strands(asked, &next)
     }
 }
