@@ -96,6 +96,9 @@ pub(crate) fn some_value_taken_twice(
 ) -> Result<bool, AllocError>
     ensures { IfOk result (λ found. IsTrue found → IsTakenTwice calls.now rows.now) }
 {
+    if !calls.iter().any(|one| takes(one)) {
+        return Ok(false);
+    }
     let mut taken_by = vec![in alloc; None; calls.len()]?;
     taken_by.push(None)?;
     for call in 0..calls.len() {
