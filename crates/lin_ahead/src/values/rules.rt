@@ -26,17 +26,17 @@ struct Asked {
     crossings: Crossings,
 }
 
-/// What is known ahead, and by which calls to ask it: the calls by how early they are needed, and those that are due. All but what is
-/// known ahead are hints.
+/// What is known ahead, and by which calls to ask it: the calls by how early they are needed, and those that are due. All but what
+/// is known ahead are hints.
 ///
-/// Where no call has several owners, what is asked of needs leads most searches straight on. So the calls that are due are not made
-/// before the search went back: on a path that no other call was tried on, one that is due stays so until a step misses it.
+/// Where no call has several owners, the needs alone lead most searches straight on, so that to list the calls that are due would
+/// cost more than it saves. They are listed once the search went back: a call that was due on the way is found to be so still.
 #[derive(Drop)]
 pub(crate) struct ValueRules<'a> {
     alloc: Global,
     ahead: &'a ValuesAhead,
     needed: CallsInTurn,
-    // The calls that are lifted, in turn, while no calls are asked about.
+    // The calls that are lifted, in turn, while those that are due are not listed.
     path: Vec<usize>,
     went_back: bool,
     asked: Option<Asked>,
@@ -47,7 +47,7 @@ fn some_has_several(owners: &[Owners]) -> bool {
     owners.iter().any(|row| has_several(row))
 }
 
-// What is asked, while these calls are lifted, in turn.
+// What is asked after these calls were lifted, in turn.
 fn asked_after(alloc: Global, ahead: &ValuesAhead, lifted: &[usize]) -> Result<Asked, AllocError> {
     let mut due = Due::new(alloc, ahead.values.as_slice(), ahead.owners.as_slice())?;
     for call in lifted {
