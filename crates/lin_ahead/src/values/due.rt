@@ -53,7 +53,7 @@ fn owners_of_calls(
 fn owned_counts(alloc: Global, owners: &[Owners], calls: usize) -> Result<Vec<usize>, AllocError> {
     let mut counts = vec![in alloc; 0usize; calls.saturating_add(2)]?;
     for row in owners {
-        for owner in &row.calls {
+        for owner in row.calls.as_slice() {
             if let Some(slot) = counts.get_mut(owner.saturating_add(2)) {
                 *slot = slot.saturating_add(1);
             }
@@ -93,7 +93,7 @@ impl Due {
         let all = begins.last().copied().unwrap_or(0);
         let mut owned = vec![in alloc; 0usize; all]?;
         for call in 0..owners.len() {
-            for owner in &owners[call].calls {
+            for owner in owners[call].calls.as_slice() {
                 add_owned(&mut owned, &mut begins, *owner, call);
             }
         }

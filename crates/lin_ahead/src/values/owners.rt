@@ -12,6 +12,7 @@ use crate::values::writers::{Writer, Writers};
 use indexmap::IndexMap;
 use lin_history::ProblemCall;
 use lin_object::{Op, Reply};
+use smallvec::SmallVec;
 use std::alloc::{AllocError, Global};
 
 // With more owners than this nothing is told of a call.
@@ -24,7 +25,7 @@ const MOST_STEPS: usize = 256;
 #[derive(Drop)]
 pub struct Owners {
     /// The calls. None where the value can only have been there from the start on, or nothing is told.
-    pub(crate) calls: Vec<usize>,
+    pub(crate) calls: SmallVec<usize, 1>,
     /// Whether the value may have been there from the start on.
     pub(crate) at_start: bool,
     /// Whether anything is told: not where the call found no value, or too many calls may have written it.
@@ -36,7 +37,7 @@ fn untold(alloc: Global) -> Owners
     ensures { result.are_told ≡ false }
 {
     Owners {
-        calls: Vec::new(alloc),
+        calls: SmallVec::new(alloc),
         at_start: false,
         are_told: false,
     }
@@ -129,7 +130,7 @@ fn list_owners(
     calls: &[ProblemCall<Op, Reply>],
     writers: &Writers,
     finder: &Finder,
-    owners: &mut Vec<usize>,
+    owners: &mut SmallVec<usize, 1>,
 ) -> Result<Option<Sought>, AllocError>
     requires order { AreInOrder writers.now.rows.items }
     requires under { AreUnder writers.now.rows.items writers.now.under.items }
@@ -197,7 +198,7 @@ fn owners_of_finder(
     requires finder { IsFinder calls.now finder.now }
     ensures { IfOk result (λ row. IsTrue row.are_told → AreOwnersOf calls.now start finder.now.call row) }
 {
-    let mut owners = Vec::new(alloc);
+    let mut owners = SmallVec::new(alloc);
     match list_owners(calls, writers, finder, &mut owners)? {
         Some(sought) => Ok(Owners {
             at_start: may_be_from_start(calls, writers, start, finder, sought),

@@ -30,7 +30,7 @@ loop-preserved c =
       | in-None+else-len-ge-MOST_OWNERS+in_ok-push-in-None w ↦ rw (w.place-is, w.owners-is) (record {
         within = omega (arith, within);
         since = c.look_on-sought.ensures;
-        listed = subst (λ (l : List ℕ). AreListedFrom calls finder rows (c.loop.place - 1) l) (sym w.in_ok-push-in-None.ensures.items) (listed_pushed calls finder rows c.loop.place c.in-Some.row c.loop.owners.items first here c.loop.invariant.listed);
+        listed = subst (λ (l : List ℕ). AreListedFrom calls finder rows (c.loop.place - 1) l) (sym w.in_ok-push-in-None.ensures.ok) (listed_pushed calls finder rows c.loop.place c.in-Some.row c.loop.owners.items first here c.loop.invariant.listed);
       })
     ]
 
