@@ -17,6 +17,7 @@ use crate::values::stranded::{Crossing, Parting};
 use crate::values::taken_values::sole_owner;
 use lin_history::ProblemCall;
 use lin_object::{Op, Reply};
+use smallvec::SmallVec;
 use std::alloc::{AllocError, Global};
 
 // How many rounds are made: what one takes out may let the next one take out more.
@@ -303,11 +304,11 @@ fn owners_left(
     hints: &Hints<'_>,
     call: usize,
     owners: &[usize],
-) -> Result<Vec<usize>, AllocError>
+) -> Result<SmallVec<usize, 1>, AllocError>
     ensures { IfOk result (λ left. (w : ℕ) → In w owners.now
         → In w left.items ⊎ IsTakenOut calls.now rows.now w call) }
 {
-    let mut left = Vec::new(alloc);
+    let mut left = SmallVec::new(alloc);
     for at in 0..owners.len() {
         if !is_taken_out(calls, rows, hints, call, owners[at]) {
             left.push(owners[at])?;

@@ -7,6 +7,6 @@ returns c = record {
   old = c.in-Some.row.now;
   there = slice_get_read c.args.rows.now (length c.args.rows.now) c.args.call c.in-Some.row.now refl c.in-Some.ensures.lookup.3.0 c.in-Some.ensures.lookup.1;
   told = c.may_be_narrowed.ensures c.if-not-may_be_narrowed.false;
-  each = rw c.as_slice.ensures.value at c.in_ok-left.ensures;
+  each = rw c.as_slice.ensures at c.in_ok-left.ensures;
   start = c.is_at_start-at_start.ensures;
 }

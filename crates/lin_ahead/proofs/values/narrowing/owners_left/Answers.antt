@@ -15,7 +15,7 @@ loop-at-preserved c =
     let within : at < length owners = (let a = c.loop-at-test.true in let b = c.loop-at.auto.at-end in omega (arith, a, b)) in
     let there : slice_get owners at ≡ Some (slice_index_or owners at 0) = slice_get-get_or owners at 0 within in
     elim c.if-not-is_taken_out.branch [
-      | then-not-is_taken_out+in_ok-push w ↦ rw w.left-is (subst (λ (l : List ℕ). LeftTo calls rows c.args.call (at + 1) owners l) (sym w.in_ok-push.ensures.items) (left_kept calls rows c.args.call at owners c.loop-at.left.items (slice_index_or owners at 0) there c.loop-at.invariant))
+      | then-not-is_taken_out+in_ok-push w ↦ rw w.left-is (subst (λ (l : List ℕ). LeftTo calls rows c.args.call (at + 1) owners l) (sym w.in_ok-push.ensures.ok) (left_kept calls rows c.args.call at owners c.loop-at.left.items (slice_index_or owners at 0) there c.loop-at.invariant))
       | else-not-is_taken_out w ↦ rw w.left-is (left_out calls rows c.args.call at owners c.loop-at.left.items (slice_index_or owners at 0) there (c.is_taken_out.ensures w.if-not-is_taken_out.false) c.loop-at.invariant)
     ]
 
