@@ -290,7 +290,9 @@ impl Due {
             Some(one) => one.is_completed(),
             None => false,
         };
-        !is_completed || self.two_behind(calls, call).is_some() || self.between(calls, call).is_some()
+        !is_completed
+            || self.two_behind(calls, call).is_some()
+            || self.between(calls, call).is_some()
     }
 
     // Of the calls that will be due once the call is lifted, the one that was called last; and the first of the calls left that
