@@ -1,13 +1,11 @@
 -- Calls that one and the same call owns: between it and each of them no call of a linearization changes the state. So the calls of two such owners stand apart.
-use Rattle.std.proofs.Common.{◌≡◌, ◌≢◌, ℕ, Bool, true, false, true≢false, Option, Some, List, [], ◌∷◌, ◌++◌, length, ◌⊎◌, inl, inr, refl, sym, ◌∙◌, ap, subst, append_assoc, append-nil}
-use Rattle.std.specs.Prelude.{IsTrue}
+use Rattle.std.proofs.Common.{◌≡◌, ◌≢◌, ℕ, true, false, true≢false, Some, List, [], ◌∷◌, ◌++◌, length, ◌⊎◌, inl, inr, refl, sym, ◌∙◌, ap, subst, append_assoc, append-nil}
 use Rattle.lin_history.specs.Problems.Problem.{Problem}
 use Rattle.lin_history.specs.Problems.Lists.{In, IsDistinct}
 use Rattle.lin_history.specs.Problems.ListLemmas.{apart, has_none, in_early, in_late, in_either, in_place}
 use Rattle.lin_history.specs.Problems.LegalLists.{next, Legal}
 use Rattle.lin_history.specs.Problems.Precedence.{Before, IsCompleted}
 use Rattle.lin_history.specs.Problems.Linearizations.{IsRun, IsLinearization}
-use Rattle.lin_history.specs.Problems.Needs.{Needs}
 use Rattle.lin_ahead.specs.Values.Owners.{CanFollow, Leaves, AllLeave, LastChange, IsOwnedBy}
 use Rattle.lin_ahead.specs.Values.Stranded.{Reached}
 use Rattle.lin_ahead.proofs.first.NeedsLemmas.{stands}

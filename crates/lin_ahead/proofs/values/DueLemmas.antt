@@ -6,7 +6,7 @@ use Rattle.lin_history.specs.Problems.Problem.{Problem}
 use Rattle.lin_history.specs.Problems.Lists.{In}
 use Rattle.lin_history.specs.Problems.ListLemmas.{apart, in_early, in_late, in_either, in_place}
 use Rattle.lin_history.specs.Problems.LegalLists.{next, Legal}
-use Rattle.lin_history.specs.Problems.Continuations.{has, IsCompletion}
+use Rattle.lin_history.specs.Problems.Continuations.{IsCompletion}
 use Rattle.lin_history.specs.Problems.Linearizations.{IsLinearization}
 use Rattle.lin_history.specs.Problems.Configurations.{IsReachable}
 use Rattle.lin_search.specs.NextCall.{IsNext}
@@ -14,7 +14,7 @@ use Rattle.lin_search.specs.AlikeLemmas.{AreAlike}
 use Rattle.lin_ahead.specs.First.FirstProgress.{BeginsNone}
 use Rattle.lin_ahead.specs.Values.Owners.{AllLeave, LastChange, IsOwnedBy}
 use Rattle.lin_ahead.specs.Values.Due.{IsInWith, AreInWith, IsDue, AnotherIsDue, FindsAnother, ComesBetween, TwoChange}
-use Rattle.lin_ahead.proofs.first.NeedsLemmas.{place_split, joined, stands}
+use Rattle.lin_ahead.proofs.first.NeedsLemmas.{place_split, joined}
 
 pub told_ok : {E P Q : Type 0} (r : Result Bool E) → (P → Q) → IfOk r (λ found. IsTrue found → P) → IfOk r (λ found. IsTrue found → Q)
 told_ok (Ok found) f k = λ e. f (k e)

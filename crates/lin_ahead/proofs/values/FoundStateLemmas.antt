@@ -1,6 +1,6 @@
 -- A call on a register that found a value can follow one state alone.
 use Rattle.std.proofs.Common.{◌≡◌, ℕ, List, sym, ◌∙◌, ap, subst}
-use Rattle.std.specs.Prelude.{ℤ, Some, slice_get, IsTrue}
+use Rattle.std.specs.Prelude.{ℤ, Some, slice_get}
 use Rattle.lin_object.specs.declared.op.Op.{Op}
 use Rattle.lin_object.specs.declared.reply.Reply.{Reply}
 use Rattle.lin_object.specs.declared.state.ObjState.{ObjState}

@@ -1,30 +1,30 @@
 -- What a call on a register found was written by one of its possible owners, the last call in front of it that changed the state.
-use Rattle.std.proofs.Common.{◌≡◌, ◌≢◌, ℕ, ◌<◌, Bool, true, false, not, ◌||◌, Option, Some, None, IsSome, List, [], ◌∷◌, ◌++◌, length, ◌⊎◌, inl, inr, refl, sym, ◌∙◌, ap, subst, append_assoc, true≢false}
-use Rattle.std.specs.Prelude.{ℤ, slice_get, IfSome, IsSomeAnd, IsTrue, if◌then◌else◌}
+use Rattle.std.proofs.Common.{◌≡◌, ℕ, Bool, true, false, not, ◌||◌, Option, Some, None, List, [], ◌∷◌, ◌++◌, length, ◌⊎◌, inl, inr, refl, sym, ◌∙◌, ap, subst, append_assoc, true≢false}
+use Rattle.std.specs.Prelude.{ℤ, slice_get, IfSome, IsTrue}
 use Rattle.std.specs.Ordering.{int_eq}
 use Rattle.std.specs.Cmp.{signed_Decides}
 use Rattle.lin_object.specs.declared.op.Op.{Op}
 use Rattle.lin_object.specs.declared.op.Op.TheVariants.{Write, Read, Cas}
 use Rattle.lin_object.specs.declared.reply.Reply.{Reply}
-use Rattle.lin_object.specs.declared.reply.Reply.TheVariants.{Okay, Int, Flag, Empty}
+use Rattle.lin_object.specs.declared.reply.Reply.TheVariants.{Int, Flag}
 use Rattle.lin_object.specs.declared.state.ObjState.{ObjState}
 use Rattle.lin_object.specs.declared.state.ObjState.TheVariants.{Register}
 use Rattle.lin_object.specs.Kinds.Register.{register_step}
 use Rattle.lin_history.specs.declared.problems.problem.ProblemCall.{ProblemCall}
 use Rattle.lin_history.specs.Problems.Problem.{Problem}
-use Rattle.lin_history.specs.Problems.Lists.{In, IsDistinct}
-use Rattle.lin_history.specs.Problems.ListLemmas.{has_none, in_early, in_late, in_either, in_place, apart}
-use Rattle.lin_history.specs.Problems.LegalLists.{fits, state_if_fits, next, Legal}
-use Rattle.lin_history.specs.Problems.Precedence.{Before, IsCompleted}
+use Rattle.lin_history.specs.Problems.Lists.{In}
+use Rattle.lin_history.specs.Problems.ListLemmas.{has_none, in_late, in_either, apart}
+use Rattle.lin_history.specs.Problems.LegalLists.{state_if_fits, next, Legal}
+use Rattle.lin_history.specs.Problems.Precedence.{Before}
 use Rattle.lin_history.specs.Problems.Linearizations.{IsRun, IsLinearization}
 use Rattle.lin_history.specs.OptionLemmas.{some_and}
 use Rattle.lin_ahead.specs.declared.values.owners.Owners.{Owners}
-use Rattle.lin_ahead.specs.Values.Register.{IsOfRegister, value_written, value_found, MayWrite, Finds}
-use Rattle.lin_ahead.specs.Values.Owners.{Leaves, AllLeave, LastChange, IsOwnedBy, AreOwners}
+use Rattle.lin_ahead.specs.Values.Register.{IsOfRegister, Finds}
+use Rattle.lin_ahead.specs.Values.Owners.{Leaves, AllLeave, LastChange, AreOwners}
 use Rattle.lin_ahead.specs.Values.PossibleOwners.{breaks, Breaks, IsNoOwner, IsNotFromStart, AreOwnersOf, AreOwnerRows}
 use Rattle.lin_ahead.specs.AnswerLemmas.{Is, reply_of, fits_some}
 use Rattle.lin_ahead.proofs.first.NeedsLemmas.{not_before}
-use Rattle.lin_ahead.proofs.values.RegisterLemmas.{Tells, step_tells, fits_recorded, has_call, tells, left, legal_split, from_start, finds_held, not_itself, same_value}
+use Rattle.lin_ahead.proofs.values.RegisterLemmas.{step_tells, fits_recorded, has_call, tells, left, legal_split, from_start, finds_held, not_itself, same_value}
 
 -- ---- the last change of a list of calls
 

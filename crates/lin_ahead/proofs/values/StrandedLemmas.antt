@@ -1,19 +1,17 @@
 -- No completion begins with a call that changes the state and leaves calls to one owner which cannot own them all.
-use Rattle.std.proofs.Common.{◌≡◌, ◌≢◌, ℕ, Bool, true, false, true≢false, Option, Some, None, List, [], ◌∷◌, ◌++◌, ◌⊎◌, inl, inr, refl, sym, ◌∙◌, ap, subst}
+use Rattle.std.proofs.Common.{◌≡◌, ◌≢◌, ℕ, Bool, true, false, true≢false, Some, List, ◌∷◌, ◌++◌, inl, inr, refl, sym, ◌∙◌, subst}
 use Rattle.lin_history.specs.Problems.Problem.{Problem}
 use Rattle.lin_history.specs.Problems.Lists.{In}
-use Rattle.lin_history.specs.Problems.ListLemmas.{in_late, in_place}
-use Rattle.lin_history.specs.Problems.LegalLists.{next, Legal}
-use Rattle.lin_history.specs.Problems.Precedence.{IsCompleted}
+use Rattle.lin_history.specs.Problems.ListLemmas.{in_late}
+use Rattle.lin_history.specs.Problems.LegalLists.{Legal}
 use Rattle.lin_history.specs.Problems.Continuations.{has, IsCompletion}
 use Rattle.lin_history.specs.Problems.Linearizations.{IsRun, IsLinearization}
 use Rattle.lin_history.specs.Problems.Configurations.{IsReachable}
 use Rattle.lin_search.specs.NextCall.{IsNext}
 use Rattle.lin_search.specs.AlikeLemmas.{AreAlike}
 use Rattle.lin_ahead.specs.First.FirstProgress.{BeginsNone}
-use Rattle.lin_ahead.specs.Values.Owners.{Leaves, AllLeave, LastChange}
-use Rattle.lin_ahead.specs.Values.Due.{IsDue}
-use Rattle.lin_ahead.specs.Values.Stranded.{Reached, FindsOneState, IsLeftTo, IsOfCluster, AreOfCluster, AreCrossed, IsParted, AreStranded}
+use Rattle.lin_ahead.specs.Values.Owners.{Leaves}
+use Rattle.lin_ahead.specs.Values.Stranded.{IsLeftTo, IsOfCluster, AreOfCluster, AreCrossed, IsParted, AreStranded}
 use Rattle.lin_ahead.proofs.first.NeedsLemmas.{joined, stands}
 use Rattle.lin_ahead.proofs.values.ClusterLemmas.{Front, front_here, front_either, front_both, Changed, Owned, Member, owned_at, owner_changed, in_owners_front, none_changed, start_unchanged, none_cross, none_between}
 

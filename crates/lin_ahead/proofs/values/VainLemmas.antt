@@ -1,6 +1,6 @@
 -- What is known ahead of a register is right, and all is told: with the cases in which it shows that there is no linearization.
-use Rattle.std.proofs.Common.{◌≡◌, ◌≢◌, ◌⊎◌, inl, inr, ℕ, zero, suc, ◌<◌, ◌≤◌, ◌^◌, Bool, true, false, not, Option, Some, None, List, [], ◌∷◌, length, refl, sym, ◌∙◌, ap, subst, arith, ◌||◌, ◌&&◌, nat_eq, true≢false}
-use Rattle.std.specs.Prelude.{ℤ, nat_lt, slice_get, map, IsSomeAnd, IsTrue}
+use Rattle.std.proofs.Common.{◌≡◌, ◌≢◌, ◌⊎◌, inl, inr, ℕ, zero, suc, ◌<◌, ◌≤◌, ◌^◌, Bool, true, false, not, Some, List, [], ◌∷◌, length, refl, sym, ◌∙◌, ap, subst, arith, ◌||◌, ◌&&◌, nat_eq, true≢false}
+use Rattle.std.specs.Prelude.{ℤ, slice_get, map, IsSomeAnd, IsTrue}
 use Rattle.std.specs.List.{list_any}
 use Rattle.std.proofs.lemmas.Option.{slice_get_within, slice_get-get_or}
 use Rattle.std.proofs.lemmas.List.{length-map}
@@ -16,10 +16,9 @@ use Rattle.lin_history.specs.OptionLemmas.{some_and, and_some}
 use Rattle.lin_history.specs.Problems.ProblemParts.{ProblemParts}
 use Rattle.lin_history.specs.Problems.Problem.{Problem}
 use Rattle.lin_history.specs.Problems.AnyProblem.{any_problem}
-use Rattle.lin_history.specs.Problems.Lists.{In}
 use Rattle.lin_history.specs.Problems.Precedence.{Before, IsCompleted}
 use Rattle.lin_history.specs.Problems.Linearizations.{IsLinearization}
-use Rattle.lin_history.specs.Problems.Needs.{Needs, NeedNumbers}
+use Rattle.lin_history.specs.Problems.Needs.{NeedNumbers}
 use Rattle.lin_ahead.specs.declared.values.owners.Owners.{Owners}
 use Rattle.lin_ahead.specs.declared.values.rows.ValuesAhead.{ValuesAhead}
 use Rattle.lin_ahead.specs.declared.values.needed_pairs.CallNumbers.{CallNumbers}
@@ -36,7 +35,7 @@ use Rattle.lin_ahead.proofs.items.RowLemmas.{through}
 use Rattle.lin_ahead.proofs.values.PairLemmas.{Both, both_are, both_told, both_at, or_left, or_right}
 use Rattle.lin_ahead.proofs.values.RegisterLemmas.{finds_completed, of_any_register}
 use Rattle.lin_ahead.proofs.values.FoundStateLemmas.{find_one_state}
-use Rattle.lin_ahead.proofs.values.ClusterLemmas.{Front, front_here, front_both, Changed, Owned, Member, owned_in, owner_changed, cluster_front}
+use Rattle.lin_ahead.proofs.values.ClusterLemmas.{Front, front_here, front_both, Owned, Member, owned_in, owner_changed, cluster_front}
 use Rattle.lin_ahead.proofs.values.TakenTwiceLemmas.{twice_in_vain}
 
 -- an element of a list that passes a test

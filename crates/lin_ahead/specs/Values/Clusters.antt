@@ -1,5 +1,5 @@
 -- Calls that one call owns (this project's own).
-use Rattle.std.specs.Prelude.{◌≡◌, ◌≢◌, ◌⊎◌, ◌&&◌, ℕ, ◌<◌, ◌≤◌, ◌^◌, nat_eq, Bool, true, false, not, Option, Some, List, [], ◌∷◌, length, slice_get, IsSomeAnd, IsTrue}
+use Rattle.std.specs.Prelude.{◌≡◌, ◌≢◌, ◌⊎◌, ◌&&◌, ℕ, ◌<◌, ◌≤◌, ◌^◌, nat_eq, Bool, not, Some, List, length, slice_get, IsSomeAnd, IsTrue}
 use Rattle.lin_object.specs.declared.op.Op.{Op}
 use Rattle.lin_object.specs.declared.reply.Reply.{Reply}
 use Rattle.lin_history.specs.declared.problems.problem.ProblemCall.{ProblemCall}

@@ -1,5 +1,5 @@
 -- What is told ahead of a register's problem, of its calls by real time: which calls may have written what a call found, and the numbers of those that alone did (this project's own).
-use Rattle.std.specs.Prelude.{◌⊎◌, ℤ, List, length, IsTrue}
+use Rattle.std.specs.Prelude.{◌⊎◌, ℤ, List, IsTrue}
 use Rattle.lin_object.specs.declared.op.Op.{Op}
 use Rattle.lin_object.specs.declared.reply.Reply.{Reply}
 use Rattle.lin_history.specs.declared.problems.problem.ProblemCall.{ProblemCall}

@@ -1,6 +1,6 @@
-use Rattle.std.proofs.Common.{◌≡◌, ◌<◌, ◌≤◌, length, ℕ, subst, true≢false, Option, Some, None, inl, inr, refl, sym, ◌∙◌, ap, arith}
+use Rattle.std.proofs.Common.{◌≡◌, true≢false, Some, refl, sym, ◌∙◌, arith}
 use Rattle.std.specs.Prelude.{slice_get}
-use Rattle.std.proofs.lemmas.Option.{slice_get_within, slice_get_read}
+use Rattle.std.proofs.lemmas.Option.{slice_get_within}
 use Rattle.lin_ahead.proofs.counters.SumRowLemmas.{read_at}
 use Rattle.lin_ahead.proofs.values.NumberLemmas.{numbers_stay, numbers_widen, forced_owner, forced_so}
 use Rattle.lin_ahead.proofs.values.clusters.add_to_cluster.Goals as goal

@@ -1,4 +1,4 @@
-use Rattle.std.proofs.Common.{rules, ◌≡◌, ◌+◌, ◌≤◌, length, ℕ, refl, arith, subst}
+use Rattle.std.proofs.Common.{rules, ℕ, refl, arith, subst}
 use Rattle.lin_ahead.specs.Values.Clusters.{AreNumbersTo}
 use Rattle.lin_ahead.proofs.values.NumberLemmas.{no_numbers}
 use Rattle.lin_ahead.proofs.values.clusters.cluster_numbers.Goals as goal

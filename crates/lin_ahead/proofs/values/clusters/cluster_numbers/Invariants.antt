@@ -1,4 +1,3 @@
-use Rattle.std.proofs.Common.{◌≤◌, length}
 use Rattle.lin_ahead.specs.Values.Clusters.{AreNumbersTo}
 use Rattle.lin_ahead.proofs.values.clusters.cluster_numbers.Given as goal
 

@@ -1,4 +1,4 @@
-use Rattle.std.proofs.Common.{rules, ◌≡◌, ◌≤◌, ℕ, Option, Some, None, inl, inr, refl, sym, ◌∙◌, ap, arith, min}
+use Rattle.std.proofs.Common.{rules, ◌≡◌, ℕ, inl, refl, ◌∙◌, ap, arith, min}
 use Rattle.std.proofs.lemmas.Option.{slice_get_read}
 use Rattle.lin_object.specs.declared.reply.Reply.{Reply}
 use Rattle.lin_ahead.proofs.values.NumberLemmas.{widened_by, least_of_two}

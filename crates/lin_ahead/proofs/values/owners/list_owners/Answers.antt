@@ -1,4 +1,4 @@
-use Rattle.std.proofs.Common.{◌≡◌, ◌+◌, ◌-◌, ◌<◌, ◌≤◌, ℕ, Some, List, length, sym, subst, arith}
+use Rattle.std.proofs.Common.{◌≡◌, ◌-◌, ◌<◌, ◌≤◌, ℕ, Some, List, length, sym, subst, arith}
 use Rattle.std.specs.List.{slice_get}
 use Rattle.lin_ahead.specs.declared.values.writers.Writer.{Writer}
 use Rattle.lin_ahead.specs.Values.Writers.{AreListedFrom}

@@ -1,4 +1,4 @@
-use Rattle.std.proofs.Common.{◌≡◌, ◌∙◌, ◌⊎◌, inl, inr, sym, true≢false, Result, Ok, Err}
+use Rattle.std.proofs.Common.{◌∙◌, ◌⊎◌, inl, inr, sym, true≢false, Result, Ok, Err}
 use Rattle.std.specs.Prelude.{Bool, IfOk, IsTrue}
 use Rattle.lin_ahead.specs.Values.Clusters.{FoundNowhere, NeedEachOther}
 use Rattle.lin_ahead.proofs.values.VainLemmas.{pair_is, pair_shown, nowhere_is, nowhere_shown}
