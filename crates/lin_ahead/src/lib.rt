@@ -31,7 +31,8 @@
 //!   map of one key that starts empty, for a register, for a counter and for a mutex on which the calls of each process come one
 //!   after another, and for no other problem. `KnownAhead` is one enum, with a value of its own for each kind. All of it speaks of
 //!   *linearizations* (`IsRightAhead`), and for most of it nothing more could be told by real time (`IsToldAhead`); for a stack it
-//!   may leave out which call popped an item, and of values it may name as an owner a call that cannot be one.
+//!   may leave out which call popped an item. Of values no clause says which calls have their owners told, and it may name as an
+//!   owner a call that cannot be one; but of what owners show nothing is left out, save values that were taken twice.
 //! - `search_first` looks from the root for the least linearization only, and passes over a call if a rule below shows that it
 //!   begins no completion, or none that an earlier call does not begin too. Its answer is right (`Told`). It is `Nothing` only if
 //!   there are more runs than lifts may be made, or if the stop answered. No clause says which calls it passes over. The search
