@@ -9,7 +9,9 @@ of a core's calls are tried: there may be none. The calls left out may not be ne
 changes nothing, or precedes the first, which begins anew; or it is one of some that precede them all and put each of the items
 into a queue or a stack as often as they took it out; or the first returned with a reply that its operation never gives. A core can't
 be smaller: cut at an earlier return, without one of its values, without one call that changes nothing or, where it has many, without
-those before a moment at which each of its items was out, its calls have an order. Of small histories all orders of the whole are tried too: one with an order may have no core. The
+those before a moment at which each of its items was out, its calls have an order. A core that begins at an event
+may have no order from any state that stands for what the object held before: nothing, one of the core's values, or another; what
+returned before that event is over. Of small histories all orders of the whole are tried too: one with an order may have no core. The
 sums of a get for whose reply the adds leave no room are made anew; one has to be found exactly where some get has such a reply,
 counted from the start or from an earlier get. Prints how many cores have how many calls, and each object without an order of
 which no core was found. With --counters all random histories are of counters that add different numbers; with --items they are of
@@ -147,25 +149,76 @@ def once_out(kind, start, calls, kept, values, before):
 
 
 def smaller(kind, calls, kept, event, values, at):
-    """The selections next smaller than this one: calls and an event."""
+    """The selections next smaller than this one: calls, an event and values."""
     returns = sorted(c["returned"][0] for c in (calls[k] for k in kept) if c["returned"] is not PENDING)
     for earlier in [r for r in returns if r < event][-1:]:
-        yield [k for k in kept if calls[k]["called"] <= earlier], earlier
+        yield [k for k in kept if calls[k]["called"] <= earlier], earlier, values
     for value in values if len(values) > 1 else []:
         fewer = values - {value}
         on = [k for k in kept if is_on(kind, calls[k], fewer, at)]
         if all(may_go(kind, calls[k], fewer, at) for k in kept if k not in on):
-            yield on, event
+            yield on, event, fewer
     for place in range(1, len(kept)) if len(kept) > FEW else []:
         if once_out(kind, (), calls, kept[place:], values, [calls[k] for k in kept[:place]]):
-            yield kept[place:], event
+            yield kept[place:], event, values
     for k in kept:
         if is_idle(kind, calls[k]):
-            yield [other for other in kept if other != k], event
+            yield [other for other in kept if other != k], event, values
+
+
+def is_enough(kind, start, calls, kept, event, values, at):
+    """Whether the other calls may be left out."""
+    others = [c for k, c in enumerate(calls) if k not in kept and c["called"] <= event]
+    needs_all = kind == "register" and any(is_refused_cas(calls[k]) for k in kept)
+    needed = [c for c in others if not (is_idle(kind, c) if needs_all else may_go(kind, c, values, at))]
+    if kind == "mutex" or not needed:
+        return True
+    return bool(kept) and begins_anew(kind, start, calls, kept, values, needed) or once_out(kind, start, calls, kept, values, needed)
+
+
+def cut_since(call, since, event):
+    """The call as it stood from one event to the other: pending, if it was called before."""
+    return cut(call, event) if call["called"] >= since else call | {"returned": PENDING}
+
+
+def beginnings(kind, start, values, at):
+    """The states that stand for all that the object may have held."""
+    named = [*values, max(values, default=0) + 1]
+    if kind == "register":
+        return [start, *named]
+    if kind == "mutex":
+        return [None, *values]
+    return [(), *((item,) for item in values)] if kind == "set" else [(), *(((at[0], value),) for value in named)]
+
+
+def may_go_late(kind, call, values, at):
+    """Whether a call may be left out of a core that begins at an event: of a key of which all is looked at, only if it is on another one."""
+    if at is not None and at[1]:
+        return is_idle(kind, call) or call["args"][0] != at[0]
+    return may_go(kind, call, values, at)
+
+
+def check_late(kind, start, calls, core):
+    """What is wrong with a core that begins at an event, if anything is."""
+    since, event, kept, values, at = core["from"], core["event"], [k for k, _ in core["calls"]], set(core["values"]), core["key"]
+    part = [cut_since(calls[k], since, event) for k in kept]
+    if [c["returned"] is PENDING for c in part] != [pending for _, pending in core["calls"]]:
+        return "another call is taken as pending"
+    if any(calls[k]["called"] > event for k in kept) or kept != sorted(set(kept)) or kind == "set" and len(values) != 1:
+        return "these are not its calls"
+    if any(has_order(kind, state, part) for state in beginnings(kind, start, values, at)):
+        return "its calls have an order"
+    others = [c for k, c in enumerate(calls) if k not in kept and c["called"] <= event]
+    is_over = [c["returned"] is not PENDING and c["returned"][0] < since for c in others]
+    if not all(over or may_go_late(kind, c, values, at) for c, over in zip(others, is_over)):
+        return "a call that it needs is left out"
+    return None
 
 
 def check(kind, start, calls, core):
     """What is wrong with a core, if anything is."""
+    if core["from"] is not None:
+        return check_late(kind, start, calls, core)
     event, kept, values, at = core["event"], [k for k, _ in core["calls"]], set(core["values"]), core["key"]
     part = [cut(calls[k], event) for k in kept]
     if [c["returned"] is PENDING for c in part] != [pending for _, pending in core["calls"]]:
@@ -178,14 +231,10 @@ def check(kind, start, calls, core):
         return "its calls have an order"
     if gave_another(kind, part[0]):
         return None
-    others = [c for k, c in enumerate(calls) if k not in kept and c["called"] <= event]
-    needs_all = kind == "register" and any(is_refused_cas(calls[k]) for k in kept)
-    needed = [c for c in others if not (is_idle(kind, c) if needs_all else may_go(kind, c, values, at))]
-    if kind != "mutex" and needed and not begins_anew(kind, start, calls, kept, values, needed):
-        if not once_out(kind, start, calls, kept, values, needed):
-            return "a call that it needs is left out"
-    for less, earlier in smaller(kind, calls, kept, event, values, at):
-        if not has_order(kind, start, [cut(calls[k], earlier) for k in less]):
+    if not is_enough(kind, start, calls, kept, event, values, at):
+        return "a call that it needs is left out"
+    for less, earlier, fewer in smaller(kind, calls, kept, event, values, at):
+        if is_enough(kind, start, calls, less, earlier, fewer, at) and not has_order(kind, start, [cut(calls[k], earlier) for k in less]):
             return f"{len(less)} calls are enough"
     return None
 
@@ -231,7 +280,9 @@ def answers(program, files):
         elif what == "none":
             told, fault = told + [(None, fault)], None
         elif what == "core":
-            told, fault = told + [({"event": int(words[0]), "key": None, "calls": [], "values": []}, fault)], None
+            told, fault = told + [({"event": int(words[0]), "from": None, "key": None, "calls": [], "values": []}, fault)], None
+        elif what == "from":
+            told[-1][0]["from"] = int(words[0])
         elif what == "key":
             told[-1][0]["key"] = int(words[0]), words[1] == "true"
         elif what == "call":
@@ -253,7 +304,7 @@ class Tally:
     def __init__(self):
         self.sizes, self.wrong, self.missed, self.orders = collections.Counter(), [], [], 0
         self.sums, self.pairs, self.refuted_counters, self.not_by_sums = 0, 0, 0, 0
-        self.once_out, self.small = 0, SMALL
+        self.once_out, self.late, self.small = 0, 0, SMALL
 
     def add_sums(self, name, kind, start, calls, fault):
         """Of a counter whether a get is found exactly where there is one, and whether its sums are right."""
@@ -279,6 +330,7 @@ class Tally:
                 self.missed.append(f"{name} ({kind}, {len(calls)} calls)")
             return
         self.sizes[len(core["calls"])] += 1
+        self.late += core["from"] is not None
         self.once_out += kind in ("queue", "stack") and has_earlier(calls, core)
         fault = check(kind, start, calls, core)
         if small and has_order(kind, start, calls):
@@ -289,6 +341,7 @@ class Tally:
     def print(self):
         print("cores by their calls:", dict(sorted(self.sizes.items())))
         print("cores from a moment on at which each item was out:", self.once_out)
+        print("cores that begin at an event:", self.late)
         print("objects with an order, without a core:", self.orders)
         print("objects without an order, without a core:", len(self.missed), *self.missed[:20], sep="\n  ")
         print("gets for whose reply the adds leave no room:", self.sums, "of which counted from an earlier get:", self.pairs)

@@ -27,7 +27,7 @@ from pathlib import Path
 
 PENDING = None
 MOST_LISTED, MOST_ITEMS, MOST_TOUCHING = 16, 16, 8
-CORE_HEAD = re.compile(r"(?:this call|these (\d+) calls)(?: on key (-?\d+))? alone (has|have) no order:")
+CORE_HEAD = re.compile(r"(?:this call|these (\d+) calls)(?: on key (-?\d+))? alone (has|have) no order(?:, whatever (\S+) held before line (\d+))?:")
 SUMS_HEAD = re.compile(r"no order gives (this call|the second of these calls) so (small|great) a reply:")
 CORE_CALL = re.compile(r"  \d+ \S+ .* \((?:line|lines) (\d+)(?: and (\d+))?\)")
 START = {"register": 0, "counter": 0, "queue": (), "stack": (), "set": (), "mutex": None, "map": ()}
@@ -376,6 +376,20 @@ def sums_lines(name, start, gets, calls):
     return []
 
 
+def states_before(kind, start, core):
+    """States that stand for all that an object may have held, as far as these calls on one key or item of it tell: nothing, each value
+    that they name, and another one."""
+    replies = {call["returned"][1] for call in core if call["returned"] is not PENDING and type(call["returned"][1]) is int}
+    named = {value for call in core for value in call["args"]} | replies
+    named.add(max(named, default=0) + 1)
+    if kind == "register":
+        return [start, *named]
+    if kind == "mutex":
+        return [None, *{call["process"] for call in core}]
+    held = {call["args"][0] for call in core}
+    return [(), *((item,) for item in held)] if kind == "set" else [(), *(((key, value),) for key in held for value in named)]
+
+
 def is_core(name, kind, start, calls, lines):
     """Whether the lines name calls of the object in the order of their call events, each as it stood after some event, which alone have
     no order; the key that they are on; and what no other call does."""
@@ -389,14 +403,17 @@ def is_core(name, kind, start, calls, lines):
     head, told = CORE_HEAD.fullmatch(lines[0]), [CORE_CALL.fullmatch(line) for line in lines[1:]]
     if head is None or None in told:
         return False
-    core, until, after, text = [], 0, [], []
+    core, until, after, text, first_line = [], 0, [], [], int(head[5] or 0)
     for line in told:
         call = by_line[int(line[1])]
         is_pending = line[2] is None
         text.append(f"  {call['process']} {name} {call_text(call)}{recorded(call, is_pending)}")
         core.append(call | ({"returned": PENDING} if is_pending else {}))
         until = max(until, call["called"], 0 if is_pending else call["returned"][0])
-        after += [call["returned"][0]] if is_pending and call["returned"] is not PENDING else []
+        is_open = call["lines"][0] < first_line
+        after += [call["returned"][0]] if is_pending and call["returned"] is not PENDING and not is_open else []
+        if is_open and not is_pending:
+            return False
     keys = {call["args"][0] for call in core} if kind in ("map", "set") else set()
     key = str(*keys) if len(keys) == 1 else None
     is_told_so = text == lines[1:] and (head[1], head[3]) == ((None, "has") if len(core) == 1 else (str(len(core)), "have")) and head[2] == key
@@ -407,13 +424,18 @@ def is_core(name, kind, start, calls, lines):
         ending = f", and before line {since} each was taken as often as it was put"
         is_even = all(sum(is_of(call, item) for call in earlier) == 0 for item in set().union(*map(values_of, core)))
         is_told_so &= is_even or any(gave_another(kind, call) for call in core)
+    if first_line:
+        since, ending = first_line, ""
+        is_told_so &= head[4] == ("it" if key else name)
     lines_told = f"from line {since} to line {last}" if since else f"up to line {last}"
     told_of_others = f"no other call {lines_told} {others(kind, core, calls, since, last)}{ending}"
     if any(gave_another(kind, call) for call in core):
         told_of_others = f"no other call up to line {last} helps"
     is_told_so = is_told_so and end == told_of_others
     is_in_order = [call["called"] for call in core] == sorted({call["called"] for call in core})
-    return is_told_so and is_in_order and all(until < returned for returned in after) and not has_order(kind, start, core)
+    return is_told_so and is_in_order and all(until < returned for returned in after) and not any(
+        has_order(kind, state, core) for state in (states_before(kind, start, core) if first_line else [start])
+    )
 
 
 def explained(text, core=()):

@@ -1,5 +1,6 @@
 #!/usr/bin/env python3
-"""Compares what the first search of a mutex, a queue whose items repeat, a register or a map of one key tells with all orders.
+"""Compares what the first search of a mutex, a queue whose items repeat, a register, a map of one key or a set of one item tells with
+all orders.
 
     bench/first.py [--kind KIND] [--program PROGRAM] [--count COUNT] [--seed SEED] [--lifts LIFTS] [--keep FOLDER]
 
@@ -54,12 +55,14 @@ def events_of(chance):
 
 
 def drawn_call(chance, kind, values):
-    """An operation of the kind with its arguments, of some values: of a map, all on one key."""
+    """An operation of the kind with its arguments, of some values: of a map, all on one key; of a set, all on one item."""
     value, other = chance.randrange(values), chance.randrange(values)
     if kind == "queue":
         return ("enq", [value]) if chance.random() < 0.5 else ("deq", [])
     if kind == "register":
         return chance.choice([("write", [value]), ("read", []), ("read", []), ("cas", [value, other])])
+    if kind == "set":
+        return chance.choice(["add", "remove", "contains"]), [1]
     return chance.choice([("put", [1, value]), ("get", [1]), ("get", [1]), ("delete", [1])])
 
 
@@ -111,7 +114,7 @@ def history(chance, kind):
 
 def main():
     parser = words(__doc__, 20_000)
-    parser.add_argument("--kind", choices=["mutex", "queue", "register", "map"], default="mutex")
+    parser.add_argument("--kind", choices=["mutex", "queue", "register", "map", "set"], default="mutex")
     parser.add_argument("--lifts", type=int, default=1_000_000)
     asked = parser.parse_args()
     tally = collections.Counter()

@@ -755,6 +755,58 @@ def unknown_objects(number):
         yield from lines(f"x{object_number}", "register", of_object)
 
 
+class FewQueue(Queue):
+    """A queue of few values."""
+
+    def choose(self, chance, number):
+        op, value = super().choose(chance, number)
+        return op, value if value is None else chance.randrange(FewValues.values)
+
+
+class FewStack(FewQueue, Stack):
+    kind, put, take, end = "stack", "push", "pop", -1
+
+
+def with_two_in_turn(events, chance):
+    """The events, with the results of two calls of one operation in each other's place, where there are two that differ."""
+    told = [place for place, event in enumerate(events) if event.reply not in (None, OKAY)]
+    pairs = [(one, other) for one in told for other in told if one < other and events[one].op == events[other].op and events[one].reply != events[other].reply]
+    if not pairs:
+        return events
+    one, other = chance.choice(pairs)
+    changed = list(events)
+    changed[one], changed[other] = events[one]._replace(reply=events[other].reply), events[other]._replace(reply=events[one].reply)
+    return changed
+
+
+def pending(model, is_wrong=False):
+    """Histories by their numbers, each of 40 to 60 calls, of which 14 to 40 never return; perhaps with two results in each other's place."""
+
+    def history(number):
+        chance = random.Random(number)
+        while True:
+            calls, share = chance.randrange(40, 61), chance.randrange(30, 61)
+            of_object = model()
+            events = timing_out(of_object, chance.randrange(3, 9), calls, share, chance.randrange(1 << 32))
+            returned = sum(event.reply is not None for event in events)
+            if 14 <= calls - returned <= 40:
+                return lines("x", of_object.kind, with_two_in_turn(events, chance) if is_wrong else events)
+
+    return history
+
+
+PENDING = {
+    "register": FewValues,
+    "counter": Adding,
+    "queue": Queue,
+    "queue_few": FewQueue,
+    "stack": Stack,
+    "stack_few": FewStack,
+    "set": lambda: Set(3),
+    "map": lambda: FewPairs(2),
+}
+
+
 def crashed(writes):
     yield declared("x")
     for process in range(writes):
@@ -1103,6 +1155,15 @@ FAMILIES = {
         )
         for processes in (5, 10, 20)
         for share in (5, 15, 30)
+    },
+    **{
+        f"unknown_{processes}_{share}": Family("the same, about 500 of the calls never return", "calls", [3000, 3700], 0, unknown(processes, share))
+        for processes in (10, 20)
+        for share in (16,)
+    },
+    **{
+        f"pending_{name}": Family("the history of this number, of 40 to 60 calls, 14 to 40 of which never return", "number", [1, 2, 3], 0, pending(model))
+        for name, model in PENDING.items()
     },
     **{
         f"unknown_{processes}_{share}_no": Family("the same, with stale reads", "calls", [160], 1, unknown(processes, share, STALE_READS[processes]))

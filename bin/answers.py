@@ -13,7 +13,7 @@ NAMED = re.compile(rf"  {CALL}{WHERE}")
 NEXT = re.compile(rf"next {CALL}{WHERE}: (?:here it would be (?P<here>\S+)|it cannot be done here)")
 WHY = re.compile(rf"  (?P<how>put|taken|held) by {PART}{WHERE}, (?P<is_in>in|not in) the run")
 NONE_PUT, MORE = re.compile(r"  no call put (?P<value>.+)"), re.compile(r"  \.\. and (?P<count>\d+) more")
-CORE = re.compile(r"(?:this call|these (?P<count>\d+) calls)(?: on key (?P<key>-?\d+))? alone ha(?:s|ve) no order:")
+CORE = re.compile(r"(?:this call|these (?P<count>\d+) calls)(?: on key (?P<key>-?\d+))? alone ha(?:s|ve) no order(?:, whatever \S+ held before line (?P<from>\d+))?:")
 OTHERS = re.compile(r"no other call (?:up|from line (?P<since>\d+)) to line (?P<until>\d+) (?P<words>.*?)(?P<is_even>, and before line \d+ each was taken as often as it was put)?")
 SUMS = re.compile(r"no order gives (?:this call|the second of these calls) so (?P<size>small|great) a reply:")
 SUM = re.compile(r"  (?P<sign>[-+=] )?(?P<sum>-?\d+) (?P<words>.+)")
@@ -51,6 +51,7 @@ class Core:
     since: Optional[int]
     until: int
     is_even: bool  # items that were put before were all taken
+    from_line: Optional[int] = None  # of the history: they have none whatever the object held before, where it is given
 
 
 @dataclass
@@ -201,7 +202,7 @@ def read_reasons(lines, part):
     if found := lines.take(CORE):
         calls = [lines.named(lines.need(NAMED)) for _ in range(int(found["count"] or 1))]
         others = lines.need(OTHERS)
-        part.core = Core(calls, found["key"], others["words"], number(others["since"]), int(others["until"]), bool(others["is_even"]))
+        part.core = Core(calls, found["key"], others["words"], number(others["since"]), int(others["until"]), bool(others["is_even"]), number(found["from"]))
     elif found := lines.take(SUMS):
         calls = [lines.named(it) for it in lines.take_all(NAMED)]
         sums = [((it["sign"] or "").strip(), int(it["sum"]), it["words"]) for it in (lines.need(SUM) for _ in range(4))]

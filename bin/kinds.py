@@ -14,6 +14,20 @@ def begin(of):
     return made.get(of["kind"], [int(of["start"] or 0)])
 
 
+def beginnings(of, calls):
+    """The states that stand for all that an object may have held, as far as these calls on one key or item of it tell: nothing, each value
+    that they name, and another one."""
+    replies = [int(call.reply) for call in calls if call.reply and call.reply.lstrip("-").isdigit()]
+    named = {value for call in calls for value in call.args} | set(replies)
+    named |= {max(named, default=0) + 1}
+    if of["kind"] == "register":
+        return [begin(of), *([value] for value in named)]
+    if of["kind"] == "mutex":
+        return [[None], *([process] for process in {call.process for call in calls})]
+    held = {call.args[0] for call in calls}
+    return [set(), held] if of["kind"] == "set" else [{}, *({key: value} for key in held for value in named)]
+
+
 def do(kind, it, call):
     """Does a call on a state. Answers its reply, or NO_STEP where it cannot be done there."""
     op, first = call.op, call.args[0] if call.args else None
@@ -57,10 +71,11 @@ def frozen(kind, state):
     return frozenset(state.items()) if kind == "map" else frozenset(state) if kind == "set" else tuple(state)
 
 
-def try_all(of, calls):
-    """The length of a longest run of these calls, and whether one has all that are completed. None where there is too much to try."""
+def try_all(of, calls, start=None):
+    """The length of a longest run of these calls from a state on, and whether one has all that are completed. None where there is too
+    much to try."""
     kind, completed = of["kind"], {at for at, call in enumerate(calls) if call.returned < NEVER}
-    seen, left, longest, has_order = set(), [(frozenset(), begin(of))], 0, False
+    seen, left, longest, has_order = set(), [(frozenset(), begin(of) if start is None else start)], 0, False
     while left and len(seen) * len(calls) <= MOST:
         done, state = left.pop()
         longest, has_order = max(longest, len(done)), has_order or completed <= done

@@ -116,7 +116,8 @@ function hasOrder(pairs, tried) {
       return reply !== null && (returnedInCore(call) === Infinity || reply === call.reply) && goesOn(next, done | (1 << bit));
     });
   };
-  return goesOn(startOf(core[0].object), 0);
+  const object = core[0].object, states = data.hasStart ? [startOf(object)] : statesBefore(object, core);
+  return states.some((state) => goesOn(state, 0));
 }
 
 /** The part of the real-time order of the core without which it would have an order: none of its pairs can be left out. Null where

@@ -108,6 +108,17 @@ function startOf(object) {
   return object.start === null ? new Kind() : new Kind(object.start);
 }
 
+/** The states that stand for all that an object may have held before these calls on one key or item of it: nothing, each value that
+ * they name, and another one. */
+function statesBefore(object, some) {
+  const texts = some.flatMap(({ args, reply }) => [...args, reply]), named = [...new Set(texts.filter((it) => /^-?\d+$/.test(it))), "another"];
+  const [key] = some[0].args;
+  if (object.kind === "register") return [startOf(object), ...named.map((value) => new Register(value))];
+  if (object.kind === "mutex") return [null, ...some.map(({ process }) => process)].map((holder) => new Mutex(holder));
+  if (object.kind === "set") return [new Members(), new Members([key])];
+  return [new Pairs(), ...named.map((value) => new Pairs([[key, value]]))];
+}
+
 /** How far the run was stepped through: its first calls, and the state of each object after them. */
 const stepped = { count: 0, states: new Map() };
 

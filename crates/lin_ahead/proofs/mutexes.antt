@@ -2,7 +2,6 @@ pub mod StepLemmas
 pub mod SectionLemmas
 pub mod ReleaseLemmas
 pub mod RowLemmas
-pub mod TurnLemmas
 pub mod StrayLemmas
 pub mod HeldLemmas
 pub mod HolderLemmas

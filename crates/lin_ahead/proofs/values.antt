@@ -8,7 +8,9 @@ pub mod RegisterLemmas
 pub mod OwnerLemmas
 pub mod PairLemmas
 pub mod VainLemmas
+pub mod ReadingLemmas
 pub mod KeyLemmas
+pub mod ItemLemmas
 pub mod WriterLemmas
 pub mod NumberLemmas
 pub mod DueLemmas

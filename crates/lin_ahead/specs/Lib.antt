@@ -1,6 +1,3 @@
-pub mod AnswerLemmas
-pub mod Exact
-pub mod FirstItemLemmas
 pub mod Queues
 pub mod Items
 pub mod First

@@ -1,4 +1,4 @@
--- Registers, and maps of one key.
+-- Registers, maps of one key, and sets of one item.
 pub mod Register
 pub mod Owners
 pub mod Due
@@ -9,5 +9,6 @@ pub mod Narrowing
 pub mod NeededPairs
 pub mod ToldOfRegister
 pub mod KeyValue
+pub mod ItemValue
 pub mod TakenTwice
 pub mod Clusters

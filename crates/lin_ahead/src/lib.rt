@@ -4,8 +4,8 @@
 //! - `look_ahead`: what is known ahead of a problem; `search_by_kind`: a first search by the rules of its kind; `in_vain`: what shows by
 //!   itself that there is no linearization.
 //! - `first`: the search itself, which knows no kind, and what rules of several kinds share.
-//! - `items`: what queues and stacks share; `queues`; `stacks`; `values`: registers, and maps whose calls are on one key; `counters`;
-//!   `mutexes`.
+//! - `items`: what queues and stacks share; `queues`; `stacks`; `values`: registers, maps whose calls are on one key, and sets
+//!   whose calls are on one item; `counters`; `mutexes`.
 //! - `sum_tree`: sums over the front of a list of numbers, and where they first fall below one; a hint.
 //!
 //! The words of this crate:
@@ -27,12 +27,13 @@
 //! What it promises the crates above, by the contracts of `known_ahead`, `search_first`, `are_in_vain`, `some_came_too_early`,
 //! `some_was_taken_twice`:
 //!
-//! - `known_ahead` says what the calls of a problem show before any search, by a few passes over them: for a queue, a stack or a
-//!   map of one key that starts empty, for a register, for a counter and for a mutex on which the calls of each process come one
-//!   after another, and for no other problem. `KnownAhead` is one enum, with a value of its own for each kind. All of it speaks of
-//!   *linearizations* (`IsRightAhead`), and for most of it nothing more could be told by real time (`IsToldAhead`); for a stack it
-//!   may leave out which call popped an item. Of values no clause says which calls have their owners told, and it may name as an
-//!   owner a call that cannot be one; but of what owners show nothing is left out, save values that were taken twice.
+//! - `known_ahead` says what the calls of a problem show before any search, by a few passes over them: for a queue, a stack, a map
+//!   of one key or a set of one item that starts empty, for a register, for a counter and for a mutex on which the calls of each
+//!   process come one after another, and for no other problem. `KnownAhead` is one enum, with a value of its own for each kind. All
+//!   of it speaks of *linearizations* (`IsRightAhead`), and for most of it nothing more could be told by real time (`IsToldAhead`);
+//!   for a stack it may leave out which call popped an item. Of values it tells owners of each completed call that found one, if no
+//!   more than 64 calls may write that value (`AreToldWhereFew`); it may name as an owner a call that cannot be one, but of what
+//!   owners show nothing is left out, save values that were taken twice.
 //! - `search_first` looks from the root for the least linearization only, and passes over a call if a rule below shows that it
 //!   begins no completion, or none that an earlier call does not begin too. Its answer is right (`Told`). It is `Nothing` only if
 //!   there are more runs than lifts may be made, or if the stop answered. No clause says which calls it passes over. The search
@@ -47,23 +48,24 @@
 //!
 //! Its rules, with the kinds that have them:
 //!
-//! - *needs* (queue, register, key of a map): b is in no linearization without a before it: since b's item comes out behind a's, or
-//!   since a call that a alone can own returned before one that b alone can own was called.
+//! - *needs* (queue, register, key of a map, item of a set): b is in no linearization without a before it: since b's item comes out
+//!   behind a's, or since a call that a alone can own returned before one that b alone can own was called.
 //! - *takers* (queue, stack): An item that no completed call returned with is taken by a pending `deq` or `pop`, and each takes one
 //!   at most. A call that leaves fewer of these than items that must be gone before another call begins no completion.
 //! - *owed replies* (queue, stack): An item that goes in once and that a completed call returned with is that call's: no pending
 //!   call gets it.
-//! - *due calls* (register, key of a map): No call that changes the state stands in front of a call that is due. So none changes it
-//!   while another one is due. Nor does a call begin a completion behind which one is due that finds another value, or behind which
-//!   two are due that change the value, or one that another call comes before which does not leave the value as it is.
-//! - *stranded calls* (register, key of a map): Once the state is changed, a call all but one of whose owners are lifted is owned by
-//!   that one. A call that changes the state begins no completion if one owner would be left with two such calls between
-//!   which another one stands that does not leave what they found, or if two owners would each be left with a call that goes before
-//!   one of the other's.
-//! - *fewer owners* (register, key of a map): So it is before any search, too: a call is no owner of another one if its cluster would
-//!   cross another cluster with that call, or would be parted by a call that breaks the value. Nor is the start, if a call of a
-//!   cluster returned before the call was called. Such owners are taken out before the search, which then has more calls that are
-//!   due.
+//! - *due calls* (register, key of a map, item of a set): No call that changes the state stands in front of a call that is due. So
+//!   none changes it while another one is due. Nor does a call begin a completion behind which one is due that finds another value,
+//!   or behind which two are due that change the value, or one that another call comes before which does not leave the value as it
+//!   is.
+//! - *stranded calls* (register, key of a map, item of a set): Once the state is changed, a call all but one of whose owners are
+//!   lifted is owned by that one. A call that changes the state begins no completion if one owner would be left with two such calls
+//!   between which another one stands that does not leave what they found, or if two owners would each be left with a call that
+//!   goes before one of the other's.
+//! - *fewer owners* (register, key of a map, item of a set): So it is before any search, too: a call is no owner of another one if
+//!   its cluster would cross another cluster with that call, or would be parted by a call that breaks the value. Nor is the start,
+//!   if a call of a cluster returned before the call was called. Such owners are taken out before the search, which then has more
+//!   calls that are due.
 //! - *too late* (queue, stack): A push begins no completion if what must lie above it is popped only after a call that has to find
 //!   what lies below; nor does an enqueue if what went in before its item was taken comes out only after a call that has to find
 //!   the queue empty.
@@ -81,16 +83,19 @@
 //!   give it back first, and called no unlock before that acquire returned. So acquires stand in the order of their returns, and no
 //!   pending call takes the mutex before one.
 //! - *repeated calls* (all): Calls that add nothing, as in `search_passing_over`.
-//! - *in vain* (queue, stack, register, mutex): A call found what nobody put there in time, two calls took what was put there
-//!   once, an item was popped too late for a call that found what lies under it, two writes would each have to stand before the
-//!   other, two calls changed the value that one write alone can have made, two acquires exclude each other: between their
-//!   returns the first one's process called no unlock, or an unlock returned whose process did not hold the mutex by its calls
-//!   before. There is no linearization then.
+//! - *in vain* (queue, stack, register, key of a map, item of a set, mutex): A call found what nobody put there in time, two calls
+//!   took what was put there once, an item was popped too late for a call that found what lies under it, two writes would each have
+//!   to stand before the other, two calls changed the value that one write alone can have made, two acquires exclude each other:
+//!   between their returns the first one's process called no unlock, or an unlock returned whose process did not hold the mutex by
+//!   its calls before. There is no linearization then.
 //!
 //! For the rules on registers, the owners of a call are those that may write the value which it found, were called before it returned,
 //! and between which and it no call stands in real time that breaks the value: it wrote another one, or found another one. Of a call
 //! with more than 64 of them nothing is told. A map of one key is read as a register if no call gives the key the least number of 64
-//! bits, which stands for 'no value'; a delete writes that.
+//! bits, which stands for 'no value'; a delete writes that. A set of one item is read as a register of two values, that say whether the
+//! item is in: an insert or a remove that changed the set is a cas, one that did not is a read, and a pending one is a write. Both
+//! are one proof: each step of the map or the set is a step of the register, and what the register shows belongs to one state
+//! alone.
 //!
 //! Which call, item or event to ask about is always a hint; the configuration is asked before anything follows from it.
 //!
@@ -145,7 +150,7 @@ mod stacks;
 mod sum_tree;
 mod values;
 
-pub use counters::rows::{SumLimit, SumRows, share_of};
+pub use counters::rows::{SumLimit, SumRows};
 pub use in_vain::are_in_vain;
 pub use items::impossible_items::some_came_too_early;
 pub use items::late_pushes::LateRows;
@@ -155,7 +160,6 @@ pub use look_ahead::{KnownAhead, known_ahead};
 pub use mutexes::holders::held_until;
 pub use mutexes::rows::MutexAhead;
 pub use mutexes::sections::Section;
-pub use mutexes::turns::{are_in_turn, precedes};
 pub use queues::rows::QueueAhead;
 pub use search_by_kind::search_first;
 pub use stacks::rows::StackAhead;

@@ -1,4 +1,4 @@
-//! Registers, and maps whose calls are on one key.
+//! Registers, maps whose calls are on one key, and sets whose calls are on one item.
 //!
 //! - `shown_values`: the value that a call may write, and that it found; `call_values`: all that it shows of values, for a search; `rows`:
 //!   what is known ahead; `needed_pairs`: two calls that need each other; `taken_values`: two calls that took away one and the same
@@ -6,7 +6,8 @@
 //! - `owners`: the calls of which one wrote what a call found; `writers`: those that may write each value; `breaking_calls`: those by
 //!   which a value is not there all the time; `clusters`: the calls that one call owns, by their events;
 //!   `narrowing`: fewer owners, by such calls.
-//! - `key_value`: the calls of a map on one key, as calls of a register that holds the key's value.
+//! - `key_value`: the calls of a map on one key, as calls of a register that holds the key's value; `item_value`: those of a set on one
+//!   item, as calls of a register that tells whether the item is in.
 //! - `rules`: the rules of a first search; `due_rules`: what follows from calls that are due; `due`: which are; `calls_left`: the completed
 //!   calls that are left, by their returns; `stranded`: what follows from calls that are left to one owner;
 //!   `crossings`: which are, and what stands between them; `last_breaks`: the calls that do not leave a value, by their returns.
@@ -18,6 +19,7 @@ pub(crate) mod clusters;
 pub(crate) mod crossings;
 pub(crate) mod due;
 pub(crate) mod due_rules;
+pub(crate) mod item_value;
 pub(crate) mod key_value;
 pub(crate) mod last_breaks;
 pub(crate) mod narrowing;

@@ -29,8 +29,7 @@ use Rattle.lin_history.specs.Problems.ProblemParts.{ProblemParts, AreTimed}
 use Rattle.lin_history.specs.Problems.LegalLists.{after_call, fits, state_if_fits}
 use Rattle.lin_history.specs.Problems.Precedence.{Before}
 use Rattle.lin_history.specs.Problems.AnyProblem.{any_problem}
-use Rattle.lin_ahead.specs.Items.Takers.{counted}
-use Rattle.lin_ahead.specs.Queues.Slots.{how_many}
+use Rattle.lin_laws.specs.Counting.{counted, how_many}
 use Rattle.lin_parts.specs.Parts.{name}
 use Rattle.lin_parts.specs.PartLemmas.{three}
 use Rattle.lin_core.specs.Cuts.{call_by, AreCut}

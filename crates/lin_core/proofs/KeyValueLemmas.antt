@@ -34,13 +34,13 @@ module _ (law : MapLaw after state_eq.it) (key : ℤ) (nothing : Bool) (values :
   Knows s u = ⊥
 
   -- what the key has after a put or a delete
-  put_gives : (k v : ℤ) (ps : List Pair) → value_at key (with_value k v ps) ≡ (if int_eq k key then Some v else value_at key ps)
+  pub put_gives : (k v : ℤ) (ps : List Pair) → value_at key (with_value k v ps) ≡ (if int_eq k key then Some v else value_at key ps)
   put_gives k v ps = at (law.values ps (record { process = 0; op = Put k v; reply = Okay } ∷ []) (Map (with_value k v ps)) (Map (with_value k v ps), refl, refl))
     where
       at : (rest : List Pair) × (Map (with_value k v ps) ≡ Map rest) × ((other : ℤ) → value_at other rest ≡ value_after_step other (value_at other ps) (Put k v)) → value_at key (with_value k v ps) ≡ (if int_eq k key then Some v else value_at key ps)
       at m = (let same : with_value k v ps ≡ m.0 = (let e = m.1 in cc) in ap (value_at key) same ∙ m.2 key)
 
-  delete_gives : (k : ℤ) (ps : List Pair) → value_at key (without_key k ps) ≡ (if int_eq k key then None else value_at key ps)
+  pub delete_gives : (k : ℤ) (ps : List Pair) → value_at key (without_key k ps) ≡ (if int_eq k key then None else value_at key ps)
   delete_gives k ps = at (law.values ps (record { process = 0; op = Delete k; reply = Flag (is_some (value_at k ps)) } ∷ []) (Map (without_key k ps)) (Map (without_key k ps), refl, refl))
     where
       at : (rest : List Pair) × (Map (without_key k ps) ≡ Map rest) × ((other : ℤ) → value_at other rest ≡ value_after_step other (value_at other ps) (Delete k)) → value_at key (without_key k ps) ≡ (if int_eq k key then None else value_at key ps)
@@ -95,7 +95,7 @@ module _ (law : MapLaw after state_eq.it) (key : ℤ) (nothing : Bool) (values :
       ]
   key_stays ps qs op process returned t on e n = absurd (cc)
 
-  any_key_stays : (x : ProblemCall Op Reply) (s t u : ObjState) → IsOnKey key nothing values x → Knows s u → state_if_fits reply_eq.it x.returned (after s x.process x.op) ≡ Some t → Stays x.op x.process x.returned t u
+  pub any_key_stays : (x : ProblemCall Op Reply) (s t u : ObjState) → IsOnKey key nothing values x → Knows s u → state_if_fits reply_eq.it x.returned (after s x.process x.op) ≡ Some t → Stays x.op x.process x.returned t u
   any_key_stays x (Map ps) t (Map qs) on e n = key_stays ps qs x.op x.process x.returned t on e n
   any_key_stays x s t u on e n = absurd e
 
@@ -110,7 +110,7 @@ module _ (law : MapLaw after state_eq.it) (key : ℤ) (nothing : Bool) (values :
       subst (λ (s : ObjState). Knows s (Map qs)) to (still k (int_eq k key) None ps qs (value_at key (without_key k ps)) refl (delete_gives k ps) (not_both (int_eq k key) nothing off) e)
   key_goes ps qs op process returned t off e n = absurd (cc)
 
-  any_key_goes : (x : ProblemCall Op Reply) (s t u : ObjState) → IsOffKey key nothing values x → Knows s u → state_if_fits reply_eq.it x.returned (after s x.process x.op) ≡ Some t → Knows t u
+  pub any_key_goes : (x : ProblemCall Op Reply) (s t u : ObjState) → IsOffKey key nothing values x → Knows s u → state_if_fits reply_eq.it x.returned (after s x.process x.op) ≡ Some t → Knows t u
   any_key_goes x (Map ps) t (Map qs) off e n = elim off [
     | inl other ↦ key_goes ps qs x.op x.process x.returned t other e n
     | inr idle ↦ (

@@ -19,7 +19,7 @@ use Rattle.lin_history.specs.Problems.ListLemmas.{in_early, in_late, in_either, 
 use Rattle.lin_history.specs.Problems.LegalLists.{fits, state_if_fits, after_call, next, Legal}
 use Rattle.lin_history.specs.Problems.Precedence.{Before, IsCompleted}
 use Rattle.lin_history.specs.Problems.Linearizations.{IsLinearization}
-use Rattle.lin_ahead.specs.Counters.Sums.{share_in, share_of, share_of_call, total, sum_of_shares}
+use Rattle.lin_laws.specs.Shares.{share_in, share_of, share_of_call, total, sum_of_shares}
 use Rattle.lin_core.specs.declared.sum_faults.Times.{Times}
 use Rattle.lin_core.specs.declared.sum_faults.Between.{Between}
 use Rattle.lin_core.specs.declared.sum_faults.SumFault.{SumFault}

@@ -12,7 +12,7 @@ use Rattle.lin_history.specs.Problems.ProblemParts.{ProblemParts}
 use Rattle.lin_history.specs.Problems.Precedence.{Before}
 use Rattle.lin_history.specs.Problems.AnyProblem.{any_problem}
 use Rattle.lin_parts.specs.PartLemmas.{three}
-use Rattle.lin_ahead.specs.Mutexes.Acquires.{AreInTurn}
+use Rattle.lin_laws.specs.InTurn.{AreInTurn}
 use Rattle.lin_core.proofs.CheckLemmas.{below}
 
 module _ {Object : Type 0} (parts : ProblemParts Object ObjState Op Reply) where

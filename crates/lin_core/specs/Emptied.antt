@@ -12,7 +12,7 @@ use Rattle.lin_history.specs.declared.problems.problem.ProblemCall.{ProblemCall}
 use Rattle.lin_history.specs.Problems.Lists.{In, IsDistinct}
 use Rattle.lin_history.specs.Problems.Problem.{Problem}
 use Rattle.lin_history.specs.Problems.Precedence.{Before}
-use Rattle.lin_ahead.specs.Queues.Slots.{how_many}
+use Rattle.lin_laws.specs.Counting.{how_many}
 use Rattle.lin_core.specs.Cuts.{AreCut}
 use Rattle.lin_core.specs.Laws.{IsOn, IsOff}
 

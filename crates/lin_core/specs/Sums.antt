@@ -8,7 +8,7 @@ use Rattle.lin_object.specs.declared.state.ObjState.{ObjState}
 use Rattle.lin_object.specs.declared.state.ObjState.TheVariants.{Counter}
 use Rattle.lin_history.specs.declared.problems.problem.ProblemCall.{ProblemCall}
 use Rattle.lin_history.specs.Problems.Problem.{Problem}
-use Rattle.lin_ahead.specs.Counters.Sums.{share_of}
+use Rattle.lin_laws.specs.Shares.{share_of}
 use Rattle.lin_core.specs.declared.sum_faults.Times.{Times}
 use Rattle.lin_core.specs.declared.sum_faults.Between.{Between}
 use Rattle.lin_core.specs.declared.sum_faults.SumFault.{SumFault}

@@ -6,9 +6,10 @@ ghost use Rattle.lin_core.specs.Cores.{IsCoreOf, HasNone};
 
 use crate::call_index::{CallIndex, selection_of, with_sources};
 use crate::fronts::from_front;
+use crate::gap_windows::{first_return, selections_of, windows_around_gaps};
 use crate::item_faults::{item_faults, list_of};
 use crate::item_times::return_of;
-use crate::judge::{Judge, lifts_for};
+use crate::judge::Judge;
 use crate::key_faults::forgotten;
 use crate::lock_faults::{around_try, tries_in_vain, two_holders};
 use crate::next_calls::NextCalls;
@@ -17,9 +18,12 @@ use crate::replies::odd_reply;
 use crate::selection::{MapKey, Selection};
 use crate::smaller::{make_smaller, needs_all, rounds_but_for, without_rounds};
 use crate::value_faults::value_faults;
+use crate::windows::{Window, suffix_core_of_calls};
+use lin_effort::efforts::core_lifts;
+use lin_effort::Decide;
 use lin_history::Problem;
 use lin_object::{AnyObject, ObjState};
-use lin_search::{Stop, Told};
+use lin_search::Told;
 use std::alloc::{AllocError, Global};
 
 // An event after every other.
@@ -28,6 +32,9 @@ const THE_END: u32 = u32::MAX;
 // How many calls a reader takes in at once: so few are told with what came before them, as the write of a value that is found
 // later.
 const FEW_CALLS: usize = 8;
+
+// A core of so few calls is answered at once.
+const FEWEST_CALLS: usize = 3;
 
 // How many keys without an order are compared, of which the one with the fewest calls is taken.
 const MOST_KEYS: usize = 8;
@@ -59,14 +66,14 @@ fn faults_of_key(
 
 // What a core is looked for with.
 #[derive(Drop)]
-struct Finder<'a, 's, S> {
+struct Finder<'a, 's, D> {
     problem: &'a Problem<AnyObject>,
     next: NextCalls<'a>,
     index: CallIndex,
-    judge: Judge<'a, 's, S>,
+    judge: Judge<'a, 's, D>,
 }
 
-impl<'a, 's, S: Stop> Finder<'a, 's, S> {
+impl<'a, 's, D: Decide> Finder<'a, 's, D> {
     // The selection of all calls on these values, and on what the calls of `cas` on them expect.
     fn all_on(&self, alloc: Global, values: &[i64]) -> Result<Selection, AllocError> {
         let values = with_sources(alloc, self.problem, &self.index, values)?;
@@ -338,23 +345,16 @@ impl<'a, 's, S: Stop> Finder<'a, 's, S> {
     }
 }
 
-// A call that returned with a reply that its operation never gives; or else some calls that a search finds to have no linearization,
-// made as few as can be: the fewest first.
-fn selections_found<S: Stop>(
+// Some calls that a search finds to have no linearization, made as few as can be: the fewest first.
+fn selections_found<D: Decide>(
     alloc: Global,
     problem: &Problem<AnyObject>,
+    index: CallIndex,
     work: u64,
-    stop: &mut S,
+    decider: &mut D,
 ) -> Result<Vec<Selection>, AllocError> {
-    if let Some(odd) = odd_reply(alloc, problem)? {
-        let mut found = Vec::new(alloc);
-        found.push(odd)?;
-        return Ok(found);
-    }
-    let calls: Vec<usize> = (0..problem.len()).collect(alloc)?;
-    let index = CallIndex::new(alloc, problem, calls.as_slice(), None)?;
     let next = NextCalls::new(alloc, problem)?;
-    let judge = Judge::new(problem, work, stop);
+    let judge = Judge::new(problem, work, decider);
     let mut finder = Finder {
         problem,
         next,
@@ -364,27 +364,123 @@ fn selections_found<S: Stop>(
     finder.smallest(alloc)
 }
 
-/// A core of the problem; `None` where none is found: where the problem has a linearization, and else where all that is tried with so
-/// much work finds none, or where the stop answers. For each part that is tried one is taken for each of its calls, and one for each lift that a search
-/// makes in vain. `AllocError` where memory was refused.
-///
-/// It looks first for faults as practice has them, which takes O(n log n) for n calls, and then for any. The stop is asked before each
-/// part, and in its search.
-pub fn core_of<S: Stop>(
+// The first of the selections that is a core.
+fn core_of_selections<D: Decide>(
     alloc: Global,
     problem: &Problem<AnyObject>,
-    work: u64,
-    stop: &mut S,
+    selections: Vec<Selection>,
+    decider: &mut D,
 ) -> Result<Option<Core>, AllocError>
     ensures core { IfOk result (λ answer. IfSome answer (λ core.
-        IsCoreOf (any_problem problem.now) core.event core.key core.values.items core.calls.items core.firsts.items)) }
+        IsCoreOf (any_problem problem.now) core.from core.event core.key core.values.items core.calls.items core.firsts.items)) }
     ensures none { IfOk result (λ answer. IfSome answer (λ core. HasNone (any_problem problem.now))) }
 {
-    for selection in selections_found(alloc, problem, work, stop)? {
-        let lifts = lifts_for(selection.calls.len());
-        if let Some(core) = core_of_calls(alloc, problem, selection, lifts, stop)? {
+    for selection in selections {
+        let lifts = core_lifts(selection.calls.len());
+        if let Some(core) = core_of_calls(alloc, problem, selection, lifts, decider)? {
             return Ok(Some(core));
         }
     }
     Ok(None)
+}
+
+// The first of the windows that is a core. Where no call had returned before one, what is known at the start counts, and it is none.
+fn core_of_windows<D: Decide>(
+    alloc: Global,
+    problem: &Problem<AnyObject>,
+    windows: Vec<Window>,
+    decider: &mut D,
+) -> Result<Option<Core>, AllocError>
+    ensures core { IfOk result (λ answer. IfSome answer (λ core.
+        IsCoreOf (any_problem problem.now) core.from core.event core.key core.values.items core.calls.items core.firsts.items)) }
+    ensures none { IfOk result (λ answer. IfSome answer (λ core. HasNone (any_problem problem.now))) }
+{
+    let first = first_return(problem);
+    for window in windows {
+        if window.from <= first {
+            continue;
+        }
+        let lifts = core_lifts(window.calls.len());
+        if let Some(core) = suffix_core_of_calls(alloc, problem, window, lifts, decider)? {
+            return Ok(Some(core));
+        }
+    }
+    Ok(None)
+}
+
+// Whether so few calls are known to be a core that no other is looked for.
+fn has_few(core: &Option<Core>) -> bool {
+    match core {
+        Some(core) => core.calls.len() <= FEWEST_CALLS,
+        None => false,
+    }
+}
+
+// Whether the core has no more calls than another, where there is one.
+fn has_no_more_calls(core: &Core, other: &Option<Core>) -> bool {
+    match other {
+        Some(other) => core.calls.len() <= other.calls.len(),
+        None => true,
+    }
+}
+
+// A core of few calls around a gap: from the start where that has no more calls, as where the first of them begins anew.
+fn core_in_gap<D: Decide>(
+    alloc: Global,
+    problem: &Problem<AnyObject>,
+    index: &CallIndex,
+    decider: &mut D,
+) -> Result<Option<Core>, AllocError>
+    ensures core { IfOk result (λ answer. IfSome answer (λ core.
+        IsCoreOf (any_problem problem.now) core.from core.event core.key core.values.items core.calls.items core.firsts.items)) }
+    ensures none { IfOk result (λ answer. IfSome answer (λ core. HasNone (any_problem problem.now))) }
+{
+    let windows = windows_around_gaps(alloc, problem, index)?;
+    let selections = selections_of(alloc, windows.as_slice())?;
+    let early = core_of_selections(alloc, problem, selections, decider)?;
+    let late = core_of_windows(alloc, problem, windows, decider)?;
+    let Some(early) = early else {
+        return Ok(late);
+    };
+    if has_no_more_calls(&early, &late) {
+        return Ok(Some(early));
+    }
+    Ok(late)
+}
+
+/// A core of the problem; `None` where none is found: where the problem has a linearization, and else where all that is tried with so
+/// much work finds none, or where what decides does not go on. For each part that is tried one is taken for each of its calls, and one for each lift that a search
+/// makes in vain. `AllocError` where memory was refused.
+///
+/// It looks first for a call with a reply that its operation never gives, and for two or three calls that have no linearization
+/// whatever the object held before them; then for faults as practice has them. That takes O(n log n) for n calls. Then it looks for any. What
+/// decides is asked before each part whether it goes on.
+pub fn core_of<D: Decide>(
+    alloc: Global,
+    problem: &Problem<AnyObject>,
+    work: u64,
+    decider: &mut D,
+) -> Result<Option<Core>, AllocError>
+    ensures core { IfOk result (λ answer. IfSome answer (λ core.
+        IsCoreOf (any_problem problem.now) core.from core.event core.key core.values.items core.calls.items core.firsts.items)) }
+    ensures none { IfOk result (λ answer. IfSome answer (λ core. HasNone (any_problem problem.now))) }
+{
+    if let Some(odd) = odd_reply(alloc, problem)? {
+        let lifts = core_lifts(odd.calls.len());
+        return core_of_calls(alloc, problem, odd, lifts, decider);
+    }
+    let calls: Vec<usize> = (0..problem.len()).collect(alloc)?;
+    let index = CallIndex::new(alloc, problem, calls.as_slice(), None)?;
+    let near = core_in_gap(alloc, problem, &index, decider)?;
+    if has_few(&near) {
+        return Ok(near);
+    }
+    let selections = selections_found(alloc, problem, index, work, decider)?;
+    let Some(core) = core_of_selections(alloc, problem, selections, decider)? else {
+        return Ok(near);
+    };
+    if has_no_more_calls(&core, &near) {
+        return Ok(Some(core));
+    }
+    Ok(near)
 }

@@ -6,9 +6,9 @@ use crate::item_times::return_of;
 use crate::judge::Judge;
 use crate::selection::Selection;
 use indexmap::IndexMap;
+use lin_effort::Decide;
 use lin_history::{Problem, ProblemCall};
 use lin_object::{AnyObject, ObjState, Op, Reply};
-use lin_search::Stop;
 use std::alloc::{AllocError, Global};
 
 // How many such places are tried, or calls looked at for one that begins anew: the last ones.
@@ -133,10 +133,10 @@ fn fronts(
 }
 
 /// The selection from its last such place on that leaves calls which have no linearization, if there is one.
-pub(crate) fn from_front<S: Stop>(
+pub(crate) fn from_front<D: Decide>(
     alloc: Global,
     problem: &Problem<AnyObject>,
-    judge: &mut Judge<'_, '_, S>,
+    judge: &mut Judge<'_, '_, D>,
     selection: &Selection,
 ) -> Result<Option<Selection>, AllocError> {
     let places = fronts(alloc, problem, selection)?;

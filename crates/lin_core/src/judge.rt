@@ -4,57 +4,39 @@
 use crate::part_anew::made_anew;
 use crate::part_search::{is_refuted, told_within};
 use crate::selection::Selection;
+use lin_effort::efforts::core_lifts;
+use lin_effort::{Decide, Work};
 use lin_history::Problem;
 use lin_object::AnyObject;
-use lin_search::{Stop, Told};
+use lin_search::Told;
 use std::alloc::{AllocError, Global};
 
-// How many lifts for each call a search of a selection may make, and how many more.
-const LIFTS_FOR_A_CALL: u64 = 16;
-
-const LIFTS_MORE: u64 = 256;
-
-// How many lifts a search of a few calls may make: as many as all sets of these calls have, each with a few states.
-const FEW_CALLS: usize = 12;
-
-const LIFTS_FOR_FEW: u64 = 65_536;
-
-/// How many lifts the search of so many calls may make.
-pub(crate) fn lifts_for(calls: usize) -> u64 {
-    if calls <= FEW_CALLS {
-        return LIFTS_FOR_FEW;
-    }
-    (calls as u64)
-        .saturating_mul(LIFTS_FOR_A_CALL)
-        .saturating_add(LIFTS_MORE)
-}
-
-/// Searches selections of a problem, as long as there is work left and the stop does not answer: each search takes one for each of
+/// Searches selections of a problem, as long as there is work left and what decides goes on: each search takes one for each of
 /// its calls, and one for each lift that it may make where that says nothing.
 #[derive(Drop)]
-pub(crate) struct Judge<'a, 's, S> {
+pub(crate) struct Judge<'a, 's, D> {
     problem: &'a Problem<AnyObject>,
     work: u64,
-    stop: &'s mut S,
+    decider: &'s mut D,
     is_stopped: bool,
 }
 
-impl<'a, 's, S: Stop> Judge<'a, 's, S> {
+impl<'a, 's, D: Decide> Judge<'a, 's, D> {
     /// A judge with so much work.
-    pub(crate) fn new(problem: &'a Problem<AnyObject>, work: u64, stop: &'s mut S) -> Self {
+    pub(crate) fn new(problem: &'a Problem<AnyObject>, work: u64, decider: &'s mut D) -> Self {
         Judge {
             problem,
             work,
-            stop,
+            decider,
             is_stopped: false,
         }
     }
 
-    /// Whether there is work left, and the stop does not answer. Once it has, nothing is searched any more. Whoever tries one thing
+    /// Whether there is work left, and what decides goes on. Once it does not, nothing is searched any more. Whoever tries one thing
     /// after another asks it before each: what a judge says that does not go on is no reason to try the next.
     pub(crate) fn goes_on(&mut self) -> bool {
         if self.work > 0 && !self.is_stopped {
-            self.is_stopped = self.stop.ask().is_some();
+            self.is_stopped = !self.decider.goes_on(Work::NONE);
         }
         self.work > 0 && !self.is_stopped
     }
@@ -69,7 +51,7 @@ impl<'a, 's, S: Stop> Judge<'a, 's, S> {
         if !self.goes_on() {
             return Ok(Told::Nothing);
         }
-        let lifts = lifts_for(calls.len());
+        let lifts = core_lifts(calls.len());
         self.work = self
             .work
             .saturating_sub(calls.len() as u64)
@@ -77,7 +59,7 @@ impl<'a, 's, S: Stop> Judge<'a, 's, S> {
         let Some(part) = made_anew(alloc, self.problem, calls, event)? else {
             return Ok(Told::Nothing);
         };
-        let told = told_within(alloc, &part, lifts, self.stop)?;
+        let told = told_within(alloc, &part, lifts, self.decider)?;
         if let Told::Nothing = told {
             self.work = self.work.saturating_sub(lifts);
         }

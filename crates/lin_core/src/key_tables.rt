@@ -20,8 +20,8 @@ fn tells(nothing: bool, values: &[i64], reply: &Reply) -> bool
     }
 }
 
-// Whether a get may do so.
-fn may_tell(nothing: bool, values: &[i64], returned: &Option<(u32, Reply)>) -> bool
+/// Whether a get may do so.
+pub(crate) fn may_tell(nothing: bool, values: &[i64], returned: &Option<(u32, Reply)>) -> bool
     ensures { result ≡ may_tell nothing values.now returned.now }
 {
     match returned {

@@ -9,8 +9,8 @@ use crate::refused_tries::is_refused;
 use crate::rounds::takes;
 use crate::selection::Selection;
 use crate::spans::{Span, Spans};
-use lin_ahead::precedes;
 use lin_history::Problem;
+use lin_laws::precedes;
 use lin_object::{AnyObject, Op};
 use std::alloc::{AllocError, Global};
 

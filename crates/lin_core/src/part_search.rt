@@ -1,13 +1,14 @@
-//! Searches of a part, for whether it has a linearization.
+//! Whether a part has a linearization.
 
 ghost use Rattle.std.specs.Prelude.{◌≡◌, IfOk, IsTrue};
 ghost use Rattle.lin_search.specs.Told.{IsRightOf};
 ghost use Rattle.lin_history.specs.Problems.AnyProblem.{any_problem};
 
-use lin_ahead::{known_ahead, search_first};
+use lin_effort::efforts::selection;
+use lin_effort::Decide;
 use lin_history::Problem;
 use lin_object::AnyObject;
-use lin_search::{AtTimes, Stop, Told, search_for_order};
+use lin_search::Told;
 use std::alloc::{AllocError, Global};
 
 /// Whether it is told that there is no linearization.
@@ -21,18 +22,14 @@ pub(crate) fn is_refuted(told: &Told) -> bool
     }
 }
 
-/// What a search of so many lifts tells of the part, as long as the stop does not answer: a first search where something is known
-/// ahead. `AllocError` where memory was refused.
-pub(crate) fn told_within<S: Stop>(
+/// What is decided of the part with so many lifts. `AllocError` where memory was refused.
+pub(crate) fn told_within<D: Decide>(
     alloc: Global,
     part: &Problem<AnyObject>,
     lifts: u64,
-    stop: &mut S,
+    decider: &mut D,
 ) -> Result<Told, AllocError>
     ensures { IfOk result (IsRightOf (any_problem part.now)) }
 {
-    match known_ahead(alloc, part)? {
-        Some(ahead) => search_first(alloc, part, &ahead, lifts, &mut AtTimes::new(stop)),
-        None => search_for_order(alloc, part, lifts, &mut AtTimes::new(stop)),
-    }
+    decider.decide(alloc, part, &selection(lifts))
 }

@@ -12,8 +12,8 @@ ghost use Rattle.lin_core.specs.Rounds.{may_take, AreAllTakers, IsTryApart};
 
 use crate::selection::Selection;
 use crate::value_tables::has_process;
-use lin_ahead::precedes;
 use lin_history::{Problem, ProblemCall};
+use lin_laws::precedes;
 use lin_object::{AnyObject, ObjState, Op, Reply};
 use lin_search::Stop;
 

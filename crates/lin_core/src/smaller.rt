@@ -7,9 +7,9 @@ use crate::judge::Judge;
 use crate::next_calls::NextCalls;
 use crate::refused_tries::is_refused;
 use crate::selection::{MapKey, Selection};
+use lin_effort::Decide;
 use lin_history::{Problem, ProblemCall};
 use lin_object::{AnyObject, Op, Reply};
-use lin_search::Stop;
 use std::alloc::{AllocError, Global};
 
 // How often all ways are tried, and how often a number below 2^32 can be halved.
@@ -204,9 +204,9 @@ fn count_of(
 }
 
 // Takes the smaller selection where a search shows that it has no linearization. Whether it did.
-fn takes_smaller<S: Stop>(
+fn takes_smaller<D: Decide>(
     alloc: Global,
-    judge: &mut Judge<'_, '_, S>,
+    judge: &mut Judge<'_, '_, D>,
     selection: &mut Selection,
     less: Option<Selection>,
 ) -> Result<bool, AllocError> {
@@ -221,10 +221,10 @@ fn takes_smaller<S: Stop>(
 }
 
 // Leaves out so many at once, wherever that can be.
-fn leave_out_by<S: Stop>(
+fn leave_out_by<D: Decide>(
     alloc: Global,
     next: &NextCalls<'_>,
-    judge: &mut Judge<'_, '_, S>,
+    judge: &mut Judge<'_, '_, D>,
     selection: &mut Selection,
     way: Way,
     size: usize,
@@ -243,10 +243,10 @@ fn leave_out_by<S: Stop>(
 }
 
 // Leaves out this way what can be: halves first, and one by one at last.
-fn leave_out<S: Stop>(
+fn leave_out<D: Decide>(
     alloc: Global,
     next: &NextCalls<'_>,
-    judge: &mut Judge<'_, '_, S>,
+    judge: &mut Judge<'_, '_, D>,
     selection: &mut Selection,
     way: Way,
 ) -> Result<(), AllocError> {
@@ -305,10 +305,10 @@ fn calls_by(
 
 // The least return after which the selection has no linearization, where it has none now. A cut at an event has one wherever a cut at a
 // later one has.
-fn first_refuted_return<S: Stop>(
+fn first_refuted_return<D: Decide>(
     alloc: Global,
     problem: &Problem<AnyObject>,
-    judge: &mut Judge<'_, '_, S>,
+    judge: &mut Judge<'_, '_, D>,
     selection: &Selection,
 ) -> Result<Option<u32>, AllocError> {
     let returns = returns_by(alloc, problem, selection)?;
@@ -333,10 +333,10 @@ fn first_refuted_return<S: Stop>(
 }
 
 // Cuts the selection at the least return after which it has no linearization.
-fn cut_early<S: Stop>(
+fn cut_early<D: Decide>(
     alloc: Global,
     problem: &Problem<AnyObject>,
-    judge: &mut Judge<'_, '_, S>,
+    judge: &mut Judge<'_, '_, D>,
     selection: &mut Selection,
 ) -> Result<(), AllocError> {
     if let Some(event) = first_refuted_return(alloc, problem, judge, selection)? {
@@ -374,10 +374,10 @@ pub(crate) fn needs_all(problem: &Problem<AnyObject>, selection: &Selection) -> 
 }
 
 /// Makes a selection that has no linearization smaller, as long as the judge goes on.
-pub(crate) fn make_smaller<S: Stop>(
+pub(crate) fn make_smaller<D: Decide>(
     alloc: Global,
     next: &NextCalls<'_>,
-    judge: &mut Judge<'_, '_, S>,
+    judge: &mut Judge<'_, '_, D>,
     selection: &mut Selection,
 ) -> Result<(), AllocError> {
     for _ in 0..TURNS {

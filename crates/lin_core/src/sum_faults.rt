@@ -4,12 +4,12 @@
 ghost use Rattle.std.specs.Prelude.{◌≡◌, ◌+◌, ◌*◌, ◌<◌, ◌≤◌, ◌^◌, Some, None, length, IfSome, IsTrue, if◌then◌else◌};
 ghost use Rattle.lin_object.specs.declared.state.ObjState.TheVariants.{Counter};
 ghost use Rattle.lin_history.specs.Problems.AnyProblem.{any_problem};
-ghost use Rattle.lin_ahead.specs.Counters.Sums.{share_of};
+ghost use Rattle.lin_laws.specs.Shares.{share_of};
 ghost use Rattle.lin_core.specs.Cores.{HasNone};
 ghost use Rattle.lin_core.specs.Sums.{is_back_before, is_after, is_over, must_come, may_come, sum_of, IsGet, IsCountedFrom, bound_of, IsBeyond, IsSumFault, SumLaw};
 
-use lin_ahead::share_of;
 use lin_history::{Problem, ProblemCall};
+use lin_laws::share_of;
 use lin_object::{AnyObject, ObjState, Op, Reply};
 
 /// The numbers of the events at which a call was called and returned.

@@ -48,7 +48,17 @@ on_key_text (Some key) = codes " on key " ++ signed_decimal key
 
 abbrev pub core_head : ℕ → Option ℤ → List ℕ
 core_head count key =
-    if count == 1 then codes "this call" ++ on_key_text key ++ codes " alone has no order:\n" else codes "these " ++ decimal count ++ codes " calls" ++ on_key_text key ++ codes " alone have no order:\n"
+    if count == 1 then codes "this call" ++ on_key_text key ++ codes " alone has no order" else codes "these " ++ decimal count ++ codes " calls" ++ on_key_text key ++ codes " alone have no order"
+
+-- The object, or the key that was named.
+abbrev pub holder_text : List ℕ → Option ℤ → List ℕ
+holder_text name None = name
+holder_text name (Some key) = codes "it"
+
+-- The end of that line: from right before which event they have none, whatever was held then, where that is not the start.
+abbrev pub whatever_text : List ℕ → List ℕ → Option ℤ → Option ℕ → List ℕ
+whatever_text name lines key None = codes ":\n"
+whatever_text name lines key (Some from) = codes ", whatever " ++ holder_text name key ++ codes " held before line " ++ decimal (line_of lines from) ++ codes ":\n"
 
 -- What is recorded of a call, or nothing where it is taken as pending.
 abbrev pub unless_pending : Bool → Option (ℕ × Reply) → Option (ℕ × Reply)
@@ -267,7 +277,16 @@ others_line_if false calls lines core =
 abbrev pub others_line : List (ProblemCall Op Reply) → List ℕ → List CoreCall → List ℕ
 others_line calls lines core = others_line_if (has_odd_reply calls core) calls lines core
 
+-- The same of calls that have none from right before an event on.
+abbrev pub since_text : List ℕ → ℕ → List ℕ
+since_text lines from = codes "no other call from line " ++ decimal (line_of lines from) ++ codes " to line "
+
+abbrev pub others_line_since : List (ProblemCall Op Reply) → List ℕ → Option ℕ → List CoreCall → List ℕ
+others_line_since calls lines None core = others_line calls lines core
+others_line_since calls lines (Some from) core =
+    since_text lines from ++ until_text calls lines core ++ codes "\n"
+
 -- The calls with the lines above and below them; nothing where there are none.
-abbrev pub core_text : List ℕ → List (ProblemCall Op Reply) → List ℕ → List CoreCall → List ℕ
-core_text name calls lines core =
-    if length core == 0 then [] else core_head (length core) (core_key calls core) ++ core_lines name calls lines core ++ others_line calls lines core
+abbrev pub core_text : List ℕ → List (ProblemCall Op Reply) → List ℕ → Option ℕ → List CoreCall → List ℕ
+core_text name calls lines from core =
+    if length core == 0 then [] else core_head (length core) (core_key calls core) ++ whatever_text name lines (core_key calls core) from ++ core_lines name calls lines core ++ others_line_since calls lines from core

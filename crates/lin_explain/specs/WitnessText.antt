@@ -11,5 +11,5 @@ use Rattle.lin_explain.specs.SumsText.{sums_text}
 -- The lines of a core, or of a get for whose reply the adds leave no room; nothing where neither is known.
 abbrev pub witness_text : List ℕ → List (ProblemCall Op Reply) → List ℕ → Witness → List ℕ
 witness_text name calls lines Nothing = []
-witness_text name calls lines (Core core) = core_text name calls lines core.items
+witness_text name calls lines (Core from core) = core_text name calls lines from core.items
 witness_text name calls lines (Sums shown) = sums_text name calls lines shown

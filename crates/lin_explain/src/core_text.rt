@@ -1,8 +1,8 @@
 //! How calls are shown that alone have no order.
-ghost use Rattle.std.specs.Prelude.{◌≡◌, ◌++◌, string_bytes, slice_get, OnOk, IfNone, IfSome, None, Some, true};
+ghost use Rattle.std.specs.Prelude.{◌≡◌, ◌++◌, codes, string_bytes, slice_get, OnOk, IfNone, IfSome, None, Some, true};
 ghost use Rattle.std.specs.List.{list_all, list_any};
 ghost use Rattle.std.specs.Option.{option_and_then};
-ghost use Rattle.lin_explain.specs.CoreText.{key_on, key_at, is_key, is_on_key, core_key, on_key_text, core_head, unless_pending, core_line, core_line_of, core_lines, event_of, last_event_of, later, last_event, is_cas, op_at, not_done, not_done_of, not_done_by_others, is_yes, gives_anew, is_back_before, begins_anew, call_at, given, item_of, shown_item, is_of_core, came_before, has_earlier, starts_late, from_text_of, until_text, before_text_of, may_reply, gave_another, gave_another_of, has_odd_reply, others_line_if, others_line, core_text};
+ghost use Rattle.lin_explain.specs.CoreText.{key_on, key_at, is_key, is_on_key, core_key, on_key_text, core_head, holder_text, whatever_text, unless_pending, core_line, core_line_of, core_lines, event_of, last_event_of, later, last_event, is_cas, op_at, not_done, not_done_of, not_done_by_others, is_yes, gives_anew, is_back_before, begins_anew, call_at, given, item_of, shown_item, is_of_core, came_before, has_earlier, starts_late, from_text_of, until_text, before_text_of, may_reply, gave_another, gave_another_of, has_odd_reply, others_line_if, others_line, since_text, others_line_since, core_text};
 
 use crate::explanation_text::key_of;
 use crate::touching_text::{line_of, write_recorded};
@@ -88,18 +88,48 @@ fn write_on_key(out: &mut String, key: Option<i64>) -> Result<(), AllocError>
     }
 }
 
-// Appends the line above so many calls on this key.
+// Appends what is above so many calls on this key.
 fn write_head(out: &mut String, count: usize, key: Option<i64>) -> Result<(), AllocError>
     ensures { OnOk result (string_bytes out.new ≡ string_bytes out.old ++ core_head count key) }
 {
     if count == 1 {
         out.push_str("this call")?;
         write_on_key(out, key)?;
-        return out.push_str(" alone has no order:\n");
+        return out.push_str(" alone has no order");
     }
     write!(out, "these {count} calls")?;
     write_on_key(out, key)?;
-    out.push_str(" alone have no order:\n")
+    out.push_str(" alone have no order")
+}
+
+// What a core of this key is on: it, or else the object of this name.
+fn holder<'n>(name: &'n str, key: Option<i64>) -> &'n str
+    ensures { result.now ≡ holder_text name.now key }
+{
+    match key {
+        Some(_) => "it",
+        None => name,
+    }
+}
+
+// Appends from which line on they have no order, whatever was held then; and ends the line.
+fn write_whatever(
+    out: &mut String,
+    name: &str,
+    lines: &[u64],
+    key: Option<i64>,
+    from: Option<u32>,
+) -> Result<(), AllocError>
+    ensures { OnOk result (string_bytes out.new ≡ string_bytes out.old ++ whatever_text name.now lines.now key from) }
+{
+    match from {
+        Some(event) => {
+            let holder = holder(name, key);
+            let line = line_of(lines, event);
+            write!(out, ", whatever {holder} held before line {line}:\n")
+        }
+        None => out.push_str(":\n"),
+    }
 }
 
 // What is recorded of a call, or nothing where it is taken as pending.
@@ -555,23 +585,75 @@ fn write_others(
     write_before(out, calls, lines, core)
 }
 
-/// Appends the lines of a core of these calls on the object of this name: how many calls it has, and of a map or a set which key they
-/// are on; below that each call, with the lines of the input on which its events are; and then between which lines no other call helps. `lines` has the line of each event of the
+// Appends from which event on no other call helps.
+fn write_since(out: &mut String, lines: &[u64], from: u32) -> Result<(), AllocError>
+    ensures { OnOk result (string_bytes out.new ≡ string_bytes out.old ++ since_text lines.now from) }
+{
+    let line = line_of(lines, from);
+    write!(out, "no other call from line {line} to line ")
+}
+
+// Ends the line.
+fn end_line(out: &mut String) -> Result<(), AllocError>
+    ensures { OnOk result (string_bytes out.new ≡ string_bytes out.old ++ codes "\n") }
+{
+    out.push_str("\n")
+}
+
+// Appends that no other call from this event on helps.
+fn write_others_from(
+    out: &mut String,
+    calls: &[ProblemCall<Op, Reply>],
+    lines: &[u64],
+    from: u32,
+    core: &[CoreCall],
+) -> Result<(), AllocError>
+    ensures { OnOk result (string_bytes out.new
+        ≡ string_bytes out.old ++ others_line_since calls.now lines.now (Some from) core.now) }
+{
+    write_since(out, lines, from)?;
+    write_until(out, calls, lines, core)?;
+    end_line(out)
+}
+
+// Appends the line below the calls of a core, which may begin at an event.
+fn write_others_since(
+    out: &mut String,
+    calls: &[ProblemCall<Op, Reply>],
+    lines: &[u64],
+    from: Option<u32>,
+    core: &[CoreCall],
+) -> Result<(), AllocError>
+    ensures { OnOk result (string_bytes out.new
+        ≡ string_bytes out.old ++ others_line_since calls.now lines.now from core.now) }
+{
+    match from {
+        Some(event) => write_others_from(out, calls, lines, event, core),
+        None => write_others(out, calls, lines, core),
+    }
+}
+
+/// Appends the lines of a core of these calls on the object of this name: how many calls it has, of a map or a set which key they
+/// are on, and, where it begins at an event, that line; below that each call, with the lines of the input on which its events are; and then
+/// between which lines no other call helps. `lines` has the line of each event of the
 /// input, that of the event of number n at n - 1. Appends nothing where the core has no calls. `AllocError` where memory was refused.
 pub(crate) fn write_core(
     out: &mut String,
     name: &str,
     calls: &[ProblemCall<Op, Reply>],
     lines: &[u64],
+    from: Option<u32>,
     core: &[CoreCall],
 ) -> Result<(), AllocError>
     ensures { OnOk result (string_bytes out.new
-        ≡ string_bytes out.old ++ core_text name.now calls.now lines.now core.now) }
+        ≡ string_bytes out.old ++ core_text name.now calls.now lines.now from core.now) }
 {
     if core.is_empty() {
         return Ok(());
     }
-    write_head(out, core.len(), core_key(calls, core))?;
+    let key = core_key(calls, core);
+    write_head(out, core.len(), key)?;
+    write_whatever(out, name, lines, key, from)?;
     write_calls(out, name, calls, lines, core)?;
-    write_others(out, calls, lines, core)
+    write_others_since(out, calls, lines, from, core)
 }

@@ -13,14 +13,14 @@ use std::alloc::AllocError;
 pub enum Witness {
     /// Nothing that is known.
     Nothing,
-    /// Calls that alone have no order.
-    Core(Vec<CoreCall>),
+    /// Calls that alone have no order; where an event is given, from right before it on, whatever the object held then.
+    Core(Option<u32>, Vec<CoreCall>),
     /// A get of a counter for whose reply the adds leave no room.
     Sums(ShownSums),
 }
 
 /// Appends the lines of what is known of the object of this name, which has these calls. Of a core: how many calls it has, and of a
-/// map or a set which key they are on; each call, with the lines of the input on which its events are; and between which lines no
+/// map or a set which key they are on; from which line on, where that is not the start; each call, with the lines of the input on which its events are; and between which lines no
 /// other call helps. `lines` has the line of each event of the input, that of the event of number n at n - 1. Appends nothing where
 /// nothing is known. `AllocError` where memory was refused.
 pub fn write_witness(
@@ -34,7 +34,7 @@ pub fn write_witness(
         ++ witness_text name.now calls.now lines.now witness.now) }
 {
     match witness {
-        Witness::Core(core) => write_core(out, name, calls, lines, core.as_slice()),
+        Witness::Core(from, core) => write_core(out, name, calls, lines, *from, core.as_slice()),
         Witness::Sums(shown) => write_sums(out, name, calls, lines, shown),
         Witness::Nothing => Ok(()),
     }

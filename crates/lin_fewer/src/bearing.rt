@@ -21,6 +21,7 @@ use crate::pending_calls::cover_pending;
 use crate::rules::Rules;
 use crate::search::{Search, key_of, mixed};
 use crate::seen::{Seen, known_of};
+use crate::states::States;
 use crate::verdict::Verdict;
 use lin_object::{SeqObject, lawful};
 use lin_search::{Config, Stop};
@@ -125,6 +126,7 @@ fn enter<O: SeqObject, R: Rules<O>>(
 fn close<O: SeqObject, R: Rules<O>>(
     search: &mut Search<'_, O, R>,
     nodes: &mut Vec<Node<O>>,
+    states: &mut States,
     place: &mut Place,
 ) -> Result<Option<Verdict>, AllocError>
     requires search { IsSearch (problem_of O.after O.State.eq O.Reply.eq search.old) nodes.old.items place.old.base place.old.index place.old.next }
@@ -147,6 +149,7 @@ fn close<O: SeqObject, R: Rules<O>>(
     let _count = nodes.len();
     let _calls = search.problem().calls();
     let below = at(nodes.as_slice(), link.from).link().base;
+    states.take_from(place.base);
     nodes.truncate(place.base);
     let from = Place {
         base: below,
@@ -165,6 +168,7 @@ fn close<O: SeqObject, R: Rules<O>>(
 fn try_next<O: SeqObject, R: Rules<O>>(
     search: &mut Search<'_, O, R>,
     nodes: &mut Vec<Node<O>>,
+    states: &mut States,
     place: &mut Place,
 ) -> Result<Option<Verdict>, AllocError>
     requires search { IsSearch (problem_of O.after O.State.eq O.Reply.eq search.old) nodes.old.items place.old.base place.old.index place.old.next }
@@ -181,7 +185,7 @@ fn try_next<O: SeqObject, R: Rules<O>>(
     let node = at(nodes.as_slice(), place.index);
     let bound = least_return(search.problem(), node.config().lifted(), node.first());
     let Some(call) = next_call(search, nodes.as_slice(), *place, bound) else {
-        cover_pending(search, nodes, place.index, bound)?;
+        cover_pending(search, nodes, states, place.index, bound)?;
         place.index += 1;
         place.next = 0;
         return Ok(None);
@@ -199,6 +203,7 @@ fn try_next<O: SeqObject, R: Rules<O>>(
 fn step<O: SeqObject, R: Rules<O>>(
     search: &mut Search<'_, O, R>,
     nodes: &mut Vec<Node<O>>,
+    states: &mut States,
     place: &mut Place,
 ) -> Result<Option<Verdict>, AllocError>
     requires { IsSearch (problem_of O.after O.State.eq O.Reply.eq search.old) nodes.old.items place.old.base place.old.index place.old.next }
@@ -211,10 +216,10 @@ fn step<O: SeqObject, R: Rules<O>>(
     ensures same { search.new ≡ search.old }
 {
     if place.index == nodes.len() {
-        return close(search, nodes, place);
+        return close(search, nodes, states, place);
     }
     if place.next > 0 {
-        return try_next(search, nodes, place);
+        return try_next(search, nodes, states, place);
     }
     let node = at(nodes.as_slice(), place.index);
     let bound = least_return(search.problem(), node.config().lifted(), node.first());
@@ -223,7 +228,7 @@ fn step<O: SeqObject, R: Rules<O>>(
             let tried = Try { call, alone: true };
             enter(search, nodes, place, tried, child)
         }
-        None => try_next(search, nodes, place),
+        None => try_next(search, nodes, states, place),
     }
 }
 
@@ -259,6 +264,7 @@ pub(crate) fn bears<O: SeqObject, R: Rules<O>, S: Stop>(
     };
     let mut nodes = Vec::new(search.alloc());
     nodes.push(Node::new(config, first, link))?;
+    let mut states = States::new(search.alloc());
     let mut place = Place {
         base: 0,
         index: 0,
@@ -271,7 +277,7 @@ pub(crate) fn bears<O: SeqObject, R: Rules<O>, S: Stop>(
         if stop.ask().is_some() {
             return Ok(Verdict::Unknown);
         }
-        if let Some(verdict) = step(search, &mut nodes, &mut place)? {
+        if let Some(verdict) = step(search, &mut nodes, &mut states, &mut place)? {
             return Ok(verdict);
         }
     }

@@ -5,8 +5,8 @@
 //! - `least`: the least linearization, by asking of configurations whether they have a completion.
 //! - `bearing`: whether a configuration has one; `completed_calls` and `pending_calls`: what is tried at a node; `borne`: what is noted
 //!   on the way back.
-//! - `node`: the configurations that a search has open; `search`: what it knows; `known`: configurations found by keys; `seen` and
-//!   `verdict`: what is known of one configuration.
+//! - `node`: the configurations that a search has open; `states`: those of a block, found by their states; `search`: what it knows;
+//!   `known`: configurations found by keys; `seen` and `verdict`: what is known of one configuration.
 //! - `twins`: pending calls that are identical.
 //! - `any_adds`: orders of a counter's completed calls, whatever the pending ones add.
 //! - `front`: which calls may be next; `laws`: the law that all this rests on.
@@ -76,6 +76,7 @@ mod pending_calls;
 mod rules;
 mod search;
 mod seen;
+mod states;
 mod sum_hints;
 mod sums;
 mod twins;

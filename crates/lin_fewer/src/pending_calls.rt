@@ -10,25 +10,82 @@ use crate::front::{is_completed, is_later};
 use crate::laws::fewer_law;
 use crate::node::{Link, Node, at, child_of};
 use crate::rules::Rules;
-use crate::search::Search;
+use crate::search::{Search, key_of};
+use crate::states::States;
 use lin_object::{SeqObject, lawful};
 use lin_search::Config;
 use std::alloc::AllocError;
 
-// Whether one of the nodes from the base on is no worse than the configuration.
-fn has_no_worse<O: SeqObject, R: Rules<O>>(
+// Whether all pending calls that led from the base of the block to the node at the index are in the configuration. It is a hint.
+fn has_all_between<O: SeqObject>(
+    nodes: &[Node<O>],
+    base: usize,
+    index: usize,
+    config: &Config<O>,
+) -> bool {
+    let mut here = index;
+    for _ in base..nodes.len() {
+        if here <= base || here >= nodes.len() {
+            return true;
+        }
+        let link = at(nodes, here).link();
+        if !config.has(link.by) {
+            return false;
+        }
+        here = link.from;
+    }
+    true
+}
+
+// Whether the node at the index, which is of the block of this base, is no worse than the configuration.
+fn is_no_worse_at<O: SeqObject, R: Rules<O>>(
     search: &Search<'_, O, R>,
     nodes: &[Node<O>],
     base: usize,
+    index: usize,
     config: &Config<O>,
 ) -> bool
     ensures { IsTrue result → HasNoWorse (problem_of O.after O.State.eq O.Reply.eq search.now)
         nodes.now base (length nodes.now) config.now }
 {
-    for k in base..nodes.len() {
-        if search.is_no_worse(at(nodes, k).config(), config) {
-            return true;
+    if index < base {
+        return false;
+    }
+    if index >= nodes.len() {
+        return false;
+    }
+    search.is_no_worse(at(nodes, index).config(), config)
+}
+
+// Whether one of the nodes from the base on is no worse than the configuration: the base, or one that is found by this key.
+fn has_no_worse<O: SeqObject, R: Rules<O>>(
+    search: &Search<'_, O, R>,
+    nodes: &[Node<O>],
+    states: &States,
+    base: usize,
+    config: &Config<O>,
+    key: u64,
+) -> bool
+    ensures { IsTrue result → HasNoWorse (problem_of O.after O.State.eq O.Reply.eq search.now)
+        nodes.now base (length nodes.now) config.now }
+{
+    if is_no_worse_at(search, nodes, base, base, config) {
+        return true;
+    }
+    let mut number = states.last_of(key);
+    for _ in base..nodes.len() {
+        let Some(found) = states.get(number) else {
+            return false;
+        };
+        if found.node < base {
+            return false;
         }
+        if found.key == key && has_all_between(nodes, base, found.node, config) {
+            if is_no_worse_at(search, nodes, base, found.node, config) {
+                return true;
+            }
+        }
+        number = found.earlier;
     }
     false
 }
@@ -37,6 +94,7 @@ fn has_no_worse<O: SeqObject, R: Rules<O>>(
 fn add_child<O: SeqObject, R: Rules<O>>(
     search: &Search<'_, O, R>,
     nodes: &mut Vec<Node<O>>,
+    states: &mut States,
     index: usize,
     call: usize,
     child: Config<O>,
@@ -58,9 +116,11 @@ fn add_child<O: SeqObject, R: Rules<O>>(
     if search.rules().refutes(search.waiting(), &child, first) {
         return Ok(());
     }
-    if has_no_worse(search, nodes.as_slice(), link.base, &child) {
+    let key = key_of(link.completed, &child);
+    if has_no_worse(search, nodes.as_slice(), states, link.base, &child, key) {
         return Ok(());
     }
+    states.add(nodes.len(), key)?;
     let link = Link {
         from: index,
         by: call,
@@ -76,6 +136,7 @@ fn add_child<O: SeqObject, R: Rules<O>>(
 fn add_call<O: SeqObject, R: Rules<O>>(
     search: &Search<'_, O, R>,
     nodes: &mut Vec<Node<O>>,
+    states: &mut States,
     index: usize,
     call: usize,
     bound: u32,
@@ -107,7 +168,7 @@ fn add_call<O: SeqObject, R: Rules<O>>(
     let Some(child) = child_of(search.alloc(), search.problem(), from.config(), call)? else {
         return Ok(());
     };
-    add_child(search, nodes, index, call, child)?;
+    add_child(search, nodes, states, index, call, child)?;
     Ok(())
 }
 
@@ -115,6 +176,7 @@ fn add_call<O: SeqObject, R: Rules<O>>(
 fn add_pending<O: SeqObject, R: Rules<O>>(
     search: &Search<'_, O, R>,
     nodes: &mut Vec<Node<O>>,
+    states: &mut States,
     index: usize,
     bound: u32,
 ) -> Result<(), AllocError>
@@ -138,7 +200,7 @@ fn add_pending<O: SeqObject, R: Rules<O>>(
         if is_later(problem, call, bound) {
             return Ok(());
         }
-        add_call(search, nodes, index, call, bound)?;
+        add_call(search, nodes, states, index, call, bound)?;
         call = waiting.from(call + 1);
     }
     Ok(())
@@ -151,6 +213,7 @@ fn add_pending<O: SeqObject, R: Rules<O>>(
 pub(crate) fn cover_pending<O: SeqObject, R: Rules<O>>(
     search: &Search<'_, O, R>,
     nodes: &mut Vec<Node<O>>,
+    states: &mut States,
     index: usize,
     bound: u32,
 ) -> Result<(), AllocError>
@@ -171,5 +234,5 @@ pub(crate) fn cover_pending<O: SeqObject, R: Rules<O>>(
     {
         return Ok(());
     }
-    add_pending(search, nodes, index, bound)
+    add_pending(search, nodes, states, index, bound)
 }

@@ -68,6 +68,11 @@ pub(crate) fn key_of<O: SeqObject>(completed: u64, config: &Config<O>) -> u64 {
     mixed(completed ^ hasher.finish())
 }
 
+// Whether the sum of the numbers of the calls in the first configuration is above that of the second: then it has not fewer of them.
+fn is_above<O: SeqObject>(a: &Config<O>, b: &Config<O>) -> bool {
+    a.lifted().sum() > b.lifted().sum()
+}
+
 // The set of all calls of a problem.
 fn every_call<O: SeqObject>(alloc: Global, problem: &Problem<O>) -> Result<CallSet, AllocError>
     ensures { IfOk result (HasEvery (problem_of O.after O.State.eq O.Reply.eq problem.now)) }
@@ -185,6 +190,9 @@ impl<'p, O: SeqObject, R: Rules<O>> Search<'p, O, R> {
         ensures { IsTrue result → IsNoWorse (problem_of O.after O.State.eq O.Reply.eq self.now)
             a.now.lifted a.now.state b.now.lifted b.now.state }
     {
+        if is_above(a, b) {
+            return false;
+        }
         if a.state() == b.state() {
             return a.lifted().is_fewer(b.lifted(), &self.pending);
         }

@@ -1,10 +1,8 @@
 -- The problem of some of a problem's calls (this project's own).
-use Rattle.std.specs.Prelude.{◌≡◌, ◌⊎◌, ℕ, ◌<◌, Some, List, [], ◌∷◌, ◌++◌, length, slice_get, slice_index}
+use Rattle.std.specs.Prelude.{◌≡◌, ◌⊎◌, ℕ, ◌<◌, List, [], ◌∷◌, ◌++◌, length, slice_get, slice_index}
 use Rattle.lin_history.specs.declared.problems.problem.ProblemCall.{ProblemCall}
 use Rattle.lin_history.specs.Problems.Lists.{In}
 use Rattle.lin_history.specs.Problems.Problem.{Problem}
-use Rattle.lin_history.specs.Problems.LegalLists.{Legal, next}
-use Rattle.lin_history.specs.Problems.Precedence.{IsCompleted}
 
 -- The calls of these numbers, in increasing order, are those of the list.
 pub record ArePart {State Op Reply : Type 0} (p : Problem State Op Reply) (kept : List ℕ) (calls : List (ProblemCall Op Reply)) : Type 0 where
@@ -39,6 +37,6 @@ pub record IsFilled (n : ℕ) (l all : List ℕ) : Type 0 where
   pub each : (c : ℕ) → c < n → In c l ⊎ In c rest
   pub apart : (c : ℕ) → In c rest → In c l → ⊥
 
--- After every legal list each call that has not returned has a step.
-abbrev pub IsTotal : {State Op Reply : Type 0} → Problem State Op Reply → Type 0
-IsTotal {State} p = (l : List ℕ) (s : State) → Legal p p.start l s → (c : ℕ) → c < length p.calls → (IsCompleted p c → ⊥) → (t : State) × (next p s c ≡ Some t)
+-- The calls of the problem by these numbers, in increasing order.
+abbrev pub AreSomeCalls : {State Op Reply : Type 0} → Problem State Op Reply → List ℕ → Type 0
+AreSomeCalls p kept = IsRising kept × ((c : ℕ) → In c kept → c < length p.calls)

@@ -1,13 +1,16 @@
 -- Parts of legal lists and of runs.
-use Rattle.std.proofs.Common.{ℕ, ◌<◌, List, [], ◌∷◌, ◌++◌, length, inl, inr, refl, arith}
+use Rattle.std.proofs.Common.{◌≡◌, ℕ, ◌<◌, List, [], ◌∷◌, ◌++◌, length, inl, inr, refl, arith}
 use Rattle.std.specs.Prelude.{IsSomeAnd}
 use Rattle.std.specs.List.{slice_get}
 use Rattle.std.proofs.lemmas.Option.{slice_get_cases}
 use Rattle.lin_history.specs.OptionLemmas.{some_and, and_some, some_more}
+use Rattle.lin_history.specs.Problems.Lists.{In}
+use Rattle.lin_history.specs.Problems.ListLemmas.{has_none}
 use Rattle.lin_history.specs.Problems.Problem.{Problem}
 use Rattle.lin_history.specs.Problems.ProblemParts.{AreTimed}
 use Rattle.lin_history.specs.Problems.LegalLists.{Legal}
 use Rattle.lin_history.specs.Problems.Precedence.{Before}
+use Rattle.lin_history.specs.Problems.Linearizations.{IsRun}
 
 module _ {State Op Reply : Type 0} (p : Problem State Op Reply) where
   -- ---- the front of a run
@@ -15,6 +18,13 @@ module _ {State Op Reply : Type 0} (p : Problem State Op Reply) where
   pub legal_front : (xs ys : List ℕ) (s t : State) → Legal p s (xs ++ ys) t → (u : State) × Legal p s xs u
   legal_front [] ys s t k = (s, refl)
   legal_front (x ∷ xs) ys s t k = let r = legal_front xs ys k.0 t k.2 in (r.0, (k.0, k.1, r.1))
+
+  -- what precedes a call of a run stands in it, in front of the call
+  pub run_before : (l : List ℕ) → IsRun p l → (early : List ℕ) (b : ℕ) (late : List ℕ) → l ≡ early ++ b ∷ late → (a : ℕ) → Before p a b → In a early
+  run_before l k early b late e a before = elim (k.ordered early b late e a before) [
+    | inl h ↦ absurd (let none = has_none (length p.calls) a in cc)
+    | inr h ↦ h
+  ]
 
   module _ (timed : AreTimed p.calls) where
     -- what precedes a call precedes those called later

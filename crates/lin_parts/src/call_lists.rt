@@ -48,11 +48,7 @@ fn name_of(kept: &[usize], call: usize) -> usize
 }
 
 /// The same where `kept` has the number of each of them.
-pub(crate) fn own_names(
-    alloc: Global,
-    kept: &[usize],
-    calls: &[usize],
-) -> Result<Vec<usize>, AllocError>
+pub fn own_names(alloc: Global, kept: &[usize], calls: &[usize]) -> Result<Vec<usize>, AllocError>
     requires { (c : ℕ) → In c calls.now → c < length kept.now }
     ensures { IfOk result (λ names. names.items ≡ named kept.now calls.now) }
 {

@@ -8,7 +8,7 @@ use Rattle.lin_history.specs.Problems.Problem.{Problem}
 use Rattle.lin_history.specs.Problems.Lists.{In, IsDistinct}
 use Rattle.lin_history.specs.Problems.ListLemmas.{in_early, in_late, in_either, in_place}
 use Rattle.lin_history.specs.Problems.LegalLists.{Legal}
-use Rattle.lin_ahead.specs.Items.Impossible.{AddsItem}
+use Rattle.lin_laws.specs.Items.{AddsItem}
 use Rattle.lin_prefixes.proofs.ItemStepLemmas.{HoldsItems}
 use Rattle.lin_prefixes.proofs.LackLemmas.{in_or_not}
 use Rattle.lin_prefixes.specs.Freed.{IsFreed, IsThinned, TookOut}

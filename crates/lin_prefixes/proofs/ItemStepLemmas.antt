@@ -13,9 +13,9 @@ use Rattle.lin_object.specs.Kinds.Stack.{stack_step}
 use Rattle.lin_history.specs.declared.problems.problem.ProblemCall.{ProblemCall}
 use Rattle.lin_history.specs.Problems.Problem.{Problem}
 use Rattle.lin_history.specs.Problems.LegalLists.{fits, state_if_fits, after_call, next}
-use Rattle.lin_ahead.specs.Items.Impossible.{AddsItem}
-use Rattle.lin_ahead.specs.AnswerLemmas.{Is, state_of, reply_of, fits_some}
-use Rattle.lin_ahead.specs.Exact.{IsExact}
+use Rattle.lin_laws.specs.Items.{AddsItem}
+use Rattle.lin_laws.specs.AnswerLemmas.{Is, state_of, reply_of, fits_some}
+use Rattle.lin_laws.specs.Exact.{IsExact}
 use Rattle.lin_prefixes.specs.Freed.{HasReturned, TookOut}
 
 -- The states of the problem are lists of items. A step leaves a list; an item that it leaves was there before, and the step is one

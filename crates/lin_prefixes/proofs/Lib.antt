@@ -8,6 +8,5 @@ pub mod WalkLemmas
 pub mod ItemStepLemmas
 pub mod FreedLemmas
 pub mod LooseLemmas
-pub mod CrossedLemmas
 pub mod AnewLemmas
 pub mod OnlyReplyLemmas

@@ -7,7 +7,7 @@ use Rattle.lin_history.specs.Problems.ListLemmas.{in_early, in_either, in_late}
 use Rattle.lin_history.specs.Problems.Problem.{Problem}
 use Rattle.lin_history.specs.Problems.Precedence.{Before}
 use Rattle.lin_history.specs.Problems.Linearizations.{IsRun}
-use Rattle.lin_ahead.specs.Mutexes.HeldUntil.{AreStandIns}
+use Rattle.lin_laws.specs.StandIns.{AreStandIns}
 use Rattle.lin_prefixes.specs.Prefixes.{IsBeaten, IsRunOf, IsRunLacking, AreOpen, AreSpared, AreSplit, is_spared}
 use Rattle.lin_prefixes.proofs.BeatenLemmas.{beaten_itself, beaten_chain}
 use Rattle.lin_prefixes.proofs.FullLemmas.{up_to_behind}

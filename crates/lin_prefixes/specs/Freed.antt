@@ -9,9 +9,7 @@ use Rattle.lin_history.specs.declared.problems.problem.ProblemCall.{ProblemCall}
 use Rattle.lin_history.specs.Problems.Lists.{In, IsDistinct}
 use Rattle.lin_history.specs.Problems.Problem.{Problem}
 use Rattle.lin_history.specs.Problems.Precedence.{Before}
-use Rattle.lin_ahead.specs.Items.Impossible.{AddsItem}
-use Rattle.lin_ahead.specs.Queues.Queue.{Took}
-use Rattle.lin_ahead.specs.Stacks.Stack.{Popped}
+use Rattle.lin_laws.specs.Items.{Took, Popped, AddsItem}
 
 -- The call has this operation, and returned.
 abbrev pub HasReturned : Problem ObjState Op Reply → Op → ℕ → Type 0

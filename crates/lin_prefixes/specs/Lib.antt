@@ -1,5 +1,4 @@
 pub mod Prefixes
-pub mod Crossing
 pub mod Freed
 pub mod Marked
 pub mod OnlyReplies

@@ -1,7 +1,7 @@
 //! The longest run of a problem, from the last calls that a run may have downwards, and for each from few open calls left
 //! out to many.
 ghost use Rattle.std.specs.Prelude.{◌≡◌, ◌⊎◌, ◌+◌, ◌<◌, ◌≤◌, ◌^◌, [], ℕ, List, All, IfOk, IfSome, IsTrue, IsFalse, filter, length, nat_lt, not, slice_index_or};
-ghost use Rattle.lin_ahead.specs.Mutexes.HeldUntil.{AreStandIns};
+ghost use Rattle.lin_laws.specs.StandIns.{AreStandIns};
 ghost use Rattle.lin_history.specs.Problems.Lists.{In};
 ghost use Rattle.lin_history.specs.Problems.Problem.{problem_of};
 ghost use Rattle.lin_history.specs.Problems.Precedence.{Before, IsCompleted};

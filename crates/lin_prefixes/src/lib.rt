@@ -1,5 +1,4 @@
-//! The longest run of a problem from searches of smaller problems, each for a least linearization alone (this project's
-//! own).
+//! The longest run of a problem from smaller problems, each of which is decided by itself (this project's own).
 //!
 //! A run has all calls that precede its greatest call, so a longest run lacks few calls of some first calls of the problem:
 //! completed ones that overlap the last of these. With the calls that it lacks left out of the problem, it is the least
@@ -9,13 +8,12 @@
 //! - `call_lists`: lists of calls, by their numbers in a part and in the whole.
 //! - `candidate`: the best run that lacks just these calls.
 //! - `by_prefixes`: the longest run, from the last call that a run may have downwards.
-//! - `parts_anew`: parts of a problem, made anew by their events; `anew_search`: searches of them, with a budget of lifts.
+//! - `parts_anew`: parts of a problem, made anew by their events; `anew_search`: searches of them, by whatever decides problems.
 //! - `conflicts`: groups of calls of which each run lacks one; `choices`: which calls are left out, by conflicts.
 //! - `untold_groups`: groups of calls that are not asked of again.
 //! - `marks`: which calls a part has as they are, and which may stay out.
 //! - `open_takers`: open dequeues and pops that may stay out of a run of a queue or a stack.
 //! - `only_replies`: pending calls that can have one reply only.
-//! - `crossed_calls`: two calls of which each would have to come before the other.
 //! - `whole_search`: the search of a whole problem by its prefixes; `whole_answer`: what it answers.
 //!
 //! What it promises the crates above, by the contracts of `search_by_prefixes`:
@@ -31,9 +29,6 @@
 //!   the other open calls. In such a question the calls outside the group lose their replies and may stay out, so its *no* is
 //!   right. Only a queue's open dequeues and a stack's open pops stay out altogether, and then the calls that put in what they took
 //!   may too: as pending calls they would take what nobody took, and hide what is lost. Which group is asked about is a hint.
-//! - In a problem with many pending calls, a search that tells nothing of a part is followed by one that tries pending calls only
-//!   between completed ones (`lin_fewer`). A counter with many of them is refuted at once if it has no linearization whatever these
-//!   add.
 //! - A pending `lock` or `unlock` of a mutex may have no step, but if it has one, its reply is `ok`. For the longest run each of
 //!   them returns with it behind all events (`only_replies`): the runs stay the same lists. So a run need not end with all of them.
 //! - If the processes of several acquires call no unlock after them up to k, a run of k has one of these acquires at most: nobody
@@ -42,17 +37,11 @@
 //!   first: they are in none of the runs that are tried. `PartSearch::stand_ins` says so by a number for each call, which
 //!   `held_until` finds.
 //! - `PartSearch` is the contract of the search of a part. If one does not know, the whole ends with `None`, so `Some` is right for
-//!   any problem. One that has come to its end says so (`RunsTold::Ended`), and nobody asks it again. The budget covers all work, and the stop is asked within it. Two calls that *cross* (one returned before the
-//!   other was called, and yet needs it; `some_cross` answers exactly whether there are such) and the cases of 'in vain' refute a
-//!   part before any search.
+//!   any problem. One that has come to its end says so (`RunsTold::Ended`), and nobody asks it again. Here each part is made anew and
+//!   decided by a `Decide` (`lin_effort`), whose work covers what is done between two parts too: this crate knows no way to an answer.
 //!
 //! Why it is so:
 //!
-//! - Crossing calls are looked for in each part before a search, and not within it. Otherwise a queue with two exchanged results
-//!   would make a first search go through all orders between them.
-//! - `--progress` counts the search by blocks as searches of prefixes. It is tried between two searches of one part, so to tell it
-//!   apart each search of a part would have to tell the watcher, which `lin_prefixes` does not know. *To change:* a watcher in
-//!   `PartSearch`.
 //! - `lin_prefixes` knows any search through one trait, compares what it makes, replays what it finds, and leaves calls out by
 //!   recursion, so no set of calls is a value. The whole is refuted first and on its own, since a linearization may be shorter than
 //!   a longest run. It never leaves out more than 256 calls, since each is one level of the recursion.
@@ -87,7 +76,6 @@ mod call_lists;
 mod candidate;
 mod choices;
 mod conflicts;
-mod crossed_calls;
 mod marks;
 mod only_replies;
 mod open_takers;
@@ -98,4 +86,4 @@ mod whole_answer;
 mod whole_search;
 
 pub use whole_answer::WholeAnswer;
-pub use whole_search::{longest_run_by_prefixes, search_by_prefixes, search_in_rounds};
+pub use whole_search::{longest_run_by_prefixes, search_by_prefixes};

@@ -5,7 +5,7 @@ ghost use Rattle.std.specs.Ordering.{int_eq};
 ghost use Rattle.indexmap.specs.IndexSet.{contains};
 ghost use Rattle.lin_history.specs.Problems.Lists.{In};
 ghost use Rattle.lin_history.specs.Problems.AnyProblem.{any_problem};
-ghost use Rattle.lin_ahead.specs.Items.Impossible.{AddsItem};
+ghost use Rattle.lin_laws.specs.Items.{AddsItem};
 ghost use Rattle.lin_prefixes.specs.Freed.{AreTakers, HasReturned, TookOut};
 
 use indexmap::IndexSet;

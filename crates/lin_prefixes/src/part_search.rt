@@ -2,7 +2,7 @@
 ghost use Rattle.std.specs.Prelude.{◌≡◌, ◌<◌, ◌≤◌, ℕ, length, IfOk};
 ghost use Rattle.lin_history.specs.Problems.Lists.{In};
 ghost use Rattle.lin_history.specs.Problems.Problem.{problem_of};
-ghost use Rattle.lin_ahead.specs.Mutexes.HeldUntil.{AreStandIns};
+ghost use Rattle.lin_laws.specs.StandIns.{AreStandIns};
 ghost use Rattle.lin_parts.specs.Parts.{IsRising};
 ghost use Rattle.lin_prefixes.specs.RunsTold.{IsToldOfRuns};
 ghost use Rattle.lin_prefixes.specs.PartAnswer.{IsPartAnswer};

@@ -1,6 +1,6 @@
 -- What is printed where it is asked for why, piece by piece.
-use Rattle.std.proofs.Common.{◌≡◌, ℕ, ℤ, List, [], ◌++◌, map, Option, Some, codes, refl, sym, subst, ap, ◌∙◌, append_assoc}
-use Rattle.std.specs.Prelude.{Vec}
+use Rattle.std.proofs.Common.{◌≡◌, ℕ, ◌+◌, ℤ, List, [], ◌++◌, map, Option, Some, codes, refl, sym, subst, ap, ◌∙◌, append_assoc, arith}
+use Rattle.std.specs.Prelude.{Vec, IfSome}
 use Rattle.std.specs.declared.alloc.Global.{Global}
 use Rattle.std.specs.List.{slice_get}
 use Rattle.lin_object.specs.declared.op.Op.{Op}
@@ -23,10 +23,11 @@ use Rattle.lin_explain.specs.WitnessText.{witness_text}
 use Rattle.lin_workers.specs.Bounds.{Bounds}
 use Rattle.lincheck.specs.declared.status.Status.{Status}
 use Rattle.lincheck.specs.declared.verdict.Verdict.{Verdict}
-use Rattle.lincheck.specs.declared.verdict.Verdict.TheVariants.{No}
+use Rattle.lincheck.specs.declared.verdict.Verdict.TheVariants.{Yes, No, NoInTime, Undecided}
 use Rattle.lincheck.specs.Each.{status_text, told_text}
-use Rattle.lincheck.specs.Explained.{told_in, AreOfCore, WithExplanation, IsExplained, witness_text_of, head_text}
+use Rattle.lincheck.specs.Explained.{told_in, AreOfCore, IsWitness, IsWitnessIn, WithExplanation, IsExplained, witness_text_of, head_text}
 use Rattle.lincheck.specs.Report.{name_of, name_line}
+use Rattle.lincheck.specs.Stored.{judged_of}
 use Rattle.lincheck.specs.Verdict.{IsVerdict, IsOf}
 use Rattle.lincheck.proofs.JudgeLemmas.{IsPart, at_part, searched}
 use Rattle.lincheck.proofs.PrintLemmas.{verdict_of}
@@ -77,11 +78,22 @@ told_behind h object lines name calls status told old first new named are none i
     ∙ ap (λ (l : List ℕ). (name_of h object ++ codes ": " ++ status_text status ++ codes "\n") ++ l) (texts_same h object lines name calls told named are)
 
 -- a core of the problem is one of the part of the history
-pub core_told : (h : RecordedHistory) (object : ℕ) (calls : List (ProblemCall Op Reply)) (start : ObjState) (event : ℕ) (key : Option MapKey) (values : List ℤ) (kept firsts : List ℕ) (told : List CoreCall) → IsPart h object calls start
-    → IsCoreOf (searched calls start) event key values kept firsts → told ≡ map (told_in (searched calls start) event) kept → AreOfCore h object told
-core_told h object calls start event key values kept firsts told part core are =
-    (event, key, values, kept, firsts, at_part h object calls start part (λ p. IsCoreOf p event key values kept firsts) core, at_part h object calls start part (λ (p : Problem ObjState Op Reply). told ≡ map (told_in p event) kept) are)
+pub core_told : (h : RecordedHistory) (object : ℕ) (calls : List (ProblemCall Op Reply)) (start : ObjState) (from : Option ℕ) (event : ℕ) (key : Option MapKey) (values : List ℤ) (kept firsts : List ℕ) (told : List CoreCall) → IsPart h object calls start
+    → IsCoreOf (searched calls start) from event key values kept firsts → told ≡ map (told_in (searched calls start) from event) kept → AreOfCore h object from told
+core_told h object calls start from event key values kept firsts told part core are =
+    (event, key, values, kept, firsts, at_part h object calls start part (λ p. IsCoreOf p from event key values kept firsts) core, at_part h object calls start part (λ (p : Problem ObjState Op Reply). told ≡ map (told_in p from event) kept) are)
 
 -- so is a get for whose reply the adds leave no room
 pub sums_told : (h : RecordedHistory) (object : ℕ) (calls : List (ProblemCall Op Reply)) (start : ObjState) (fault : SumFault) → IsPart h object calls start → IsSumFault (searched calls start) fault → IsSumFault (part_of h object) fault
 sums_told h object calls start fault part known = at_part h object calls start part (λ p. IsSumFault p fault) known
+
+-- one more than two numbers is the same
+same_object : (a b : ℕ) → a + 1 ≡ b + 1 → a ≡ b
+same_object a b e = omega (arith, e)
+
+-- what is known of an object is known of the one that the verdict names
+pub witness_in : (h : RecordedHistory) (v : Verdict) (object : ℕ) (known : Option Witness) → judged_of h v ≡ object + 1 → IfSome known (IsWitness h object) → IsWitnessIn h v known
+witness_in h (Yes l) object known named right = tt
+witness_in h (No other run) object known named right = subst (λ (n : ℕ). IfSome known (IsWitness h n)) (sym (same_object other object named)) right
+witness_in h (NoInTime other) object known named right = subst (λ (n : ℕ). IfSome known (IsWitness h n)) (sym (same_object other object named)) right
+witness_in h (Undecided other) object known named right = tt

@@ -1,5 +1,5 @@
 -- What is printed of a history that is not linearizable, where it is asked for why.
-use Rattle.std.specs.Prelude.{◌≡◌, ℕ, ℤ, ◌++◌, is_none, false, Option, Some, None, List, map, slice_get}
+use Rattle.std.specs.Prelude.{◌≡◌, ℕ, ℤ, ◌++◌, IfSome, is_none, false, Option, Some, None, List, map, slice_get}
 use Rattle.std.specs.Option.{option_map_or}
 use Rattle.lin_object.specs.declared.op.Op.{Op}
 use Rattle.lin_object.specs.declared.reply.Reply.{Reply}
@@ -11,8 +11,7 @@ use Rattle.lin_history.specs.Recorder.Parts.{part_calls}
 use Rattle.lin_history.specs.Locality.RecordedWhole.{part_of}
 use Rattle.lin_core.specs.declared.selection.MapKey.{MapKey}
 use Rattle.lin_core.specs.declared.sum_faults.SumFault.{SumFault}
-use Rattle.lin_core.specs.Cores.{IsCoreOf}
-use Rattle.lin_core.specs.Cuts.{returned_by}
+use Rattle.lin_core.specs.Cores.{IsCoreOf, returned_of}
 use Rattle.lin_core.specs.Sums.{IsSumFault}
 use Rattle.lin_explain.specs.declared.core_text.CoreCall.{CoreCall}
 use Rattle.lin_explain.specs.declared.sums_text.ShownSums.{ShownSums}
@@ -24,14 +23,15 @@ use Rattle.lincheck.specs.declared.verdict.Verdict.{Verdict}
 use Rattle.lincheck.specs.declared.verdict.Verdict.TheVariants.{Yes, No, NoInTime, Undecided}
 use Rattle.lincheck.specs.Report.{name_of, name_line, length_line, last_lines, not_found_line, yes_report, no_report, no_report_in_time, undecided_report}
 
--- The call of this number as it stood after the event: pending, if it returned later.
-abbrev pub told_in : Problem ObjState Op Reply → ℕ → ℕ → CoreCall
-told_in p event number = record { call = number; is_pending = option_map_or (λ x. is_none (returned_by event x.returned)) (slice_get p.calls number) false }
+-- The call of this number as the core takes it: pending, if it returned after the event, or was called before the first that counts.
+abbrev pub told_in : Problem ObjState Op Reply → Option ℕ → ℕ → ℕ → CoreCall
+told_in p from event number = record { call = number; is_pending = option_map_or (λ x. is_none (returned_of from event x.called x.returned)) (slice_get p.calls number) false }
 
--- These calls of the object, told as pending or not, are a core: alone they have no linearization (this project's own).
-abbrev pub AreOfCore : RecordedHistory → ℕ → List CoreCall → Type 0
-AreOfCore h object told =
-    (event : ℕ) × (key : Option MapKey) × (values : List ℤ) × (kept : List ℕ) × (firsts : List ℕ) × IsCoreOf (part_of h object) event key values kept firsts × (told ≡ map (told_in (part_of h object) event) kept)
+-- These calls of the object, told as pending or not, are a core: alone they have no linearization, where an event is given from right
+-- before it on, whatever the object held then (this project's own).
+abbrev pub AreOfCore : RecordedHistory → ℕ → Option ℕ → List CoreCall → Type 0
+AreOfCore h object from told =
+    (event : ℕ) × (key : Option MapKey) × (values : List ℤ) × (kept : List ℕ) × (firsts : List ℕ) × IsCoreOf (part_of h object) from event key values kept firsts × (told ≡ map (told_in (part_of h object) from event) kept)
 
 -- A get for whose reply the adds leave no room, as it is shown.
 abbrev pub shown_of : SumFault → ShownSums
@@ -41,8 +41,15 @@ shown_of fault = record { from = fault.from; get = fault.get; up = fault.up; bas
 -- adds leave no room. Where neither was found nothing is said of it.
 abbrev pub IsWitness : RecordedHistory → ℕ → Witness → Type 0
 IsWitness h object Nothing = Unit {0}
-IsWitness h object (Core told) = AreOfCore h object told.items
+IsWitness h object (Core from told) = AreOfCore h object from told.items
 IsWitness h object (Sums shown) = (fault : SumFault) × IsSumFault (part_of h object) fault × (shown ≡ shown_of fault)
+
+-- What is known to let a reader see that does, of the object that the verdict names.
+abbrev pub IsWitnessIn : RecordedHistory → Verdict → Option Witness → Type 0
+IsWitnessIn h (Yes l) known = Unit {0}
+IsWitnessIn h (No object run) known = IfSome known (IsWitness h object)
+IsWitnessIn h (NoInTime object) known = IfSome known (IsWitness h object)
+IsWitnessIn h (Undecided object) known = Unit {0}
 
 -- Its lines, where the events are on these lines.
 abbrev pub witness_text_of : RecordedHistory → ℕ → List ℕ → Witness → List ℕ

@@ -4,6 +4,7 @@ pub mod Report
 pub mod Verdict
 pub mod ObjectAnswer
 pub mod ObjectFaults
+pub mod Known
 pub mod Explained
 pub mod Stored
 pub mod Each

@@ -10,5 +10,5 @@ use Rattle.lincheck.specs.declared.object_fault.ObjectFault.TheVariants.{Core, S
 
 -- Some of its calls that alone have none, or a get for whose reply the adds leave no room.
 abbrev pub IsFaultOf : Problem ObjState Op Reply → ObjectFault → Type 0
-IsFaultOf p (Core core) = IsCoreOf p core.event core.key core.values.items core.calls.items core.firsts.items
+IsFaultOf p (Core core) = IsCoreOf p core.from core.event core.key core.values.items core.calls.items core.firsts.items
 IsFaultOf p (Sums fault) = IsSumFault p fault

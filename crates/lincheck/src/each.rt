@@ -52,7 +52,13 @@ fn judge_each<R: AllocGlobal + Threads + Sync, G: Gate, W: Watcher>(
     let mut stored = Some(0);
     for object in 0..lists.len() {
         let indices = lists[object].as_slice();
-        let (answer, more) = judge_object(setting, history, object, indices, Question::Verdict)?;
+        let (answer, more, _witness) = judge_object(
+            setting,
+            history,
+            object,
+            indices,
+            Question::Verdict,
+        )?;
         stored = with_more(stored, more);
         statuses.push(status_by(&answer))?;
     }

@@ -9,16 +9,20 @@ ghost use Rattle.lin_history.specs.Problems.Lists.{IsLeast};
 ghost use Rattle.lin_workers.specs.Bounds.{Bounds as BoundsOf};
 ghost use Rattle.lin_workers.specs.Options.{bounds_of};
 ghost use Rattle.lin_workers.specs.Verdict.{IsNumberStored};
+ghost use Rattle.lincheck.specs.Explained.{IsWitness, IsWitnessIn};
 ghost use Rattle.lincheck.specs.ObjectAnswer.{IsObjectAnswer};
 ghost use Rattle.lincheck.specs.Stored.{IsStoredTold, judged_of};
 ghost use Rattle.lincheck.specs.Verdict.{AreLeastOf, IsVerdict};
 
 use crate::check_watcher::CheckWatcher;
+use crate::known::Known;
 use crate::listener::{Listener, NoListener};
 use crate::object_answer::{ObjectAnswer, Question};
-use crate::object_check::answer_object;
 use crate::setting::Setting;
+use crate::turns::answer_object;
 use crate::verdict::{Checked, Verdict};
+use crate::witness::witness_known;
+use lin_explain::Witness;
 use lin_history::{History, Order, join, place};
 use lin_workers::{Bounds, CheckFault, Gate, Options, Watcher};
 use std::alloc::{AllocError, Global};
@@ -27,26 +31,30 @@ use std::thread;
 use std::thread::Threads;
 use std::time::Clock;
 
-// The answer for the object of this index, whose calls have these indices; and how many configurations were stored. The part of
-// the history on it is made here, so that no other object's takes memory while it is searched.
+// The answer for the object of this index, whose calls have these indices; how many configurations were stored; and what is known
+// then to let a reader see that it has no order. The part of the history on it is made here, so that no other object's takes memory
+// while it is searched.
 pub(crate) fn judge_object<R: AllocGlobal + Threads + Sync, G: Gate, W: Watcher>(
     setting: &Setting<'_, '_, R, G, W>,
     history: &History,
     object: usize,
     indices: &[usize],
     question: Question,
-) -> Result<(ObjectAnswer, Option<u64>), AllocError>
+) -> Result<(ObjectAnswer, Option<u64>, Option<Witness>), AllocError>
     requires declared { object < length history.now.objects }
     requires indices { indices.now ≡ indices_from object 0 history.now.calls }
     ensures answer { IfOk result (λ judged. IsObjectAnswer (part_of history.now object) question
         setting.now.bounds judged.0) }
     ensures stored { IfOk result (λ judged. IsSomeAnd judged.1
         (IsNumberStored (part_of history.now object))) }
+    ensures witness { IfOk result (λ judged. IfSome judged.2 (IsWitness history.now object)) }
 {
     let problem = history.part(setting.rt.alloc(), object, indices)?;
     setting.bounds.watcher().begin(object, problem.len());
-    let (answer, stored) = answer_object(setting, &problem, question)?;
-    Ok((answer, Some(stored)))
+    let mut known = Known::nothing();
+    let (answer, stored) = answer_object(setting, &problem, question, &mut known)?;
+    let witness = witness_known(setting.rt.alloc(), history, object, &problem, known.fault)?;
+    Ok((answer, Some(stored), witness))
 }
 
 // The verdict on the history where the object of this index has no linearization, and each before has one.
@@ -115,15 +123,17 @@ pub(crate) fn with_more(stored: Option<u64>, more: Option<u64>) -> Option<u64>
     stored?.checked_add(more?)
 }
 
-// The verdict on a history, and how many configurations were stored up to there.
+// The verdict on a history, and how many configurations were stored up to there; and what is known then to let a reader see that the
+// object which it names has no order.
 fn judge<R: AllocGlobal + Threads + Sync, G: Gate, W: Watcher>(
     setting: &Setting<'_, '_, R, G, W>,
     history: &History,
-) -> Result<Checked, AllocError>
-    ensures verdict { IfOk result (λ checked. IsVerdict history.now setting.now.bounds
-        checked.verdict) }
-    ensures stored { IfOk result (λ checked. IsStoredTold history.now
-        (judged_of history.now checked.verdict) checked.stored) }
+) -> Result<(Checked, Option<Witness>), AllocError>
+    ensures verdict { IfOk result (λ judged. IsVerdict history.now setting.now.bounds
+        judged.0.verdict) }
+    ensures stored { IfOk result (λ judged. IsStoredTold history.now
+        (judged_of history.now judged.0.verdict) judged.0.stored) }
+    ensures witness { IfOk result (λ judged. IsWitnessIn history.now judged.0.verdict judged.1) }
 {
     let alloc = setting.rt.alloc();
     let lists = history.calls_by_object(alloc)?;
@@ -131,15 +141,21 @@ fn judge<R: AllocGlobal + Threads + Sync, G: Gate, W: Watcher>(
     let mut stored = Some(0);
     for object in 0..lists.len() {
         let indices = lists[object].as_slice();
-        let (answer, more) = judge_object(setting, history, object, indices, Question::LongestRun)?;
+        let (answer, more, witness) = judge_object(
+            setting,
+            history,
+            object,
+            indices,
+            Question::LongestRun,
+        )?;
         stored = with_more(stored, more);
         match order_or_end(alloc, history, object, answer)? {
             ControlFlow::Continue(order) => orders.push(order)?,
-            ControlFlow::Break(verdict) => return Ok(Checked { verdict, stored }),
+            ControlFlow::Break(verdict) => return Ok((Checked { verdict, stored }, witness)),
         }
     }
     let verdict = Verdict::Yes(join(alloc, history, orders.as_slice())?);
-    Ok(Checked { verdict, stored })
+    Ok((Checked { verdict, stored }, None))
 }
 
 // The options of a check on this machine: no more workers than it has cores for the program, unless the gate wants workers.
@@ -160,7 +176,7 @@ pub(crate) fn options_here<R: Threads, G: Gate>(rt: &R, options: &Options, gate:
 /// from the start of the check; a clock that fails ends nothing. Unless the gate wants workers, a map or a set is searched by key first
 /// (`search_by_key`), and of an object of which something is known ahead a first search is made (`search_first`); where that
 /// finds the order, nothing is stored for the object. Then the calling thread searches by itself, in turn with searches of prefixes
-/// (`search_in_rounds`, `longest_run_by_prefixes`); where its first turn stalls, a core is looked for (`core_of`). Where none of these
+/// (`longest_run_by_prefixes`); where its first turn stalls, a core is looked for (`core_of`). Where none of these
 /// answers, workers share the search, or the calling thread goes on where there is to be one worker. No more workers are started than
 /// the machine has cores for the program, however many the options say, unless the gate wants workers.
 ///
@@ -183,23 +199,25 @@ pub fn check<R: AllocGlobal + Threads + Clock + Sync, G: Gate>(
         (judged_of history.now checked.verdict) checked.stored) }
 {
     let watcher = CheckWatcher::new(rt, history, options, &NoListener);
-    check_watched(rt, history, options, gate, &watcher)
+    let (checked, _witness) = check_watched(rt, history, options, gate, &watcher)?;
+    Ok(checked)
 }
 
 /// Checks a history as `check` does, while a watcher is told how far it has come, and knows when the time is up: it began when the
-/// check did.
+/// check did. What is known then to let a reader see that the object which the verdict names has no order is told, too.
 pub(crate) fn check_watched<R: AllocGlobal + Threads + Clock + Sync, G: Gate, L: Listener + Sync>(
     rt: &R,
     history: &History,
     options: &Options,
     gate: &G,
     watcher: &CheckWatcher<'_, R, L>,
-) -> Result<Checked, CheckFault>
+) -> Result<(Checked, Option<Witness>), CheckFault>
     requires { watcher.now.seconds ≡ options.now.seconds }
-    ensures verdict { IfOk result (λ checked. IsVerdict history.now (bounds_of options.now)
-        checked.verdict) }
-    ensures stored { IfOk result (λ checked. IsStoredTold history.now
-        (judged_of history.now checked.verdict) checked.stored) }
+    ensures verdict { IfOk result (λ judged. IsVerdict history.now (bounds_of options.now)
+        judged.0.verdict) }
+    ensures stored { IfOk result (λ judged. IsStoredTold history.now
+        (judged_of history.now judged.0.verdict) judged.0.stored) }
+    ensures witness { IfOk result (λ judged. IsWitnessIn history.now judged.0.verdict judged.1) }
 {
     let setting = Setting {
         rt,
@@ -207,9 +225,9 @@ pub(crate) fn check_watched<R: AllocGlobal + Threads + Clock + Sync, G: Gate, L:
         bounds: Bounds::new(options.limit(), watcher),
         gate,
     };
-    let checked = judge(&setting, history)?;
+    let (checked, witness) = judge(&setting, history)?;
     if let Verdict::Undecided { .. } = checked.verdict {
         watcher.end_here();
     }
-    Ok(checked)
+    Ok((checked, witness))
 }

@@ -115,12 +115,13 @@ fn verdict_printed<R: AllocGlobal + Threads + Clock + Sync, L: Listener + Sync>(
         answer.1.items) }
 {
     let watcher = CheckWatcher::new(rt, history, options, listener);
-    let Ok(checked) = check_watched(rt, history, options, &FreeGate, &watcher) else {
+    let Ok((checked, known)) = check_watched(rt, history, options, &FreeGate, &watcher) else {
         return Err(AllocError);
     };
     watcher.begin_to_explain();
     let mut stop = UntilUp::new(&Bounds::new(None, &watcher));
-    let explained = report_explained(rt.alloc(), history, &checked.verdict, lines, &mut stop)?;
+    let verdict = &checked.verdict;
+    let explained = report_explained(rt.alloc(), history, verdict, known, lines, &mut stop)?;
     let printed = with_stats(rt.alloc(), explained, options.stats(), checked.stored)?;
     tell_if_empty(history, listener);
     Ok((status_of(&checked.verdict), printed))

@@ -1,12 +1,17 @@
 //! What lets a reader see that an object has no order, as it is shown.
 
-ghost use Rattle.std.specs.Prelude.{◌≡◌, Some, map, option_map, slice_get, IfOk};
+ghost use Rattle.std.specs.Prelude.{◌≡◌, Some, map, option_map, slice_get, IfOk, IfSome};
 ghost use Rattle.lin_history.specs.Recorder.Parts.{start_of, part_calls};
 ghost use Rattle.lin_history.specs.Problems.AnyProblem.{any_problem};
 ghost use Rattle.lincheck.specs.Explained.{told_in, shown_of, IsWitness};
+ghost use Rattle.lincheck.specs.Known.{IsSoughtOf};
+ghost use Rattle.lincheck.specs.ObjectFaults.{IsFaultOf};
 
+use crate::known::Sought;
 use crate::object_fault::{ObjectFault, fault_of_object};
 use lin_core::{Core, SumFault};
+use lin_decide::Ladder;
+use lin_effort::Work;
 use lin_explain::{CoreCall, ShownSums, Witness};
 use lin_history::{History, Problem};
 use lin_object::AnyObject;
@@ -15,7 +20,7 @@ use std::alloc::{AllocError, Global};
 
 // The call of this number, as the core takes it.
 fn told(problem: &Problem<AnyObject>, core: &Core, number: usize) -> CoreCall
-    ensures { result ≡ told_in (any_problem problem.now) core.now.event number }
+    ensures { result ≡ told_in (any_problem problem.now) core.now.from core.now.event number }
 {
     let is_pending = match problem.calls().get(number) {
         Some(call) => core.takes_as_pending(call),
@@ -35,7 +40,7 @@ fn told_of(
     numbers: &[usize],
 ) -> Result<Vec<CoreCall>, AllocError>
     ensures { IfOk result (λ calls. calls.items
-        ≡ map (told_in (any_problem problem.now) core.now.event) numbers.now) }
+        ≡ map (told_in (any_problem problem.now) core.now.from core.now.event) numbers.now) }
 {
     let mut calls = Vec::new(alloc);
     for number in numbers {
@@ -59,6 +64,54 @@ fn shown(fault: &SumFault) -> ShownSums
     }
 }
 
+// What this fault of the object is shown as.
+fn shown_fault(
+    alloc: Global,
+    history: &History,
+    object: usize,
+    problem: &Problem<AnyObject>,
+    fault: ObjectFault,
+) -> Result<Witness, AllocError>
+    requires start { option_map start_of (slice_get history.now.objects object)
+        ≡ Some problem.now.start }
+    requires calls { problem.now.calls ≡ part_calls history.now object }
+    requires fault { IsFaultOf (any_problem problem.now) fault }
+    ensures { IfOk result (λ witness. IsWitness history.now object witness) }
+{
+    match fault {
+        ObjectFault::Core(core) => {
+            let calls = told_of(alloc, problem, &core, core.calls.as_slice())?;
+            Ok(Witness::Core(core.from, calls))
+        }
+        ObjectFault::Sums(fault) => Ok(Witness::Sums(shown(&fault))),
+    }
+}
+
+/// What is known to let a reader see that the object of this index has no order, of which the problem is the part of the history on
+/// it; `None` where that was not looked for. `AllocError` where memory was refused.
+pub(crate) fn witness_known(
+    alloc: Global,
+    history: &History,
+    object: usize,
+    problem: &Problem<AnyObject>,
+    fault: Sought,
+) -> Result<Option<Witness>, AllocError>
+    requires start { option_map start_of (slice_get history.now.objects object)
+        ≡ Some problem.now.start }
+    requires calls { problem.now.calls ≡ part_calls history.now object }
+    requires fault { IsSoughtOf (any_problem problem.now) fault }
+    ensures { IfOk result (λ known. IfSome known (IsWitness history.now object)) }
+{
+    match fault {
+        Sought::NotYet => Ok(None),
+        Sought::InVain => Ok(Some(Witness::Nothing)),
+        Sought::Found(fault) => {
+            let witness = shown_fault(alloc, history, object, problem, fault)?;
+            Ok(Some(witness))
+        }
+    }
+}
+
 /// What lets a reader see that the object of this index has no order, of which the problem is the part of the history on it: the
 /// calls of a core, or a get for whose reply the adds leave no room; nothing where neither is found before the stop answers. `AllocError`
 /// where memory was refused.
@@ -74,12 +127,9 @@ pub(crate) fn witness_of<S: Stop>(
     requires calls { problem.now.calls ≡ part_calls history.now object }
     ensures { IfOk result (λ witness. IsWitness history.now object witness) }
 {
-    match fault_of_object(alloc, problem, stop)? {
-        Some(ObjectFault::Core(core)) => {
-            let calls = told_of(alloc, problem, &core, core.calls.as_slice())?;
-            Ok(Witness::Core(calls))
-        }
-        Some(ObjectFault::Sums(fault)) => Ok(Witness::Sums(shown(&fault))),
+    let mut ladder = Ladder::new(problem, Work::ANY, stop);
+    match fault_of_object(alloc, problem, &mut ladder)? {
+        Some(fault) => shown_fault(alloc, history, object, problem, fault),
         None => Ok(Witness::Nothing),
     }
 }

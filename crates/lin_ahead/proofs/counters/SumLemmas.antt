@@ -21,10 +21,11 @@ use Rattle.lin_history.specs.Problems.Linearizations.{IsLinearization}
 use Rattle.lin_search.specs.CallSetLemmas.{no_calls_has}
 use Rattle.lin_ahead.specs.declared.counters.rows.SumLimit.{SumLimit}
 use Rattle.lin_ahead.specs.declared.counters.rows.SumRows.{SumRows}
-use Rattle.lin_ahead.specs.Counters.Sums.{share_in, share_of, share_of_call, total, sum_of_shares, Got, IsLimit, AreLimits, row_of, IsLoad, NoneIsOver}
+use Rattle.lin_ahead.specs.Counters.Sums.{Got, IsLimit, AreLimits, row_of, IsLoad, NoneIsOver}
+use Rattle.lin_laws.specs.Shares.{share_in, share_of, share_of_call, total, sum_of_shares}
 use Rattle.lin_ahead.proofs.items.ChainLemmas.{legal_split}
 use Rattle.lin_ahead.proofs.first.PlaceLemmas.{not_in_front}
-use Rattle.lin_ahead.specs.Exact.{IsExact}
+use Rattle.lin_laws.specs.Exact.{IsExact}
 
 -- ---- sums over lists
 

@@ -8,7 +8,8 @@ use Rattle.lin_history.specs.Problems.Problem.{Problem}
 use Rattle.lin_history.specs.Problems.ListLemmas.{in_either}
 use Rattle.lin_history.specs.Problems.Precedence.{Before}
 use Rattle.lin_history.specs.Problems.Continuations.{has}
-use Rattle.lin_ahead.specs.Counters.Sums.{share_of_call, AddFreely, IsFreeShare, IsLiftedShare, IsLoad}
+use Rattle.lin_ahead.specs.Counters.Sums.{AddFreely, IsFreeShare, IsLiftedShare, IsLoad}
+use Rattle.lin_laws.specs.Shares.{share_of_call}
 use Rattle.lin_ahead.proofs.counters.SumLemmas.{total_append, distinct_both}
 
 module _ (p : Problem ObjState Op Reply) (set : List Bool) (up : Bool) (g c : ℕ) where

@@ -20,7 +20,8 @@ use Rattle.lin_history.specs.Problems.Lists.{In, IsDistinct}
 use Rattle.lin_history.specs.Problems.Precedence.{Before, IsCompleted}
 use Rattle.lin_history.specs.Problems.Timeline.{IsTimeline}
 use Rattle.lin_ahead.specs.declared.counters.rows.SumLimit.{SumLimit}
-use Rattle.lin_ahead.specs.Counters.Sums.{share_of_call, sum_of_shares, IsSumOfAll, MayStandBefore, Got, IsLimit, IsLimitOf, AreLimits, event_of, counted, AreSumsAt}
+use Rattle.lin_ahead.specs.Counters.Sums.{IsSumOfAll, MayStandBefore, Got, IsLimit, IsLimitOf, AreLimits, event_of, counted, AreSumsAt}
+use Rattle.lin_laws.specs.Shares.{share_of_call, sum_of_shares}
 use Rattle.lin_ahead.proofs.counters.SumLemmas.{total_append}
 
 -- ---- elements of lists

@@ -18,10 +18,11 @@ use Rattle.lin_history.specs.Problems.Continuations.{has, IsCompletion}
 use Rattle.lin_ahead.specs.First.FirstProgress.{BeginsNone}
 use Rattle.lin_ahead.specs.Items.Numbers.{ReturnsAt, CalledFrom}
 use Rattle.lin_ahead.specs.Queues.Queue.{Item}
-use Rattle.lin_ahead.specs.Stacks.Stack.{Pushes, Popped, FoundEmpty}
+use Rattle.lin_ahead.specs.Stacks.Stack.{FoundEmpty}
+use Rattle.lin_laws.specs.Items.{Pushes, Popped}
 use Rattle.lin_ahead.proofs.stacks.AboveLemmas.{LiesStill, lies_or_popped, pushed_above, aboves}
 use Rattle.lin_ahead.proofs.first.PlaceLemmas.{not_in_front, not_empty}
-use Rattle.lin_ahead.specs.Exact.{IsExact}
+use Rattle.lin_laws.specs.Exact.{IsExact}
 use Rattle.lin_ahead.proofs.stacks.StackLemmas.{MayPop, LeavesBelow, IsPopped, IsPoppedBy, call_moves, push_is_no_pop, one_item, after_push, one_popper}
 
 module _ (p : Problem ObjState Op Reply) (set : List Bool) where

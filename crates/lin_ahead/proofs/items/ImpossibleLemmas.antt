@@ -16,13 +16,13 @@ use Rattle.lin_history.specs.Problems.Precedence.{Before}
 use Rattle.lin_history.specs.Problems.Linearizations.{IsRun, IsLinearization}
 use Rattle.lin_history.specs.Problems.AnyProblem.{any_problem}
 use Rattle.lin_ahead.specs.Items.Impossible.{CameTooEarly}
-use Rattle.lin_ahead.specs.Queues.Queue.{IsOfQueue, Puts, Took}
-use Rattle.lin_ahead.specs.Stacks.Stack.{Pushes, Popped}
+use Rattle.lin_ahead.specs.Queues.Queue.{IsOfQueue}
+use Rattle.lin_laws.specs.Items.{Puts, Took, Pushes, Popped}
 use Rattle.lin_ahead.proofs.queues.AnyLemmas.{of_any}
 use Rattle.lin_ahead.proofs.items.ChainLemmas.{legal_split}
 use Rattle.lin_ahead.proofs.first.NeedsLemmas.{not_before, stands}
 use Rattle.lin_ahead.proofs.queues.QueueLemmas.{moment, put_place, queue_answered, replied}
-use Rattle.lin_ahead.specs.Exact.{IsExact}
+use Rattle.lin_laws.specs.Exact.{IsExact}
 use Rattle.lin_ahead.proofs.stacks.StackLemmas.{NeverThere, never_there, push_is_no_pop}
 
 -- of a queue

@@ -17,7 +17,8 @@ use Rattle.lin_history.specs.Problems.Precedence.{Before}
 use Rattle.lin_ahead.specs.declared.items.item_calls.Callers.{Callers}
 use Rattle.lin_ahead.specs.declared.items.item_calls.Callers.TheVariants.{Nobody, One, Several}
 use Rattle.lin_ahead.specs.Items.ItemCalls.{one_more, is_of}
-use Rattle.lin_ahead.specs.Items.Impossible.{AddsItem, CameTooEarly, IsTakenTwice, TookAgain, TookItem, added_from, added_next, adders_of, are_several, callers_from, callers_next, earlier, first_added, is_early, item_added, item_dequeued, item_out, item_popped, takers_of}
+use Rattle.lin_ahead.specs.Items.Impossible.{CameTooEarly, IsTakenTwice, TookAgain, TookItem, added_from, added_next, adders_of, are_several, callers_from, callers_next, earlier, first_added, is_early, item_added, item_dequeued, item_out, item_popped, takers_of}
+use Rattle.lin_laws.specs.Items.{AddsItem}
 
 -- ---- the item of a call
 

@@ -10,8 +10,9 @@ use Rattle.lin_history.specs.Problems.Lists.{In}
 use Rattle.lin_history.specs.Problems.LegalLists.{Legal}
 use Rattle.lin_history.specs.Problems.Continuations.{has}
 use Rattle.lin_ahead.specs.Queues.Queue.{Item}
-use Rattle.lin_ahead.specs.Stacks.Stack.{Pushes, Popped, OnlyPushes}
-use Rattle.lin_ahead.specs.Exact.{IsExact}
+use Rattle.lin_ahead.specs.Stacks.Stack.{OnlyPushes}
+use Rattle.lin_laws.specs.Items.{Pushes, Popped}
+use Rattle.lin_laws.specs.Exact.{IsExact}
 use Rattle.lin_ahead.proofs.stacks.StackLemmas.{NeverThere, never_there, inside_stack}
 
 pub there_once : (p : Problem ObjState Op Reply) → IsExact p → (start : List ℤ) → p.start ≡ Stack start → (set : List Bool) (items : List ℤ) (l : List ℕ) → Legal p p.start l (Stack items) → ((d : ℕ) → (has set d ≡ true → In d l) × (In d l → has set d ≡ true)) → (c : ℕ) (v : ℤ) → Pushes p c v → has set c ≡ false → OnlyPushes p c v → (Item v start → ⊥) → (Item v items → ⊥) × ((j : ℕ) → Popped p j v → has set j ≡ false)

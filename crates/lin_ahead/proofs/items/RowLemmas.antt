@@ -11,7 +11,8 @@ use Rattle.lin_history.specs.declared.problems.problem.ProblemCall.{ProblemCall}
 use Rattle.lin_history.specs.Problems.Problem.{Problem}
 use Rattle.lin_history.specs.Problems.ProblemParts.{AreTimed}
 use Rattle.lin_ahead.specs.declared.items.item_calls.TheConstants.{BEYOND}
-use Rattle.lin_ahead.specs.Queues.Queue.{Puts, Took, MayTake}
+use Rattle.lin_ahead.specs.Queues.Queue.{MayTake}
+use Rattle.lin_laws.specs.Items.{Puts, Took}
 use Rattle.lin_ahead.specs.Items.Numbers.{ReturnsAt, CalledFrom, IsBy, IsFrom}
 use Rattle.lin_ahead.specs.Items.ItemCalls.{goes_in_once, nothing_told, told, least_pending}
 use Rattle.lin_ahead.specs.Items.CallNumbers.{by_item, from_item, by_number, from_number, by_row, from_row}

@@ -24,12 +24,14 @@ use Rattle.lin_search.specs.NextCall.{IsNext}
 use Rattle.lin_ahead.specs.First.FirstProgress.{BeginsNone}
 use Rattle.lin_ahead.specs.Items.ItemCalls.{goes_in_once, nothing_told, told}
 use Rattle.lin_ahead.proofs.items.ToldLemmas.{one_alone, taken_by}
-use Rattle.lin_ahead.specs.Queues.Queue.{Item, IsOfQueue, Puts, Took, OnlyPuts}
-use Rattle.lin_ahead.specs.Items.Takers.{queue_of, AreApart, is_left, counted, is_left_by, left_from, IsLost, IsTakerLeft, AreFewer, GoesBefore, AreLostBefore, AreTooFew, FindsGone, LacksTakers}
+use Rattle.lin_ahead.specs.Queues.Queue.{Item, IsOfQueue, OnlyPuts}
+use Rattle.lin_laws.specs.Items.{Puts, Took}
+use Rattle.lin_ahead.specs.Items.Takers.{queue_of, AreApart, is_left, is_left_by, left_from, IsLost, IsTakerLeft, AreFewer, GoesBefore, AreLostBefore, AreTooFew, FindsGone, LacksTakers}
+use Rattle.lin_laws.specs.Counting.{counted}
 use Rattle.lin_ahead.specs.Queues.ToldOfQueue.{takers_from, IsTaker}
 use Rattle.lin_ahead.specs.Items.Late.{ReturnsOutside}
 use Rattle.lin_ahead.proofs.queues.AheadLemmas.{every_taker}
-use Rattle.lin_ahead.specs.AnswerLemmas.{Is}
+use Rattle.lin_laws.specs.AnswerLemmas.{Is}
 use Rattle.lin_ahead.proofs.queues.QueueLemmas.{Item_early, Item_late, Item_either, item_split, QueueStep, queue_leaves, queue_answered, queue_empty, stepped, has_call, only_dequeues, fits_recorded, puts_by, puts, chain, put_place, put_there, legal_split, replied, took_completed}
 use Rattle.lin_ahead.proofs.first.PlaceLemmas.{not_in_front}
 

@@ -15,15 +15,16 @@ use Rattle.lin_history.specs.Problems.Precedence.{IsCompleted}
 use Rattle.lin_history.specs.Problems.Linearizations.{IsRun, IsLinearization}
 use Rattle.lin_history.specs.Problems.AnyProblem.{any_problem}
 use Rattle.lin_ahead.specs.Items.Impossible.{IsTakenTwice}
-use Rattle.lin_ahead.specs.Queues.Queue.{Item, Took}
-use Rattle.lin_ahead.specs.Stacks.Stack.{Popped, PushedOnce}
+use Rattle.lin_ahead.specs.Queues.Queue.{Item}
+use Rattle.lin_laws.specs.Items.{Took, Popped}
+use Rattle.lin_ahead.specs.Stacks.Stack.{PushedOnce}
 use Rattle.lin_ahead.proofs.queues.AnyLemmas.{of_any}
 use Rattle.lin_ahead.proofs.items.ChainLemmas.{legal_split}
 use Rattle.lin_ahead.proofs.first.NeedsLemmas.{place_split, stands}
 use Rattle.lin_ahead.proofs.stacks.OwedStackLemmas.{still_stack, item_at}
 use Rattle.lin_ahead.proofs.first.PlaceLemmas.{distinct_late}
 use Rattle.lin_ahead.proofs.queues.QueueLemmas.{not_taken_again}
-use Rattle.lin_ahead.specs.Exact.{IsExact}
+use Rattle.lin_laws.specs.Exact.{IsExact}
 use Rattle.lin_ahead.proofs.stacks.StackLemmas.{IsPoppedBy, WasPushed, pops_top, top_of, one_popper}
 
 module _ {State Op Reply : Type 0} (p : Problem State Op Reply) where

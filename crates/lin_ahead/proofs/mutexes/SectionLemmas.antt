@@ -24,10 +24,12 @@ use Rattle.lin_history.specs.Problems.Continuations.{has, no_calls, IsContinuati
 use Rattle.lin_history.specs.Problems.Linearizations.{IsLinearization, IsRun}
 use Rattle.lin_history.specs.Problems.AnyProblem.{any_problem}
 use Rattle.lin_ahead.specs.First.FirstProgress.{BeginsNone}
-use Rattle.lin_ahead.specs.Mutexes.Acquires.{AreInTurn, acquired, IsAcquire, takes_if_free, ReturnsFrom, UnlocksBetween}
+use Rattle.lin_ahead.specs.Mutexes.Acquires.{acquired, IsAcquire, takes_if_free, ReturnsFrom, UnlocksBetween}
+use Rattle.lin_laws.specs.InTurn.{AreInTurn}
 use Rattle.lin_ahead.specs.Mutexes.Sections.{SomeHoldTogether}
 use Rattle.lin_ahead.specs.Mutexes.Strays.{UnlocksFor}
-use Rattle.lin_ahead.specs.Mutexes.HeldUntil.{TookFor, IsNextUnlock, IsHeldUntil, AreHeldUntil, AreStandIns, took}
+use Rattle.lin_ahead.specs.Mutexes.HeldUntil.{TookFor, IsNextUnlock, IsHeldUntil, AreHeldUntil, took}
+use Rattle.lin_laws.specs.StandIns.{AreStandIns}
 use Rattle.lin_ahead.proofs.mutexes.StepLemmas.{none_some, not_refused, no_unlock, no_taker, acquired_then, acquired_finds, acquired_free, takes, taken, held_step, took_acquires, took_takes, try_fails}
 
 three : (i j : ℕ) → (i < j) ⊎ ((i ≡ j) ⊎ (j < i))

@@ -21,7 +21,8 @@ use Rattle.lin_history.specs.Problems.LegalLists.{after_call, fits, state_if_fit
 use Rattle.lin_history.specs.Problems.Precedence.{Before}
 use Rattle.lin_history.specs.Problems.Linearizations.{IsLinearization}
 use Rattle.lin_history.specs.Problems.AnyProblem.{any_problem}
-use Rattle.lin_ahead.specs.Mutexes.Acquires.{AreInTurn, acquired, takes_if_free}
+use Rattle.lin_ahead.specs.Mutexes.Acquires.{acquired, takes_if_free}
+use Rattle.lin_laws.specs.InTurn.{AreInTurn}
 use Rattle.lin_ahead.specs.Mutexes.Strays.{UnlocksFor, HoldsAfter, SomeIsStray}
 use Rattle.lin_ahead.proofs.mutexes.StepLemmas.{none_some, fits_then, held_step}
 

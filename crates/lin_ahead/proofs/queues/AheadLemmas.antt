@@ -21,7 +21,8 @@ use Rattle.lin_ahead.specs.Behind.{AreNeedsBehind, IsRightOfQueue, NeedsBehind}
 use Rattle.lin_ahead.specs.Items.CallNumbers.{by_row, from_row}
 use Rattle.lin_ahead.specs.Queues.ToldOfQueue.{took_once, once_row, taken_number, taken_row, is_taker, takers_from, PutOnce, IsTaker, AreLateEnqueues, IsToldOfQueue}
 use Rattle.lin_ahead.specs.declared.queues.rows.QueueAhead.{QueueAhead}
-use Rattle.lin_ahead.specs.Queues.Queue.{Puts, Took, OnlyPuts}
+use Rattle.lin_ahead.specs.Queues.Queue.{OnlyPuts}
+use Rattle.lin_laws.specs.Items.{Puts, Took}
 use Rattle.lin_history.specs.ReplyLemmas.{reply_same}
 use Rattle.lin_ahead.proofs.queues.AnyLemmas.{of_any, known}
 use Rattle.lin_ahead.proofs.items.ExactLemmas.{alone, below_takers, are_numbers}

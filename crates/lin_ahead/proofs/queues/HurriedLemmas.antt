@@ -17,10 +17,12 @@ use Rattle.lin_history.specs.Problems.ListLemmas.{distinct_early, in_early, in_e
 use Rattle.lin_history.specs.Problems.LegalLists.{Legal}
 use Rattle.lin_history.specs.Problems.Continuations.{has, IsCompletion}
 use Rattle.lin_ahead.specs.First.FirstProgress.{BeginsNone}
-use Rattle.lin_ahead.specs.Queues.Queue.{IsOfQueue, Puts}
-use Rattle.lin_ahead.specs.Queues.Slots.{calls_on, taken_at, taker_at, how_many}
+use Rattle.lin_ahead.specs.Queues.Queue.{IsOfQueue}
+use Rattle.lin_laws.specs.Items.{Puts}
+use Rattle.lin_ahead.specs.Queues.Slots.{calls_on, taken_at, taker_at}
 use Rattle.lin_ahead.specs.Queues.Hurried.{times, times_until, left_taken, left_taken_after, left_takers, ComesHurried}
-use Rattle.lin_ahead.specs.Items.Takers.{counted, called_by}
+use Rattle.lin_ahead.specs.Items.Takers.{called_by}
+use Rattle.lin_laws.specs.Counting.{counted, how_many}
 use Rattle.lin_ahead.proofs.items.TakerLemmas.{both_true}
 use Rattle.lin_ahead.proofs.queues.QueueLemmas.{has_call, puts_by, puts, legal_split, took_completed}
 use Rattle.lin_ahead.proofs.queues.SlotLemmas.{no_fewer, on_distinct, times_joined, times_own, two_fronts, counted_more, and_parts, DoneBy, taken_tells, taker_is_on, may_at, Split, split_at, is_before, Outs, outs, joined_puts, no_later}

@@ -9,7 +9,8 @@ use Rattle.lin_history.specs.declared.problems.problem.ProblemCall.{ProblemCall}
 use Rattle.lin_history.specs.Problems.Problem.{Problem}
 use Rattle.lin_history.specs.Problems.Precedence.{Before}
 use Rattle.lin_history.specs.Problems.Needs.{Needs}
-use Rattle.lin_ahead.specs.Queues.Queue.{IsOfQueue, Puts, Took, MayTake, IsTakenAfter}
+use Rattle.lin_ahead.specs.Queues.Queue.{IsOfQueue, MayTake, IsTakenAfter}
+use Rattle.lin_laws.specs.Items.{Puts, Took}
 use Rattle.lin_object.specs.declared.reply.Reply.TheVariants.{Int}
 use Rattle.lin_history.specs.Problems.Lists.{In}
 use Rattle.lin_ahead.proofs.queues.QueueLemmas.{queue_needs_item, queue_needs_empty, behind_item, behind_empty}

@@ -17,7 +17,8 @@ use Rattle.lin_history.specs.Problems.Linearizations.{IsRun, IsLinearization}
 use Rattle.lin_ahead.specs.declared.items.late_pushes.LateRows.{LateRows}
 use Rattle.lin_ahead.specs.Items.Late.{LeadsBeyond, NoneIsLate}
 use Rattle.lin_ahead.specs.Items.Numbers.{ReturnsAt, CalledFrom, IsFrom}
-use Rattle.lin_ahead.specs.Queues.Queue.{Item, IsOfQueue, Puts, Took, FoundEmpty}
+use Rattle.lin_ahead.specs.Queues.Queue.{Item, IsOfQueue, FoundEmpty}
+use Rattle.lin_laws.specs.Items.{Puts, Took}
 use Rattle.lin_ahead.specs.Queues.ToldOfQueue.{queue_empty, AreLateEnqueues}
 use Rattle.lin_ahead.proofs.items.ChainLemmas.{before_by}
 use Rattle.lin_ahead.proofs.first.NeedsLemmas.{not_before, place_split, stands}

@@ -16,10 +16,11 @@ use Rattle.lin_history.specs.Problems.LegalLists.{fits, state_if_fits, next, Leg
 use Rattle.lin_history.specs.Problems.Precedence.{Before, IsCompleted}
 use Rattle.lin_history.specs.Problems.Linearizations.{IsRun, IsLinearization}
 use Rattle.lin_history.specs.Problems.Needs.{Needs}
-use Rattle.lin_ahead.specs.Queues.Queue.{Item, IsOfQueue, Puts, Took, FoundEmpty, MayTake, OnlyPuts, IsTakenAfter}
+use Rattle.lin_ahead.specs.Queues.Queue.{Item, IsOfQueue, FoundEmpty, MayTake, OnlyPuts, IsTakenAfter}
+use Rattle.lin_laws.specs.Items.{Puts, Took}
 use Rattle.lin_ahead.specs.Items.Owed.{IsOwed}
 use Rattle.lin_ahead.specs.Queues.ToldOfQueue.{PutOnce}
-use Rattle.lin_ahead.specs.AnswerLemmas.{Is, state_of, reply_of, fits_some}
+use Rattle.lin_laws.specs.AnswerLemmas.{Is, state_of, reply_of, fits_some}
 use Rattle.lin_ahead.proofs.first.NeedsLemmas.{not_before, place_split, stands}
 
 -- ---- items

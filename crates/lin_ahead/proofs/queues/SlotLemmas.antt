@@ -20,17 +20,19 @@ use Rattle.lin_history.specs.Problems.LegalLists.{next, Legal}
 use Rattle.lin_history.specs.Problems.Precedence.{Before}
 use Rattle.lin_history.specs.Problems.Continuations.{has}
 use Rattle.lin_history.specs.Problems.Linearizations.{IsRun, IsLinearization}
-use Rattle.lin_ahead.specs.Queues.Queue.{IsOfQueue, Puts}
+use Rattle.lin_ahead.specs.Queues.Queue.{IsOfQueue}
+use Rattle.lin_laws.specs.Items.{Puts}
 use Rattle.lin_ahead.specs.First.FirstProgress.{BeginsNone}
 use Rattle.lin_history.specs.Problems.Configurations.{IsReachable}
 use Rattle.lin_search.specs.AlikeLemmas.{AreAlike}
-use Rattle.lin_ahead.specs.Queues.Slots.{FoundEmptyBy, ComesTooEarly, LacksEnqueues, put_by, called_puts, puts_it, may_take, concerns, calls_on, put_at, taker_at, took_by, taken_at, how_many, lifted_puts, takers_by, taken_by}
-use Rattle.lin_ahead.specs.Items.Takers.{counted, called_by}
+use Rattle.lin_ahead.specs.Queues.Slots.{FoundEmptyBy, ComesTooEarly, LacksEnqueues, put_by, called_puts, puts_it, may_take, concerns, calls_on, put_at, taker_at, took_by, taken_at, lifted_puts, takers_by, taken_by}
+use Rattle.lin_ahead.specs.Items.Takers.{called_by}
+use Rattle.lin_laws.specs.Counting.{counted, how_many}
 use Rattle.lin_ahead.specs.Queues.Hurried.{times}
 use Rattle.lin_ahead.proofs.items.TakerLemmas.{without_call, both_true}
 use Rattle.lin_ahead.proofs.queues.QueueLemmas.{QueueStep, queue_leaves, queue_empty, replied, stepped, has_call, fits_recorded, puts_by, puts, chain, legal_split, took_completed}
 use Rattle.lin_history.specs.Problems.LegalLists.{fits}
-use Rattle.lin_ahead.specs.AnswerLemmas.{Is}
+use Rattle.lin_laws.specs.AnswerLemmas.{Is}
 use Rattle.lin_ahead.proofs.first.NeedsLemmas.{not_before, stands, joined}
 
 -- ---- how many calls of a list are so

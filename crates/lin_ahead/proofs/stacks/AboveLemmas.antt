@@ -8,9 +8,9 @@ use Rattle.lin_object.specs.declared.state.ObjState.TheVariants.{Stack}
 use Rattle.lin_history.specs.Problems.Problem.{Problem}
 use Rattle.lin_history.specs.Problems.Lists.{In}
 use Rattle.lin_history.specs.Problems.LegalLists.{next, Legal}
-use Rattle.lin_ahead.specs.Stacks.Stack.{Pushes}
+use Rattle.lin_laws.specs.Items.{Pushes}
 use Rattle.lin_ahead.proofs.first.PlaceLemmas.{not_within, not_empty, put_on, taken_off}
-use Rattle.lin_ahead.specs.Exact.{IsExact}
+use Rattle.lin_laws.specs.Exact.{IsExact}
 use Rattle.lin_ahead.proofs.stacks.StackLemmas.{MayPop, LeavesBelow, IsPopped, IsPoppedBy, call_moves, after_push, inside_stack, leaves_legal}
 
 module _ (p : Problem ObjState Op Reply) (exact : IsExact p) where

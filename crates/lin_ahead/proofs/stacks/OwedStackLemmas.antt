@@ -16,8 +16,9 @@ use Rattle.lin_history.specs.Problems.Precedence.{IsCompleted}
 use Rattle.lin_search.specs.CallSetLemmas.{no_calls_has}
 use Rattle.lin_ahead.specs.Queues.Queue.{Item}
 use Rattle.lin_ahead.specs.Items.Owed.{IsOwed}
-use Rattle.lin_ahead.specs.Stacks.Stack.{Popped, PushedOnce}
-use Rattle.lin_ahead.specs.Exact.{IsExact}
+use Rattle.lin_ahead.specs.Stacks.Stack.{PushedOnce}
+use Rattle.lin_laws.specs.Items.{Popped}
+use Rattle.lin_laws.specs.Exact.{IsExact}
 use Rattle.lin_ahead.proofs.stacks.StackLemmas.{IsPoppedBy, only_pops, call_moves, push_is_no_pop, legal_rest, WasPushed, top_of, one_popper}
 
 module _ (p : Problem ObjState Op Reply) (exact : IsExact p) where

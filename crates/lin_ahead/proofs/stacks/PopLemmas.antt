@@ -21,9 +21,10 @@ use Rattle.lin_search.specs.NextCall.{IsNext}
 use Rattle.lin_ahead.specs.First.FirstProgress.{BeginsNone}
 use Rattle.lin_ahead.specs.Items.Late.{ReturnsOutside}
 use Rattle.lin_ahead.specs.Items.ItemCalls.{goes_in_once, told}
-use Rattle.lin_ahead.specs.Queues.Queue.{Item, Puts, Took}
+use Rattle.lin_ahead.specs.Queues.Queue.{Item}
+use Rattle.lin_laws.specs.Items.{Puts, Took, Pushes, Popped}
 use Rattle.lin_ahead.specs.Queues.Queue as on_queues
-use Rattle.lin_ahead.specs.Stacks.Stack.{Pushes, Popped, FoundEmpty}
+use Rattle.lin_ahead.specs.Stacks.Stack.{FoundEmpty}
 use Rattle.lin_ahead.specs.Stacks.StackTakers.{on_queue, LieAbove, TookLifted, FindsGoneAbove, StandsBy, LacksPops}
 use Rattle.lin_ahead.specs.Items.Takers.{queue_of, AreApart, is_left, IsLost, IsTakerLeft, GoesBefore, AreTooFew}
 use Rattle.lin_ahead.specs.Queues.ToldOfQueue.{IsTaker}
@@ -34,7 +35,7 @@ use Rattle.lin_ahead.proofs.stacks.OwedStackLemmas.{still_stack, item_at}
 use Rattle.lin_ahead.proofs.first.PlaceLemmas.{put_on, taken_off}
 use Rattle.lin_ahead.proofs.queues.QueueLemmas.{Item_late, Item_either, Item_place, item_split}
 use Rattle.lin_ahead.proofs.items.RowLemmas.{through, seen_through}
-use Rattle.lin_ahead.specs.Exact.{IsExact}
+use Rattle.lin_laws.specs.Exact.{IsExact}
 use Rattle.lin_ahead.proofs.stacks.StackLemmas.{MayPop, LeavesBelow, call_moves, push_is_no_pop, one_item, inside_stack, leaves_legal, legal_rest, never_there, pops_top}
 use Rattle.lin_ahead.proofs.stacks.StackRowLemmas.{op_of, pushes_puts, puts_pushes, popped_took, took_popped}
 use Rattle.lin_ahead.proofs.items.TakerLemmas.{once_is, left_is, left_tells, among_false, among_value, without_one, both_true, in_front, distinct, outside, called}

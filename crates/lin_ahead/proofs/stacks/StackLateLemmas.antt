@@ -27,8 +27,9 @@ use Rattle.lin_ahead.specs.Behind.{IsRightOfStack}
 use Rattle.lin_ahead.specs.Items.ItemCalls.{told, told_in}
 use Rattle.lin_ahead.specs.Items.Late.{LeadsBeyond, IsLate, NoneIsLate}
 use Rattle.lin_ahead.specs.Items.Numbers.{ReturnsAt, CalledFrom, IsFrom}
-use Rattle.lin_ahead.specs.Queues.Queue.{Item, Took, MayTake, OnlyPuts}
-use Rattle.lin_ahead.specs.Stacks.Stack.{Pushes, Popped, FoundEmpty, OnlyPushes}
+use Rattle.lin_ahead.specs.Queues.Queue.{Item, MayTake, OnlyPuts}
+use Rattle.lin_laws.specs.Items.{Took, Pushes, Popped}
+use Rattle.lin_ahead.specs.Stacks.Stack.{FoundEmpty, OnlyPushes}
 use Rattle.lin_ahead.specs.Queues.ToldOfQueue.{takers_from}
 use Rattle.lin_ahead.specs.Stacks.ToldOfStack.{exchanged_op, exchanged_call, exchanged_calls, popped_once_row, found_empty, found_empty_row, AreLateRows}
 use Rattle.lin_ahead.proofs.items.ChainLemmas.{IsPoppedFrom, IsDeadlineAt, IsHeldFrom, HeldRules, numbers, legal_split}
@@ -36,7 +37,7 @@ use Rattle.lin_ahead.proofs.items.OnceLemmas.{there_once}
 use Rattle.lin_ahead.proofs.stacks.OwedStackLemmas.{still_stack}
 use Rattle.lin_ahead.proofs.first.PlaceLemmas.{distinct_late}
 use Rattle.lin_ahead.proofs.items.RowLemmas.{through, seen_through, from_row_is}
-use Rattle.lin_ahead.specs.Exact.{IsExact}
+use Rattle.lin_laws.specs.Exact.{IsExact}
 use Rattle.lin_ahead.proofs.stacks.StackLemmas.{MayPop}
 use Rattle.lin_ahead.proofs.stacks.StackRowLemmas.{as_queue, pushes_puts, puts_pushes, took_popped, exact_any, are_owed}
 

@@ -14,9 +14,9 @@ use Rattle.lin_history.specs.Problems.Lists.{In, IsDistinct}
 use Rattle.lin_history.specs.Problems.ListLemmas.{in_early, in_either, in_late}
 use Rattle.lin_history.specs.Problems.LegalLists.{fits, state_if_fits, next, Legal}
 use Rattle.lin_ahead.specs.Queues.Queue.{Item}
-use Rattle.lin_ahead.specs.Stacks.Stack.{Pushes, Popped}
-use Rattle.lin_ahead.specs.Exact.{IsExact}
-use Rattle.lin_ahead.specs.AnswerLemmas.{Is, state_of, reply_of, fits_some}
+use Rattle.lin_laws.specs.Items.{Pushes, Popped}
+use Rattle.lin_laws.specs.Exact.{IsExact}
+use Rattle.lin_laws.specs.AnswerLemmas.{Is, state_of, reply_of, fits_some}
 use Rattle.lin_ahead.proofs.first.PlaceLemmas.{not_in_front, distinct_late, not_within, not_empty, put_on, taken_off}
 
 module _ (p : Problem ObjState Op Reply) where

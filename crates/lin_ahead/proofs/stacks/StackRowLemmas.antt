@@ -14,15 +14,15 @@ use Rattle.lin_history.specs.Problems.Problem.{Problem}
 use Rattle.lin_ahead.specs.declared.stacks.rows.StackAhead.{StackAhead}
 use Rattle.lin_history.specs.Problems.AnyProblem.{any_problem}
 use Rattle.lin_ahead.specs.Items.Owed.{HasReply, IsOwed, AreOwed}
-use Rattle.lin_ahead.specs.Queues.Queue.{Puts, Took}
-use Rattle.lin_ahead.specs.Stacks.Stack.{Pushes, Popped, PushedOnce, OnlyPushes}
+use Rattle.lin_laws.specs.Items.{Puts, Took, Pushes, Popped}
+use Rattle.lin_ahead.specs.Stacks.Stack.{PushedOnce, OnlyPushes}
 use Rattle.lin_ahead.specs.Queues.ToldOfQueue.{takers_from}
 use Rattle.lin_ahead.specs.Stacks.ToldOfStack.{exchanged_op, exchanged_call, exchanged_calls, popped_once_row, AreLateRows, IsToldOfStack}
 use Rattle.lin_ahead.proofs.queues.AheadLemmas.{flagged_took, took_flagged}
 use Rattle.lin_history.specs.ReplyLemmas.{reply_same}
 use Rattle.lin_ahead.proofs.stacks.OwedStackLemmas.{owed_top}
 use Rattle.lin_ahead.proofs.items.RowLemmas.{through, seen_through}
-use Rattle.lin_ahead.specs.Exact.{IsExact}
+use Rattle.lin_laws.specs.Exact.{IsExact}
 use Rattle.lin_ahead.proofs.items.ToldLemmas.{same_reply}
 
 -- ---- calls on a stack as those on a queue

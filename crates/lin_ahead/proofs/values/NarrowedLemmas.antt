@@ -1,5 +1,5 @@
 -- Rows of owners stay right where owners are taken out that would cross a cluster, or be parted.
-use Rattle.std.proofs.Common.{◌≡◌, ℕ, suc, ◌+◌, ◌<◌, ◌≤◌, Bool, true, false, true≢false, Some, List, [], ◌∷◌, ◌++◌, length, ◌⊎◌, inl, inr, refl, sym, ◌∙◌, ap, subst, arith}
+use Rattle.std.proofs.Common.{◌≡◌, ℕ, zero, suc, ◌+◌, ◌<◌, ◌≤◌, Bool, true, false, true≢false, Some, List, [], ◌∷◌, ◌++◌, length, ◌⊎◌, inl, inr, refl, sym, ◌∙◌, ap, subst, arith}
 use Rattle.std.specs.Prelude.{ℤ, slice_get, slice_set, IsTrue}
 use Rattle.std.proofs.lemmas.Bool.{cases_lt}
 use Rattle.std.proofs.lemmas.Option.{slice_get_within}
@@ -15,7 +15,7 @@ use Rattle.lin_history.specs.Problems.Linearizations.{IsLinearization}
 use Rattle.lin_ahead.specs.declared.values.owners.Owners.{Owners}
 use Rattle.lin_ahead.specs.Values.Register.{IsOfRegister, value_found}
 use Rattle.lin_ahead.specs.Values.Owners.{Leaves, LastChange, AllLeave, IsOwnedBy, AreOwners}
-use Rattle.lin_ahead.specs.Values.PossibleOwners.{Breaks, AreOwnerRows}
+use Rattle.lin_ahead.specs.Values.PossibleOwners.{Breaks, AreOwnerRows, IsTold}
 use Rattle.lin_ahead.specs.Values.TakenTwice.{IsSoleOwner}
 use Rattle.lin_ahead.specs.Values.Clusters.{OfCluster}
 use Rattle.lin_ahead.specs.Values.Clusters as rows_of
@@ -155,8 +155,8 @@ module _ {p : Problem ObjState Op Reply} {start : ℤ} (of : IsOfRegister p star
   ]
 
 -- rows stay right if one of them is narrowed
-pub rows_narrowed : (calls : List (ProblemCall Op Reply)) (rows : List Owners) (g : ℕ) (row : Owners) → IsNarrowedRow calls rows g row → AreNarrowed calls rows (slice_set rows g row)
-rows_narrowed calls rows g row k start right = record {
+right_narrowed : (calls : List (ProblemCall Op Reply)) (rows : List Owners) (g : ℕ) (row : Owners) → IsNarrowedRow calls rows g row → (start : ℤ) → AreRightRows calls start rows → AreRightRows calls start (slice_set rows g row)
+right_narrowed calls rows g row k start right = record {
   owned = λ p same of exact.
       owners_narrowed of exact rows (subst (λ (l : List (ProblemCall Op Reply)). AreRightRows l start rows) (sym same) right) g row (subst (λ (l : List (ProblemCall Op Reply)). IsNarrowedRow l rows g row) (sym same) k);
   found = λ h other there is. elim (written rows g h row other there) [
@@ -166,3 +166,21 @@ rows_narrowed calls rows g row k start right = record {
     | inr q ↦ right.found h other q.1 is
   ];
 }
+
+-- what was told stays told
+told_set : (rows : List Owners) (g : ℕ) (row : Owners) (h : ℕ) → IsTrue row.are_told → IsTold rows h → IsTold (slice_set rows g row) h
+told_set [] g row h told is = is
+told_set (x ∷ xs) zero row zero told is = and_some (Some row) (λ (o : Owners). IsTrue o.are_told) row refl told
+told_set (x ∷ xs) zero row (suc h) told is = is
+told_set (x ∷ xs) (suc g) row zero told is = is
+told_set (x ∷ xs) (suc g) row (suc h) told is = told_set xs g row h told is
+
+-- rows are narrowed if one of them is
+pub rows_narrowed : (calls : List (ProblemCall Op Reply)) (rows : List Owners) (g : ℕ) (row : Owners) → IsNarrowedRow calls rows g row → AreNarrowed calls rows (slice_set rows g row)
+rows_narrowed calls rows g row k = (
+  right_narrowed calls rows g row k,
+  λ few h v found. elim (few h v found) [
+    | inl is ↦ inl (told_set rows g row h k.still is)
+    | inr many ↦ inr many
+  ],
+)

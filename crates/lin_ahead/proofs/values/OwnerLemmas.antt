@@ -22,7 +22,7 @@ use Rattle.lin_ahead.specs.declared.values.owners.Owners.{Owners}
 use Rattle.lin_ahead.specs.Values.Register.{IsOfRegister, Finds}
 use Rattle.lin_ahead.specs.Values.Owners.{Leaves, AllLeave, LastChange, AreOwners}
 use Rattle.lin_ahead.specs.Values.PossibleOwners.{breaks, Breaks, IsNoOwner, IsNotFromStart, AreOwnersOf, AreOwnerRows}
-use Rattle.lin_ahead.specs.AnswerLemmas.{Is, reply_of, fits_some}
+use Rattle.lin_laws.specs.AnswerLemmas.{Is, reply_of, fits_some}
 use Rattle.lin_ahead.proofs.first.NeedsLemmas.{not_before}
 use Rattle.lin_ahead.proofs.values.RegisterLemmas.{step_tells, fits_recorded, has_call, tells, left, legal_split, from_start, finds_held, not_itself, same_value}
 

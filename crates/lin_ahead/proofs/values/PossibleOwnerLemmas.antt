@@ -1,19 +1,23 @@
 -- Which calls are not the one that wrote what a call found, by real time.
-use Rattle.std.proofs.Common.{◌≡◌, ◌⊎◌, inl, inr, ℕ, zero, suc, ◌-◌, ◌<◌, ◌≤◌, ◌^◌, true, false, Option, Some, None, List, [], ◌∷◌, ◌++◌, length, refl, sym, ◌∙◌, ap, subst, arith}
+use Rattle.std.proofs.Common.{◌≡◌, ◌⊎◌, inl, inr, ℕ, zero, suc, ◌+◌, ◌-◌, ◌<◌, ◌≤◌, ◌^◌, true, false, Option, Some, None, List, [], ◌∷◌, ◌++◌, length, refl, sym, ◌∙◌, ap, subst, arith}
 use Rattle.std.specs.Prelude.{ℤ, slice_index_or, nat_eq, IsTrue}
 use Rattle.std.specs.List.{slice_get}
 use Rattle.std.proofs.lemmas.Bool.{cases_lt}
-use Rattle.std.proofs.lemmas.Option.{slice_get-get_or}
+use Rattle.std.proofs.lemmas.Option.{slice_get-get_or, slice_get_within}
 use Rattle.lin_object.specs.declared.op.Op.{Op}
 use Rattle.lin_object.specs.declared.reply.Reply.{Reply}
 use Rattle.lin_history.specs.declared.problems.problem.ProblemCall.{ProblemCall}
-use Rattle.lin_history.specs.OptionLemmas.{and_some}
+use Rattle.lin_history.specs.OptionLemmas.{and_some, some_and}
+use Rattle.lin_history.specs.Problems.Lists.{In, IsDistinct}
 use Rattle.lin_history.specs.Problems.ListLemmas.{in_early, in_late}
 use Rattle.lin_ahead.specs.declared.values.breaking_calls.Finder.{Finder}
 use Rattle.lin_ahead.specs.declared.values.owners.Owners.{Owners}
 use Rattle.lin_ahead.specs.declared.values.writers.Writer.{Writer}
-use Rattle.lin_ahead.specs.Values.PossibleOwners.{breaks, ReturnedBefore, Breaks, IsNoOwner, IsNotFromStart, AreOwnersOf, AreOwnerRows}
-use Rattle.lin_ahead.proofs.values.WriterLemmas.{pushed_either}
+use Rattle.lin_ahead.specs.declared.values.writers.TheConstants.{MOST_OWNERS}
+use Rattle.lin_ahead.specs.Values.Register.{value_written, value_found}
+use Rattle.lin_ahead.specs.Values.Narrowing.{ShowsFound}
+use Rattle.lin_ahead.specs.Values.PossibleOwners.{breaks, ReturnedBefore, Breaks, IsNoOwner, IsNotFromStart, AreOwnersOf, AreOwnerRows, Writes, AreTooMany, IsTold, AreToldWhereFew}
+use Rattle.lin_ahead.proofs.values.WriterLemmas.{pushed_early, pushed_last, pushed_either}
 use Rattle.lin_ahead.specs.Values.Writers.{returned_or_beyond, AreUnder, IsRowOf, HasAllRows, IsFinder, IsBroken, IsSince, NoOwners, AreListedFrom}
 
 one : {A : Type 0} (x y : A) → Some x ≡ Some y → x ≡ y
@@ -129,3 +133,117 @@ module _ (calls : List (ProblemCall Op Reply)) where
         let k : n ≡ g = sym (at ∙ size) in
         subst (λ (i : ℕ). AreOwnersOf calls start i own) k (subst (λ (o : Owners). AreOwnersOf calls start n o) same (told (subst (λ (o : Owners). IsTrue o.are_told) (sym same) is_told))))
   ]
+
+  -- ---- the calls that may write a value, by a look at each
+
+  -- so far they are listed
+  pub record AreListedTo (v : ℤ) (n : ℕ) (owners : List ℕ) : Type 0 where
+    pub distinct : IsDistinct owners
+    pub each : (w : ℕ) → In w owners → (w < n) × Writes calls v w
+    pub all : (w : ℕ) → w < n → Writes calls v w → In w owners
+    pub few : length owners ≤ MOST_OWNERS
+
+  in_pushed : (x : ℕ) (l : List ℕ) (n : ℕ) → In x (l ++ n ∷ []) → In x l ⊎ (x ≡ n)
+  in_pushed x [] n (inl e) = inr e
+  in_pushed x [] n (inr h) = absurd h
+  in_pushed x (y ∷ ys) n (inl e) = inl (inl e)
+  in_pushed x (y ∷ ys) n (inr h) = elim (in_pushed x ys n h) [
+    | inl among ↦ inl (inr among)
+    | inr e ↦ inr e
+  ]
+
+  distinct_more : (l : List ℕ) (n : ℕ) → IsDistinct l → ((w : ℕ) → In w l → w < n) → IsDistinct (l ++ n ∷ [])
+  distinct_more [] n d less = ((λ h. h), tt)
+  distinct_more (x ∷ xs) n d less = (
+    (λ h. elim (in_pushed x xs n h) [
+      | inl among ↦ d.0 among
+      | inr same ↦ (let k = less x (inl refl) in omega (arith, k, same))
+    ]),
+    distinct_more xs n d.1 (λ w h. less w (inr h)),
+  )
+
+  pub listed_first : (v : ℤ) → AreListedTo v 0 []
+  listed_first v = record {
+    distinct = tt;
+    each = λ w among. absurd among;
+    all = λ w less own. absurd (omega (arith, less));
+    few = omega arith;
+  }
+
+  size_more : (l : List ℕ) (n : ℕ) → length (l ++ n ∷ []) ≡ length l + 1
+  size_more [] n = refl
+  size_more (x ∷ xs) n = (let e = size_more xs n in omega (arith, e))
+
+  pub listed_more : (v : ℤ) (n : ℕ) (owners : List ℕ) → Writes calls v n → length owners < MOST_OWNERS → AreListedTo v n owners → AreListedTo v (n + 1) (owners ++ n ∷ [])
+  listed_more v n owners own room k = record {
+    distinct = distinct_more owners n k.distinct (λ w among. (k.each w among).0);
+    each = λ w among. elim (in_pushed w owners n among) [
+      | inl h ↦ (let q = k.each w h in ((let a = q.0 in omega (arith, a)), q.1))
+      | inr e ↦ (omega (arith, e), subst (λ (i : ℕ). Writes calls v i) (sym e) own)
+    ];
+    all = λ w less writes. elim (cases_lt w n) [
+      | inl before ↦ in_early w owners (n ∷ []) (k.all w before writes)
+      | inr from ↦ in_late w owners (n ∷ []) (inl (omega (arith, less, from)))
+    ];
+    few = (let e = size_more owners n in omega (arith, e, room));
+  }
+
+  pub listed_same : (v : ℤ) (n : ℕ) (owners : List ℕ) → (Writes calls v n → ⊥) → AreListedTo v n owners → AreListedTo v (n + 1) owners
+  listed_same v n owners none k = record {
+    distinct = k.distinct;
+    each = λ w among. (let q = k.each w among in ((let a = q.0 in omega (arith, a)), q.1));
+    all = λ w less writes. elim (cases_lt w n) [
+      | inl before ↦ k.all w before writes
+      | inr from ↦ absurd (none (subst (λ (i : ℕ). Writes calls v i) (let e : w ≡ n = omega (arith, less, from) in e) writes))
+    ];
+    few = k.few;
+  }
+
+  pub listed_too_many : (v : ℤ) (n : ℕ) (owners : List ℕ) → Writes calls v n → MOST_OWNERS ≤ length owners → AreListedTo v n owners → AreTooMany calls v
+  listed_too_many v n owners own full k = record {
+    writers = owners ++ n ∷ [];
+    distinct = distinct_more owners n k.distinct (λ w among. (k.each w among).0);
+    more = (let e = size_more owners n in omega (arith, e, full));
+    each = λ w among. elim (in_pushed w owners n among) [
+      | inl h ↦ (k.each w h).1
+      | inr e ↦ subst (λ (i : ℕ). Writes calls v i) (sym e) own
+    ];
+  }
+
+  pub listed_told : (start v : ℤ) (g n : ℕ) (owners : Owners) → ShowsFound calls v g → length calls ≤ n → AreListedTo v n owners.calls.items → (owners.at_start ≡ false → IsNotFromStart calls start v g) → AreOwnersOf calls start g owners
+  listed_told start v g n owners shown end k not_start = record {
+    found = v;
+    finds = some_and (slice_get calls g) (λ (x : ProblemCall Op Reply). value_found x.op x.returned ≡ Some v) shown;
+    each = λ w x there writes. inl (k.all w (let a = slice_get_within calls w x there in omega (arith, a, end)) (and_some (slice_get calls w) (λ (y : ProblemCall Op Reply). value_written y.op y.returned ≡ Some v) x there writes));
+    start_too = not_start;
+  }
+
+  -- ---- which calls are told
+
+  -- so far owners are told of each call that found a value, where they are not too many
+  abbrev pub AreToldTo : ℕ → List Owners → Type 0
+  AreToldTo n rows = (g : ℕ) (v : ℤ) → g < n → ShowsFound calls v g → IsTold rows g ⊎ AreTooMany calls v
+
+  told_early : (rows : List Owners) (row : Owners) (g : ℕ) → IsTold rows g → IsTold (rows ++ row ∷ []) g
+  told_early rows row g is =
+      let k = some_and (slice_get rows g) (λ (o : Owners). IsTrue o.are_told) is in
+      and_some (slice_get (rows ++ row ∷ []) g) (λ (o : Owners). IsTrue o.are_told) k.0 (pushed_early rows row g k.0 k.1) k.2
+
+  pub few_pushed : (rows : List Owners) (n : ℕ) (row : Owners) → length rows ≡ n → ((v : ℤ) → ShowsFound calls v n → IsTrue row.are_told ⊎ AreTooMany calls v) → AreToldTo n rows → AreToldTo (n + 1) (rows ++ row ∷ [])
+  few_pushed rows n row size told so_far g v less shown = elim (cases_lt g n) [
+    | inl before ↦ elim (so_far g v before shown) [
+      | inl is ↦ inl (told_early rows row g is)
+      | inr many ↦ inr many
+    ]
+    | inr from ↦ (
+        let at : g ≡ n = omega (arith, less, from) in
+        elim (told v (subst (λ (i : ℕ). ShowsFound calls v i) at shown)) [
+          | inl is ↦ inl (and_some (slice_get (rows ++ row ∷ []) g) (λ (o : Owners). IsTrue o.are_told) row (subst (λ (i : ℕ). slice_get (rows ++ row ∷ []) i ≡ Some row) (size ∙ sym at) (pushed_last rows row)) is)
+          | inr many ↦ inr many
+        ])
+  ]
+
+  pub few_all : (n : ℕ) (rows : List Owners) → length calls ≤ n → AreToldTo n rows → AreToldWhereFew calls rows
+  few_all n rows end told g v shown =
+      let k = some_and (slice_get calls g) (λ (x : ProblemCall Op Reply). value_found x.op x.returned ≡ Some v) shown in
+      told g v (let a = slice_get_within calls g k.0 k.1 in omega (arith, a, end)) shown

@@ -21,7 +21,7 @@ use Rattle.lin_history.specs.Problems.Precedence.{Before, IsCompleted}
 use Rattle.lin_history.specs.Problems.Linearizations.{IsRun, IsLinearization}
 use Rattle.lin_history.specs.ReplyLemmas.{reply_same}
 use Rattle.lin_ahead.specs.Values.Register.{IsOfRegister, value_written, value_found, MayWrite, Finds}
-use Rattle.lin_ahead.specs.AnswerLemmas.{Is, state_of, reply_of, fits_some}
+use Rattle.lin_laws.specs.AnswerLemmas.{Is, state_of, reply_of, fits_some}
 
 -- ---- one step of a register
 

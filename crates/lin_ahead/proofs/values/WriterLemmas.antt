@@ -11,8 +11,10 @@ use Rattle.lin_object.specs.declared.op.Op.{Op}
 use Rattle.lin_object.specs.declared.reply.Reply.{Reply}
 use Rattle.lin_history.specs.declared.problems.problem.ProblemCall.{ProblemCall}
 use Rattle.lin_ahead.specs.declared.values.writers.Writer.{Writer}
+use Rattle.lin_ahead.specs.declared.values.writers.TheConstants.{MOST_OWNERS}
 use Rattle.lin_ahead.specs.Values.Register.{value_written}
-use Rattle.lin_ahead.specs.Values.Writers.{low_by, returned_or_beyond, IsRowOf, HaveAllRows, AreInOrder, NoneLater}
+use Rattle.lin_ahead.specs.Values.PossibleOwners.{Writes, AreTooMany}
+use Rattle.lin_ahead.specs.Values.Writers.{low_by, returned_or_beyond, IsRowOf, HaveAllRows, AreInOrder, NoneLater, IsRun, AreRuns}
 
 one : {A : Type 0} (x y : A) → Some x ≡ Some y → x ≡ y
 one x y e = cc
@@ -147,3 +149,77 @@ module _ (rows : List Writer) where
     | inl there ↦ so_far i f there
     | inr (at, same) ↦ (let k : i ≡ n = at ∙ size in subst (λ (m : ℕ). (f ≤ m) × NoneLater rows f m) (sym k) (subst (λ (m : ℕ). (m ≤ n) × NoneLater rows m n) same is))
   ]
+
+-- ---- how many calls may write the value of a row
+
+module _ (calls : List (ProblemCall Op Reply)) where
+  -- the call itself
+  pub run_one : (w : ℕ) → IsRun calls w 1
+  run_one w v own = record {
+    writers = w ∷ [];
+    distinct = ((λ h. h), tt);
+    more = omega arith;
+    each = λ u h. elim h [
+      | inl e ↦ (omega (arith, e), subst (λ (i : ℕ). Writes calls v i) (sym e) own)
+      | inr none ↦ absurd none
+    ];
+  }
+
+  -- and those up to one before it
+  pub run_more : (u w n : ℕ) → u < w → ((v : ℤ) → Writes calls v w → Writes calls v u) → IsRun calls u n → IsRun calls w (n + 1)
+  run_more u w n less goes run v own =
+      let k = run v (goes v own) in
+      record {
+        writers = w ∷ k.writers;
+        distinct = ((λ h. (let b = (k.each w h).0 in omega (arith, b, less))), k.distinct);
+        more = (let m = k.more in omega (arith, m));
+        each = λ c h. elim h [
+          | inl e ↦ (omega (arith, e), subst (λ (i : ℕ). Writes calls v i) (sym e) own)
+          | inr among ↦ (let q = k.each c among in ((let b = q.0 in omega (arith, b, less)), q.1))
+        ];
+      }
+
+  -- of which some may be left out
+  pub run_kept : (u w n : ℕ) → u < w → ((v : ℤ) → Writes calls v w → Writes calls v u) → IsRun calls u n → IsRun calls w n
+  run_kept u w n less goes run v own =
+      let k = run v (goes v own) in
+      record {
+        writers = k.writers;
+        distinct = k.distinct;
+        more = k.more;
+        each = λ c among. (let q = k.each c among in ((let b = q.0 in omega (arith, b, less)), q.1));
+      }
+
+  pub run_pushed : (rows : List Writer) (runs : List ℕ) (n run : ℕ) → length runs ≡ n → ((r : Writer) → slice_get rows n ≡ Some r → IsRun calls r.call run) → AreRuns calls rows runs → AreRuns calls rows (runs ++ run ∷ [])
+  run_pushed rows runs n run size is so_far i m r e there = elim (pushed_either runs run i m e) [
+    | inl before ↦ so_far i m r before there
+    | inr (at, same) ↦ subst (λ (k : ℕ). IsRun calls r.call k) same (is r (subst (λ (j : ℕ). slice_get rows j ≡ Some r) (at ∙ size) there))
+  ]
+
+  -- the row before that of the call goes with it
+  abbrev pub GoWith : ℕ → ℕ → Type 0
+  GoWith u w = (u < w) × ((v : ℤ) → Writes calls v w → Writes calls v u)
+
+  front_run : (rows : List Writer) (runs : List ℕ) (place : ℕ) (d : Writer) → 0 < place → place < length rows → length runs ≡ place → AreRuns calls rows runs → IsRun calls (slice_index_or rows (place - 1) d).call (slice_index_or runs (place - 1) 0)
+  front_run rows runs place d up within size are = are (place - 1) (slice_index_or runs (place - 1) 0) (slice_index_or rows (place - 1) d) (slice_get-get_or runs (place - 1) 0 (omega (arith, up, size))) (slice_get-get_or rows (place - 1) d (omega (arith, up, within)))
+
+  pub run_next : (rows : List Writer) (runs : List ℕ) (place : ℕ) (d e : Writer) → 0 < place → place < length rows → length runs ≡ place → AreRuns calls rows runs → GoWith (slice_index_or rows (place - 1) d).call (slice_index_or rows place e).call → (r : Writer) → slice_get rows place ≡ Some r → IsRun calls r.call (slice_index_or runs (place - 1) 0 + 1)
+  run_next rows runs place d e up within size are goes r there =
+      subst (λ (s : Writer). IsRun calls s.call (slice_index_or runs (place - 1) 0 + 1)) (get_or_from_slice_get rows place r e there)
+      (run_more (slice_index_or rows (place - 1) d).call (slice_index_or rows place e).call (slice_index_or runs (place - 1) 0) goes.0 goes.1 (front_run rows runs place d up within size are))
+
+  pub run_left : (rows : List Writer) (runs : List ℕ) (place : ℕ) (d e : Writer) → 0 < place → place < length rows → length runs ≡ place → AreRuns calls rows runs → GoWith (slice_index_or rows (place - 1) d).call (slice_index_or rows place e).call → (r : Writer) → slice_get rows place ≡ Some r → IsRun calls r.call (slice_index_or runs (place - 1) 0)
+  run_left rows runs place d e up within size are goes r there =
+      subst (λ (s : Writer). IsRun calls s.call (slice_index_or runs (place - 1) 0)) (get_or_from_slice_get rows place r e there)
+      (run_kept (slice_index_or rows (place - 1) d).call (slice_index_or rows place e).call (slice_index_or runs (place - 1) 0) goes.0 goes.1 (front_run rows runs place d up within size are))
+
+  -- more than are told of
+  pub run_many : (rows : List Writer) (runs : List ℕ) (i n : ℕ) (r : Writer) (v : ℤ) → AreRuns calls rows runs → slice_get runs i ≡ Some n → slice_get rows i ≡ Some r → MOST_OWNERS < n → Writes calls v r.call → AreTooMany calls v
+  run_many rows runs i n r v are run row many own =
+      let k = are i n r run row v own in
+      record {
+        writers = k.writers;
+        distinct = k.distinct;
+        more = (let m = k.more in omega (arith, m, many));
+        each = λ u among. (k.each u among).1;
+      }

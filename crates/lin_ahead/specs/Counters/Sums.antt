@@ -1,7 +1,7 @@
 -- Adds that are too much for a `get` of a counter, by how far the calls before it can have added (this project's own).
-use Rattle.std.specs.Prelude.{◌≡◌, ◌≢◌, ℕ, suc, ◌+◌, ◌<◌, ◌≤◌, ◌^◌, ℤ, pos, negsuc, Bool, true, false, not, Option, Some, None, List, [], ◌∷◌, ◌++◌, ◌⊎◌, slice_get, length, take}
+use Rattle.std.specs.Prelude.{◌≡◌, ◌≢◌, ℕ, ◌+◌, ◌<◌, ◌≤◌, ◌^◌, ℤ, Bool, true, false, not, Option, Some, List, [], ◌∷◌, ◌++◌, ◌⊎◌, slice_get, length, take}
 use Rattle.lin_object.specs.declared.op.Op.{Op}
-use Rattle.lin_object.specs.declared.op.Op.TheVariants.{Add, Get}
+use Rattle.lin_object.specs.declared.op.Op.TheVariants.{Get}
 use Rattle.lin_object.specs.declared.reply.Reply.{Reply}
 use Rattle.lin_object.specs.declared.reply.Reply.TheVariants.{Int}
 use Rattle.lin_object.specs.declared.state.ObjState.{ObjState}
@@ -13,34 +13,9 @@ use Rattle.lin_history.specs.Problems.Lists.{In, IsDistinct}
 use Rattle.lin_history.specs.Problems.Precedence.{Before}
 use Rattle.lin_history.specs.Problems.Continuations.{has}
 use Rattle.lin_history.specs.Problems.Linearizations.{IsLinearization}
+use Rattle.lin_laws.specs.Shares.{share_in, share_of_call, sum_of_shares}
 use Rattle.lin_ahead.specs.declared.counters.rows.SumLimit.{SumLimit}
 use Rattle.lin_ahead.specs.declared.counters.rows.SumRows.{SumRows}
-
--- What a number adds in a direction, upwards or else downwards.
-abbrev pub share_in : Bool → ℤ → ℕ
-share_in true (pos n) = n
-share_in true (negsuc n) = 0
-share_in false (pos n) = 0
-share_in false (negsuc n) = suc n
-
--- What an operation adds in that direction.
-abbrev pub share_of : Bool → Op → ℕ
-share_of up (Add d) = share_in up d
-share_of up op = 0
-
--- What the call of this number adds in that direction.
-abbrev pub share_of_call : Bool → Option (ProblemCall Op Reply) → ℕ
-share_of_call up None = 0
-share_of_call up (Some x) = share_of up x.op
-
--- The sum of a number of each call over a list.
-abbrev pub total : (ℕ → ℕ) → List ℕ → ℕ
-total f [] = 0
-total f (c ∷ cs) = f c + total f cs
-
--- The sum of what these calls add in that direction.
-abbrev pub sum_of_shares : Bool → List (ProblemCall Op Reply) → List ℕ → ℕ
-sum_of_shares up calls l = total (λ c. share_of_call up (slice_get calls c)) l
 
 -- The number is the height of an integer in a direction: how far it is beyond 2^63 the other way.
 abbrev pub IsHeight : Bool → ℤ → ℕ → Type 0

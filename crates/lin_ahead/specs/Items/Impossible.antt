@@ -13,8 +13,7 @@ use Rattle.lin_history.specs.Problems.Precedence.{Before}
 use Rattle.lin_ahead.specs.declared.items.item_calls.Callers.{Callers}
 use Rattle.lin_ahead.specs.declared.items.item_calls.Callers.TheVariants.{Nobody, One, Several}
 use Rattle.lin_ahead.specs.Items.ItemCalls.{one_more, is_of}
-use Rattle.lin_ahead.specs.Queues.Queue.{Puts, Took}
-use Rattle.lin_ahead.specs.Stacks.Stack.{Pushes, Popped}
+use Rattle.lin_laws.specs.Items.{Took, Popped, AddsItem}
 
 -- The item that an operation puts into a queue, or pushes.
 abbrev pub item_added : Op → Option ℤ
@@ -90,21 +89,17 @@ abbrev pub callers_in : (ℤ → Option Callers) → ℤ → Callers
 callers_in callers v = unwrap_or (callers v) Nobody
 
 module _ (p : Problem ObjState Op Reply) where
-  -- The call puts the item into a queue, or pushes it.
-  abbrev pub AddsItem : ℕ → ℤ → Type 0
-  AddsItem c v = Puts p c v ⊎ Pushes p c v
-
   -- The call returned with this item, from a queue or a stack that starts empty.
   abbrev pub TookItem : ℕ → ℤ → Type 0
   TookItem c v = ((p.start ≡ Queue []) × Took p c v) ⊎ ((p.start ≡ Stack []) × Popped p c v)
 
   -- The call returned with an item that no call had put there by then: each that puts it there was called after that.
   abbrev pub CameTooEarly : ℕ → Type 0
-  CameTooEarly z = (v : ℤ) × TookItem z v × ((a : ℕ) → AddsItem a v → Before p z a)
+  CameTooEarly z = (v : ℤ) × TookItem z v × ((a : ℕ) → AddsItem p a v → Before p z a)
 
   -- Two calls returned with one item, and no two calls put it there.
   abbrev pub IsTakenTwice : Type 0
-  IsTakenTwice = (v : ℤ) × (y : ℕ) × (z : ℕ) × (y ≢ z) × TookItem y v × TookItem z v × ((a b : ℕ) → AddsItem a v → AddsItem b v → a ≡ b)
+  IsTakenTwice = (v : ℤ) × (y : ℕ) × (z : ℕ) × (y ≢ z) × TookItem y v × TookItem z v × ((a b : ℕ) → AddsItem p a v → AddsItem p b v → a ≡ b)
 
   -- The call returned with an item of which there are several takers, but not several adders.
   abbrev pub TookAgain : (ℤ → Callers) → (ℤ → Callers) → ℕ → Type 0

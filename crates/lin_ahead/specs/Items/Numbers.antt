@@ -6,7 +6,8 @@ use Rattle.lin_object.specs.declared.state.ObjState.{ObjState}
 use Rattle.lin_history.specs.declared.problems.problem.ProblemCall.{ProblemCall}
 use Rattle.lin_history.specs.Problems.Problem.{Problem}
 use Rattle.lin_history.specs.Problems.Needs.{NeedNumbers}
-use Rattle.lin_ahead.specs.Queues.Queue.{Item, Puts, Took, FoundEmpty, MayTake, OnlyPuts}
+use Rattle.lin_ahead.specs.Queues.Queue.{Item, FoundEmpty, MayTake, OnlyPuts}
+use Rattle.lin_laws.specs.Items.{Puts, Took}
 
 module _ (p : Problem ObjState Op Reply) where
   -- The call's return event has this number.

@@ -1,5 +1,5 @@
 -- Configurations that leave too few takers: of a queue, too few dequeues for what must be taken out of it (this project's own).
-use Rattle.std.specs.Prelude.{◌≡◌, ◌≢◌, ℕ, ◌+◌, ◌<◌, ℤ, Bool, true, false, not, ◌&&◌, Option, Some, None, List, [], ◌∷◌, ◌⊎◌, length, slice_get, nat_eq, nat_le}
+use Rattle.std.specs.Prelude.{◌≡◌, ◌≢◌, ℕ, ◌<◌, ℤ, Bool, true, false, not, ◌&&◌, Option, Some, None, List, [], ◌∷◌, ◌⊎◌, length, slice_get, nat_eq, nat_le}
 use Rattle.lin_object.specs.declared.op.Op.{Op}
 use Rattle.lin_object.specs.declared.reply.Reply.{Reply}
 use Rattle.lin_object.specs.declared.state.ObjState.{ObjState}
@@ -13,7 +13,9 @@ use Rattle.lin_history.specs.Problems.Problem.{Problem}
 use Rattle.lin_history.specs.Problems.Precedence.{Before}
 use Rattle.lin_history.specs.Problems.Continuations.{has}
 use Rattle.lin_ahead.specs.Items.Late.{ReturnsOutside}
-use Rattle.lin_ahead.specs.Queues.Queue.{Item, Puts, Took, FoundEmpty, OnlyPuts}
+use Rattle.lin_ahead.specs.Queues.Queue.{Item, FoundEmpty, OnlyPuts}
+use Rattle.lin_laws.specs.Items.{Puts, Took}
+use Rattle.lin_laws.specs.Counting.{counted}
 use Rattle.lin_ahead.specs.Queues.ToldOfQueue.{IsTaker}
 
 -- The problem of these calls on a queue that starts empty.
@@ -33,11 +35,6 @@ is_left set c d = not (nat_eq d c) && not (has set d)
 abbrev pub called_by : ℕ → Option (ProblemCall Op Reply) → Bool
 called_by n None = false
 called_by n (Some x) = nat_le x.called n
-
--- One more, where that is so.
-abbrev pub counted : Bool → ℕ → ℕ
-counted true count = count + 1
-counted false count = count
 
 module _ (p : Problem ObjState Op Reply) where
   -- No completed call returned with the item.

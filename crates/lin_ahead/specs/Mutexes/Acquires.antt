@@ -7,12 +7,7 @@ use Rattle.lin_object.specs.declared.reply.Reply.TheVariants.{Flag}
 use Rattle.lin_object.specs.declared.state.ObjState.{ObjState}
 use Rattle.lin_history.specs.declared.problems.problem.ProblemCall.{ProblemCall}
 use Rattle.lin_history.specs.Problems.Problem.{Problem}
-use Rattle.lin_history.specs.Problems.Precedence.{Before}
 use Rattle.lin_history.specs.Problems.Continuations.{has}
-
--- The calls of each process come one after another.
-abbrev pub AreInTurn : Problem ObjState Op Reply → Type 0
-AreInTurn p = (a b : ℕ) (x y : ProblemCall Op Reply) → a < b → slice_get p.calls a ≡ Some x → slice_get p.calls b ≡ Some y → x.process ≡ y.process → Before p a b
 
 -- When an acquire returned: a lock that returned, or a try_lock that answered 'yes'.
 abbrev pub acquired : Op → Option (ℕ × Reply) → Option ℕ

@@ -1,15 +1,12 @@
--- Until which call an acquire's process holds a mutex that it took there, and which acquires may stand in for it (this project's own).
-use Rattle.std.specs.Prelude.{◌≡◌, ◌≢◌, ◌⊎◌, ℕ, ◌<◌, ◌≤◌, Bool, true, false, Option, Some, List, ◌∷◌, ◌++◌, length, slice_get, slice_index_or}
+-- Until which call an acquire's process holds a mutex that it took there (this project's own).
+use Rattle.std.specs.Prelude.{◌≡◌, ◌⊎◌, ℕ, ◌<◌, ◌≤◌, Bool, true, false, Option, Some, List, length, slice_get, slice_index_or}
 use Rattle.lin_object.specs.declared.op.Op.{Op}
 use Rattle.lin_object.specs.declared.op.Op.TheVariants.{Lock, TryLock}
 use Rattle.lin_object.specs.declared.reply.Reply.{Reply}
 use Rattle.lin_object.specs.declared.reply.Reply.TheVariants.{Okay, Flag}
 use Rattle.lin_object.specs.declared.state.ObjState.{ObjState}
 use Rattle.lin_history.specs.declared.problems.problem.ProblemCall.{ProblemCall}
-use Rattle.lin_history.specs.Problems.Lists.{In}
 use Rattle.lin_history.specs.Problems.Problem.{Problem}
-use Rattle.lin_history.specs.Problems.Precedence.{Before}
-use Rattle.lin_history.specs.Problems.Linearizations.{IsRun}
 use Rattle.lin_ahead.specs.Mutexes.Strays.{UnlocksFor}
 
 -- The call is a lock that answered 'ok', or a try_lock that answered 'yes'.
@@ -39,11 +36,3 @@ module _ (p : Problem ObjState Op Reply) where
   -- The row has that number of each call.
   abbrev pub AreHeldUntil : List ℕ → Type 0
   AreHeldUntil row = (a : ℕ) → IsHeldUntil a (slice_index_or row a 0)
-
--- A row of numbers of the calls, and runs with calls up to k alone.
-pub record AreStandIns {State Op Reply : Type 0} (p : Problem State Op Reply) (row : List ℕ) : Type 0 where
-  -- A run has at most one of the calls whose numbers are greater than k.
-  pub one : (k a b : ℕ) → a ≢ b → k < slice_index_or row a 0 → k < slice_index_or row b 0 → (l : List ℕ) → IsRun p l → ((c : ℕ) → In c l → c ≤ k) → In a l → In b l → ⊥
-  -- In place of one that does not precede k it may have any earlier one.
-  pub in_place : (k a b : ℕ) → a < b → k < slice_index_or row a 0 → k < slice_index_or row b 0 → (Before p b k → ⊥) → (l : List ℕ) → IsRun p l → ((c : ℕ) → In c l → c ≤ k) → In b l
-      → (front rest : List ℕ) × (l ≡ front ++ b ∷ rest) × IsRun p (front ++ a ∷ rest)

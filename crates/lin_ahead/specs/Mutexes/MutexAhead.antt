@@ -6,7 +6,7 @@ use Rattle.lin_object.specs.declared.state.ObjState.{ObjState}
 use Rattle.lin_history.specs.Problems.Problem.{Problem}
 use Rattle.lin_history.specs.Problems.Linearizations.{IsLinearization}
 use Rattle.lin_ahead.specs.declared.mutexes.rows.MutexAhead.{MutexAhead}
-use Rattle.lin_ahead.specs.Mutexes.Acquires.{AreInTurn}
+use Rattle.lin_laws.specs.InTurn.{AreInTurn}
 use Rattle.lin_ahead.specs.Mutexes.Sections.{AreSections, AreInOrder, SomeHoldTogether}
 use Rattle.lin_ahead.specs.Mutexes.Strays.{SomeIsStray}
 

@@ -7,9 +7,10 @@ use Rattle.lin_object.specs.declared.state.ObjState.{ObjState}
 use Rattle.lin_history.specs.declared.problems.problem.ProblemCall.{ProblemCall}
 use Rattle.lin_history.specs.Problems.Problem.{Problem}
 use Rattle.lin_history.specs.Problems.Continuations.{has}
-use Rattle.lin_ahead.specs.Queues.Queue.{Puts}
-use Rattle.lin_ahead.specs.Queues.Slots.{calls_on, how_many, taken_at, taker_at}
-use Rattle.lin_ahead.specs.Items.Takers.{counted, called_by}
+use Rattle.lin_laws.specs.Items.{Puts}
+use Rattle.lin_ahead.specs.Queues.Slots.{calls_on, taken_at, taker_at}
+use Rattle.lin_ahead.specs.Items.Takers.{called_by}
+use Rattle.lin_laws.specs.Counting.{counted, how_many}
 
 -- How often the item is among these.
 abbrev pub times : ℤ → List ℤ → ℕ

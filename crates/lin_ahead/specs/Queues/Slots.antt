@@ -9,9 +9,9 @@ use Rattle.lin_history.specs.declared.problems.problem.ProblemCall.{ProblemCall}
 use Rattle.lin_object.specs.declared.state.ObjState.{ObjState}
 use Rattle.lin_history.specs.Problems.Problem.{Problem}
 use Rattle.lin_history.specs.Problems.Continuations.{has}
-use Rattle.lin_ahead.specs.Queues.Queue.{Puts}
+use Rattle.lin_laws.specs.Items.{Puts}
 use Rattle.lin_ahead.specs.declared.queues.item_rows.ItemRow.{ItemRow}
-use Rattle.lin_ahead.specs.Items.Takers.{counted}
+use Rattle.lin_laws.specs.Counting.{how_many}
 
 -- The call puts the item in.
 abbrev pub puts_it : ℤ → Op → Bool
@@ -70,11 +70,6 @@ took_by v event op returned = false
 abbrev pub taken_at : ℤ → ℕ → Option (ProblemCall Op Reply) → Bool
 taken_at v event None = false
 taken_at v event (Some c) = took_by v event c.op c.returned && nat_le c.called event
-
--- How many of these calls are so.
-abbrev pub how_many : (ℕ → Bool) → List ℕ → ℕ
-how_many is [] = 0
-how_many is (d ∷ ds) = counted (is d) (how_many is ds)
 
 -- How many of these calls put the item in and are in the set, may take it and were called by the event, returned with it by then.
 abbrev pub lifted_puts : List (ProblemCall Op Reply) → List Bool → ℤ → List ℕ → ℕ

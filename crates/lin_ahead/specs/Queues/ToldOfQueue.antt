@@ -13,7 +13,8 @@ use Rattle.lin_ahead.specs.declared.items.late_pushes.LateRows.{LateRows}
 use Rattle.lin_ahead.specs.Items.ItemCalls.{goes_in_once, told, least_pending}
 use Rattle.lin_ahead.specs.Items.CallNumbers.{from_row}
 use Rattle.lin_ahead.specs.Items.Numbers.{CalledFrom, AreNumbers}
-use Rattle.lin_ahead.specs.Queues.Queue.{Puts, Took, OnlyPuts}
+use Rattle.lin_ahead.specs.Queues.Queue.{OnlyPuts}
+use Rattle.lin_laws.specs.Items.{Puts, Took}
 
 -- The call returned with an item that goes in once.
 abbrev pub took_once : (ℤ → ItemCalls) → Op → Option (ℕ × Reply) → Bool

@@ -5,7 +5,8 @@ use Rattle.lin_object.specs.declared.reply.Reply.{Reply}
 use Rattle.lin_object.specs.declared.state.ObjState.{ObjState}
 use Rattle.lin_history.specs.Problems.Problem.{Problem}
 use Rattle.lin_ahead.specs.Items.Late.{ReturnsOutside}
-use Rattle.lin_ahead.specs.Queues.Queue.{Item, Puts, Took, FoundEmpty}
+use Rattle.lin_ahead.specs.Queues.Queue.{Item, FoundEmpty}
+use Rattle.lin_laws.specs.Items.{Puts, Took}
 use Rattle.lin_ahead.specs.Items.Takers.{queue_of, is_left, AreTooFew}
 use Rattle.lin_ahead.specs.Stacks.ToldOfStack.{exchanged_calls}
 

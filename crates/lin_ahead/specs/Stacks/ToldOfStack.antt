@@ -11,7 +11,8 @@ use Rattle.lin_ahead.specs.declared.stacks.rows.StackAhead.{StackAhead}
 use Rattle.lin_ahead.specs.declared.items.late_pushes.LateRows.{LateRows}
 use Rattle.lin_ahead.specs.Items.CallNumbers.{from_row}
 use Rattle.lin_ahead.specs.Items.ItemCalls.{told, least_pending}
-use Rattle.lin_ahead.specs.Stacks.Stack.{Pushes, Popped, PushedOnce, OnlyPushes}
+use Rattle.lin_ahead.specs.Stacks.Stack.{PushedOnce, OnlyPushes}
+use Rattle.lin_laws.specs.Items.{Pushes, Popped}
 use Rattle.lin_ahead.specs.Queues.ToldOfQueue.{once_row, takers_from}
 
 -- The operation with those of a stack and those of a queue exchanged.

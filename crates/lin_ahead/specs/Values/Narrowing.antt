@@ -9,7 +9,7 @@ use Rattle.lin_history.specs.Problems.Lists.{In}
 use Rattle.lin_ahead.specs.declared.values.owners.Owners.{Owners}
 use Rattle.lin_ahead.specs.Values.Register.{IsOfRegister, value_found}
 use Rattle.lin_ahead.specs.Values.Owners.{AreOwners}
-use Rattle.lin_ahead.specs.Values.PossibleOwners.{ReturnedBefore, Breaks}
+use Rattle.lin_ahead.specs.Values.PossibleOwners.{ReturnedBefore, Breaks, AreToldWhereFew}
 use Rattle.lin_ahead.specs.Values.Clusters.{IsForced, OfCluster}
 
 -- The call found this value.
@@ -72,6 +72,7 @@ module _ (calls : List (ProblemCall Op Reply)) (rows : List Owners) where
     pub old : Owners
     pub there : slice_get rows g ≡ Some old
     pub told : IsTrue old.are_told
+    pub still : IsTrue row.are_told
     pub each : (w : ℕ) → In w old.calls.items → In w row.calls.items ⊎ IsTakenOut w g
     pub start : IsTrue old.at_start → IsTrue row.at_start ⊎ IsPastStart g
 
@@ -81,6 +82,6 @@ pub record AreRightRows (calls : List (ProblemCall Op Reply)) (start : ℤ) (row
   pub owned : (p : Problem ObjState Op Reply) → p.calls ≡ calls → IsOfRegister p start → ((s t : ObjState) → p.same_state s t ≡ true → s ≡ t) → AreOwners p rows
   pub found : (g : ℕ) (row : Owners) → slice_get rows g ≡ Some row → IsTrue row.are_told → (v : ℤ) × ShowsFound calls v g
 
--- Where the old rows are right, the new ones are.
+-- Where the old rows are right, the new ones are; and where the old ones are told of each call with few owners.
 abbrev pub AreNarrowed : List (ProblemCall Op Reply) → List Owners → List Owners → Type 0
-AreNarrowed calls old new = (start : ℤ) → AreRightRows calls start old → AreRightRows calls start new
+AreNarrowed calls old new = ((start : ℤ) → AreRightRows calls start old → AreRightRows calls start new) × (AreToldWhereFew calls old → AreToldWhereFew calls new)

@@ -1,13 +1,14 @@
 -- Which calls on a register may have written the value that a call found, by real time (this project's own).
-use Rattle.std.specs.Prelude.{◌≡◌, ◌≢◌, ◌⊎◌, ◌||◌, ℕ, ◌<◌, ℤ, Bool, true, false, not, Option, Some, None, List, slice_get, IsSomeAnd, IsTrue}
+use Rattle.std.specs.Prelude.{◌≡◌, ◌≢◌, ◌⊎◌, ◌||◌, ℕ, ◌<◌, ℤ, Bool, true, false, not, Option, Some, None, List, length, slice_get, IsSomeAnd, IsTrue}
 use Rattle.std.specs.Ordering.{int_eq}
 use Rattle.lin_object.specs.declared.op.Op.{Op}
 use Rattle.lin_object.specs.declared.op.Op.TheVariants.{Write, Read, Cas}
 use Rattle.lin_object.specs.declared.reply.Reply.{Reply}
 use Rattle.lin_object.specs.declared.reply.Reply.TheVariants.{Int, Flag}
 use Rattle.lin_history.specs.declared.problems.problem.ProblemCall.{ProblemCall}
-use Rattle.lin_history.specs.Problems.Lists.{In}
+use Rattle.lin_history.specs.Problems.Lists.{In, IsDistinct}
 use Rattle.lin_ahead.specs.declared.values.owners.Owners.{Owners}
+use Rattle.lin_ahead.specs.declared.values.writers.TheConstants.{MOST_OWNERS}
 use Rattle.lin_ahead.specs.Values.Register.{value_written, value_found}
 
 -- A completed call breaks the value: by its reply it wrote or found another one, or found that this one was not there. While it
@@ -19,6 +20,10 @@ breaks v Read (Some (number, Int u)) = not (int_eq u v)
 breaks v (Cas a b) (Some (number, Flag true)) = not (int_eq a v) || not (int_eq b v)
 breaks v (Cas a b) (Some (number, Flag false)) = int_eq a v
 breaks v op (Some r) = false
+
+-- Owners are told of call g.
+abbrev pub IsTold : List Owners → ℕ → Type 0
+IsTold rows g = IsSomeAnd (slice_get rows g) (λ row. IsTrue row.are_told)
 
 module _ (calls : List (ProblemCall Op Reply)) where
   -- Call a returned before call b was called.
@@ -48,3 +53,18 @@ module _ (calls : List (ProblemCall Op Reply)) where
   -- So it is with each row that is told.
   abbrev pub AreOwnerRows : ℤ → List Owners → Type 0
   AreOwnerRows start rows = (g : ℕ) (row : Owners) → slice_get rows g ≡ Some row → IsTrue row.are_told → AreOwnersOf start g row
+
+  -- The call may write the value. A pending call may, too.
+  abbrev pub Writes : ℤ → ℕ → Type 0
+  Writes v w = IsSomeAnd (slice_get calls w) (λ x. value_written x.op x.returned ≡ Some v)
+
+  -- More calls may write the value than owners are told.
+  pub record AreTooMany (v : ℤ) : Type 0 where
+    pub writers : List ℕ
+    pub distinct : IsDistinct writers
+    pub more : MOST_OWNERS < length writers
+    pub each : (w : ℕ) → In w writers → Writes v w
+
+  -- Owners are told of each completed call that found a value, where they are not too many.
+  abbrev pub AreToldWhereFew : List Owners → Type 0
+  AreToldWhereFew rows = (g : ℕ) (v : ℤ) → IsSomeAnd (slice_get calls g) (λ x. value_found x.op x.returned ≡ Some v) → IsTold rows g ⊎ AreTooMany v

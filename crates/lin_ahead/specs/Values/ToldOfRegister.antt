@@ -5,12 +5,15 @@ use Rattle.lin_object.specs.declared.reply.Reply.{Reply}
 use Rattle.lin_history.specs.declared.problems.problem.ProblemCall.{ProblemCall}
 use Rattle.lin_ahead.specs.declared.values.rows.ValuesAhead.{ValuesAhead}
 use Rattle.lin_ahead.specs.Values.Narrowing.{AreRightRows}
+use Rattle.lin_ahead.specs.Values.PossibleOwners.{AreToldWhereFew}
 use Rattle.lin_ahead.specs.Values.TakenTwice.{IsTakenTwice}
 use Rattle.lin_ahead.specs.Values.Clusters.{AreClusterNumbers, FoundNowhere, NeedEachOther}
 
 -- All is told that follows from the rows of owners, on a register that starts with this value.
 pub record IsToldOfRegister (start : ℤ) (calls : List (ProblemCall Op Reply)) (ahead : ValuesAhead) : Type 0 where
   pub owners : AreRightRows calls start ahead.owners.items
+  -- It is said of each call that found a value which calls may have written it, if no more than MOST_OWNERS calls may write that value.
+  pub few : AreToldWhereFew calls ahead.owners.items
   pub numbers : AreClusterNumbers calls ahead.owners.items ahead.needs
   -- There is no linearization by these facts alone where a call found what is nowhere, two calls need each other, or two took away
   -- what one call made.

@@ -3,11 +3,11 @@ use Rattle.std.specs.Prelude.{◌≡◌, ◌⊎◌, ℕ, ◌+◌, ◌^◌, ◌<�
 use Rattle.lin_object.specs.declared.op.Op.{Op}
 use Rattle.lin_object.specs.declared.reply.Reply.{Reply}
 use Rattle.lin_history.specs.declared.problems.problem.ProblemCall.{ProblemCall}
-use Rattle.lin_history.specs.Problems.Lists.{In}
+use Rattle.lin_history.specs.Problems.Lists.{In, IsDistinct}
 use Rattle.lin_ahead.specs.declared.values.breaking_calls.Finder.{Finder}
 use Rattle.lin_ahead.specs.declared.values.writers.Writer.{Writer}
 use Rattle.lin_ahead.specs.Values.Register.{value_written, value_found}
-use Rattle.lin_ahead.specs.Values.PossibleOwners.{breaks, IsNoOwner}
+use Rattle.lin_ahead.specs.Values.PossibleOwners.{breaks, IsNoOwner, Writes}
 
 -- From which key on rows stand, as a list says of it.
 abbrev pub low_at : Option ℕ → Option ℕ
@@ -88,3 +88,18 @@ module _ (calls : List (ProblemCall Op Reply)) where
   -- Each call with a row from this place on is listed, or is not the one.
   abbrev pub AreListedFrom : Finder → List Writer → ℕ → List ℕ → Type 0
   AreListedFrom f rows place owners = (i w : ℕ) (r : Writer) → place ≤ i → slice_get rows i ≡ Some r → IsRowOf f.value f.low w r → In w owners ⊎ IsNoOwner calls f.value f.call w
+
+  -- So many calls up to call w, or more, may write the value.
+  pub record AreWriters (v : ℤ) (w n : ℕ) : Type 0 where
+    pub writers : List ℕ
+    pub distinct : IsDistinct writers
+    pub more : n ≤ length writers
+    pub each : (u : ℕ) → In u writers → (u ≤ w) × Writes calls v u
+
+  -- So many calls up to call w may write the value that it may write.
+  abbrev pub IsRun : ℕ → ℕ → Type 0
+  IsRun w n = (v : ℤ) → Writes calls v w → AreWriters v w n
+
+  -- So it is with the number of each row.
+  abbrev pub AreRuns : List Writer → List ℕ → Type 0
+  AreRuns rows runs = (i n : ℕ) (r : Writer) → slice_get runs i ≡ Some n → slice_get rows i ≡ Some r → IsRun r.call n

@@ -6,9 +6,11 @@ ghost use Rattle.lin_object.specs.declared.op.Op.TheVariants.{Get};
 ghost use Rattle.lin_object.specs.declared.reply.Reply.TheVariants.{Int};
 ghost use Rattle.lin_history.specs.Problems.Timeline.{IsTimeline};
 ghost use Rattle.lin_history.specs.Problems.AnyProblem.{any_problem};
-ghost use Rattle.lin_ahead.specs.Counters.Sums.{share_in, share_of, share_of_call, IsHeight, IsLimitOf, AreLimits, event_of, AreSumsAt};
+ghost use Rattle.lin_ahead.specs.Counters.Sums.{IsHeight, IsLimitOf, AreLimits, event_of, AreSumsAt};
+ghost use Rattle.lin_laws.specs.Shares.{share_of_call};
 
 use lin_history::{Problem, ProblemCall, ProblemEvent};
+use lin_laws::{share_in, share_of};
 use lin_object::{AnyObject, Op, Reply};
 use std::alloc::{AllocError, Global};
 
@@ -29,29 +31,6 @@ pub struct SumRows {
     pub up: Vec<Option<SumLimit>>,
     /// Downwards.
     pub down: Vec<Option<SumLimit>>,
-}
-
-// What the number adds in the direction.
-fn share_in(up: bool, value: i64) -> u64
-    ensures share { result ≡ share_in up value }
-    ensures few { result ≤ 2 ^ 63 }
-{
-    if (value >= 0) == up {
-        value.unsigned_abs()
-    } else {
-        0
-    }
-}
-
-/// What the operation adds upwards, or else downwards: at most 2^63.
-pub fn share_of(up: bool, op: &Op) -> u64
-    ensures share { result ≡ share_of up op.now }
-    ensures few { result ≤ 2 ^ 63 }
-{
-    match op {
-        Op::Add(difference) => share_in(up, *difference),
-        _ => 0,
-    }
 }
 
 // What the call of this number adds in the direction.

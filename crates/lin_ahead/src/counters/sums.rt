@@ -2,13 +2,13 @@
 
 ghost use Rattle.std.specs.Prelude.{◌≡◌, ◌≢◌, ◌≤◌, false, Some, slice_get, IfSome, IsTrue};
 ghost use Rattle.lin_history.specs.Problems.Continuations.{has};
-ghost use Rattle.lin_history.specs.Problems.Precedence.{Before};
 ghost use Rattle.lin_history.specs.Problems.AnyProblem.{any_problem};
 ghost use Rattle.lin_ahead.specs.Counters.Sums.{row_of, IsFreeShare, IsLiftedShare, AddFreely, IsLoad, IsOver};
 
 use crate::counters::hints::SumHints;
 use crate::counters::rows::{SumLimit, SumRows, share_at};
 use lin_history::Problem;
+use lin_laws::precedes;
 use lin_object::AnyObject;
 use lin_search::Config;
 
@@ -18,19 +18,6 @@ struct Asked {
     up: bool,
     get: usize,
     call: usize,
-}
-
-// Whether call a returned before call b was called; true where there are no such calls.
-fn precedes(problem: &Problem<AnyObject>, a: usize, b: usize) -> bool
-    ensures { Before (any_problem problem.now) a b → IsTrue result }
-{
-    if a >= problem.len() || b >= problem.len() {
-        return true;
-    }
-    match &problem.call(a).returned {
-        Some((returned, _)) => *returned < problem.call(b).called,
-        None => false,
-    }
 }
 
 // What the call adds if it need not come before the `get`; 0 if it must.

@@ -5,7 +5,8 @@ ghost use Rattle.lin_history.specs.Problems.Precedence.{Before};
 ghost use Rattle.lin_history.specs.Problems.Problem.{problem_of};
 ghost use Rattle.lin_ahead.specs.Items.Late.{ReturnsOutside};
 ghost use Rattle.lin_ahead.specs.Items.Takers.{queue_of};
-ghost use Rattle.lin_ahead.specs.Queues.Queue.{Puts, Took, FoundEmpty};
+ghost use Rattle.lin_ahead.specs.Queues.Queue.{FoundEmpty};
+ghost use Rattle.lin_laws.specs.Items.{Puts, Took};
 
 use lin_history::{Problem, ProblemCall};
 use lin_object::{Op, Reply, SeqObject};

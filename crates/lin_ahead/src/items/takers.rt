@@ -5,7 +5,7 @@
 ghost use Rattle.std.specs.Prelude.{◌≡◌, IfOk, OnOk, IfSome, IsTrue};
 ghost use Rattle.lin_object.specs.Items.{is_in};
 ghost use Rattle.lin_ahead.specs.Behind.{AreQueueCalls};
-ghost use Rattle.lin_ahead.specs.Queues.Queue.{Puts};
+ghost use Rattle.lin_laws.specs.Items.{Puts};
 ghost use Rattle.lin_ahead.specs.Items.Takers.{queue_of, is_left, is_left_by, left_from, IsLost, AreLostBefore, GoesBefore, AreTooFew};
 
 use crate::items::calls::{is_before, item_put};

@@ -4,13 +4,14 @@ ghost use Rattle.std.specs.Prelude.{◌≡◌, ◌≢◌, ◌↔◌, ℕ, List, 
 ghost use Rattle.indexmap.specs.IndexMap.{get};
 ghost use Rattle.lin_object.specs.declared.op.Op.TheVariants.{Unlock};
 ghost use Rattle.lin_history.specs.Problems.AnyProblem.{any_problem};
-ghost use Rattle.lin_ahead.specs.Mutexes.Acquires.{AreInTurn};
-ghost use Rattle.lin_ahead.specs.Mutexes.HeldUntil.{AreHeldUntil, AreStandIns, number_if, took};
+ghost use Rattle.lin_laws.specs.InTurn.{AreInTurn};
+ghost use Rattle.lin_ahead.specs.Mutexes.HeldUntil.{AreHeldUntil, number_if, took};
+ghost use Rattle.lin_laws.specs.StandIns.{AreStandIns};
 ghost use Rattle.lin_ahead.specs.Mutexes.Strays.{is_unlock};
 
-use crate::mutexes::turns::are_in_turn;
 use indexmap::IndexMap;
 use lin_history::{Problem, ProblemCall};
+use lin_laws::are_in_turn;
 use lin_object::{AnyObject, Op, Reply};
 use std::alloc::{AllocError, Global};
 

@@ -7,7 +7,8 @@ ghost use Rattle.lin_object.specs.declared.reply.Reply.{Reply};
 ghost use Rattle.lin_history.specs.declared.problems.problem.ProblemCall.{ProblemCall};
 ghost use Rattle.lin_history.specs.Problems.Linearizations.{IsLinearization};
 ghost use Rattle.lin_history.specs.Problems.AnyProblem.{any_problem};
-ghost use Rattle.lin_ahead.specs.Mutexes.Acquires.{AreInTurn, UnlocksBetween, UnlocksAmong};
+ghost use Rattle.lin_ahead.specs.Mutexes.Acquires.{UnlocksBetween, UnlocksAmong};
+ghost use Rattle.lin_laws.specs.InTurn.{AreInTurn};
 ghost use Rattle.lin_ahead.specs.Mutexes.Sections.{AreInOrder, AreSections, ExcludeEachOther, SomeHoldTogether};
 
 use crate::mutexes::sections::Section;

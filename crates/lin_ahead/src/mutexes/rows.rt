@@ -2,14 +2,14 @@
 
 ghost use Rattle.std.specs.Prelude.{◌↔◌, IfOk, IfSome, IsSome};
 ghost use Rattle.lin_history.specs.Problems.AnyProblem.{any_problem};
-ghost use Rattle.lin_ahead.specs.Mutexes.Acquires.{AreInTurn};
+ghost use Rattle.lin_laws.specs.InTurn.{AreInTurn};
 ghost use Rattle.lin_ahead.specs.Mutexes.MutexAhead.{IsRightOfMutex, IsToldOfMutex};
 
 use crate::mutexes::releases::{apart_law, some_hold_together};
 use crate::mutexes::sections::{Section, sections_in_order};
 use crate::mutexes::strays::{some_is_stray, stray_law};
-use crate::mutexes::turns::are_in_turn;
 use lin_history::Problem;
+use lin_laws::are_in_turn;
 use lin_object::AnyObject;
 use std::alloc::{AllocError, Global};
 

@@ -8,7 +8,8 @@ ghost use Rattle.lin_history.specs.declared.problems.problem.ProblemCall.{Proble
 ghost use Rattle.lin_history.specs.Problems.Continuations.{has};
 ghost use Rattle.lin_history.specs.Problems.AnyProblem.{any_problem};
 ghost use Rattle.lin_ahead.specs.First.FirstProgress.{BeginsNone};
-ghost use Rattle.lin_ahead.specs.Mutexes.Acquires.{AreInTurn, ReturnsFrom, IsLeftFrom, takes_if_free};
+ghost use Rattle.lin_ahead.specs.Mutexes.Acquires.{ReturnsFrom, IsLeftFrom, takes_if_free};
+ghost use Rattle.lin_laws.specs.InTurn.{AreInTurn};
 
 use crate::first::calls_in_turn::CallsInTurn;
 use crate::first::rules::Rules;

@@ -5,7 +5,7 @@ ghost use Rattle.indexmap.specs.IndexMap.{get};
 ghost use Rattle.lin_object.specs.declared.op.Op.TheVariants.{Unlock};
 ghost use Rattle.lin_history.specs.Problems.Linearizations.{IsLinearization};
 ghost use Rattle.lin_history.specs.Problems.AnyProblem.{any_problem};
-ghost use Rattle.lin_ahead.specs.Mutexes.Acquires.{AreInTurn};
+ghost use Rattle.lin_laws.specs.InTurn.{AreInTurn};
 ghost use Rattle.lin_ahead.specs.Mutexes.Strays.{SomeIsStray, holds_then, is_held};
 
 use crate::mutexes::rules::is_free;

@@ -2,7 +2,8 @@
 
 ghost use Rattle.std.specs.Prelude.{◌≡◌, ◌≤◌, slice_get, IfOk, IsTrue};
 ghost use Rattle.std.specs.Ordering.{int_eq};
-ghost use Rattle.lin_ahead.specs.Items.Takers.{queue_of, called_by, counted};
+ghost use Rattle.lin_ahead.specs.Items.Takers.{queue_of, called_by};
+ghost use Rattle.lin_laws.specs.Counting.{counted};
 ghost use Rattle.lin_ahead.specs.Queues.Slots.{calls_on, IsItemRow, AreItemRows};
 ghost use Rattle.lin_ahead.specs.Queues.Hurried.{times, times_until, left_taken, left_taken_after, left_takers, MoreAreOut, ComesHurried};
 

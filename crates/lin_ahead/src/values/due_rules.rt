@@ -8,11 +8,11 @@ ghost use Rattle.lin_history.specs.Problems.AnyProblem.{any_problem};
 ghost use Rattle.lin_ahead.specs.Values.Owners.{CanFollow, Changes, AreOwners};
 ghost use Rattle.lin_ahead.specs.Values.Due.{IsInWith, AreInWith, IsDue, AnotherIsDue, FindsAnother, ComesBetween, TwoChange};
 
-use crate::mutexes::turns::precedes;
 use crate::values::call_values::CallValues;
 use crate::values::due::Due;
 use crate::values::owners::Owners;
 use lin_history::Problem;
+use lin_laws::precedes;
 use lin_object::{AnyObject, ObjState, SeqObject};
 use lin_search::Config;
 use std::alloc::{AllocError, Global};

@@ -3,6 +3,7 @@
 ghost use Rattle.std.specs.Prelude.{◌≡◌, map, IfOk, slice_get};
 ghost use Rattle.lin_ahead.specs.Values.KeyValue.{key_of, key_at, is_on, are_on, of_one_key, op_on_value, reply_on_value, returned_on_value, call_on_value};
 
+use crate::values::item_value::value_of_items;
 use lin_history::ProblemCall;
 use lin_object::{ObjState, Op, Reply};
 use std::alloc::{AllocError, Global};
@@ -51,11 +52,13 @@ fn are_on(key: i64, calls: &[ProblemCall<Op, Reply>]) -> bool
     calls.iter().all(|call| is_on(key, &call.op))
 }
 
-/// The value that the register holds, or the key of the first call; none of other states. A hint.
+/// The value that the register holds, or the key of the first call, or what the register holds as which the item of a set is read; none
+/// of other states. A hint.
 pub(crate) fn value_held(calls: &[ProblemCall<Op, Reply>], state: &ObjState) -> Option<i64> {
     match state {
         ObjState::Register(value) => Some(*value),
         ObjState::Map(pairs) => Some(pairs.value_at(first_key(calls)?).unwrap_or(NOTHING)),
+        ObjState::Set(items) => value_of_items(calls, items),
         _ => None,
     }
 }

@@ -1,22 +1,21 @@
 //! Which calls may have written what a call found.
 
-ghost use Rattle.std.specs.Prelude.{◌≡◌, ◌-◌, ◌≤◌, ◌<◌, ℕ, false, Some, length, slice_get, IfNone, IfOk, IfSome, IsTrue};
+ghost use Rattle.std.specs.Prelude.{◌≡◌, ◌≢◌, ◌⊎◌, ◌-◌, ◌≤◌, ◌<◌, ℕ, ℤ, false, Some, length, slice_get, IfNone, IfOk, IfSome, IsTrue};
 ghost use Rattle.std.specs.Ordering.{int_eq};
 ghost use Rattle.indexmap.specs.IndexMap.{index_of};
-ghost use Rattle.lin_ahead.specs.Values.PossibleOwners.{IsNotFromStart, AreOwnersOf, AreOwnerRows};
-ghost use Rattle.lin_ahead.specs.Values.Writers.{low_by, AreInOrder, AreUnder};
+ghost use Rattle.lin_ahead.specs.Values.PossibleOwners.{IsNotFromStart, AreOwnersOf, AreOwnerRows, AreTooMany, AreToldWhereFew};
+ghost use Rattle.lin_ahead.specs.Values.Writers.{low_by, AreInOrder, AreUnder, AreRuns};
+ghost use Rattle.lin_ahead.specs.Values.Narrowing.{ShowsFound};
 ghost use Rattle.lin_ahead.specs.Values.Writers.{HasAllRows, HaveAllRows, IsFinder, IsSince, NoOwners, AreListedFrom};
 
 use crate::values::breaking_calls::{Finder, Sought, finder_of, look_on};
-use crate::values::writers::{Writer, Writers};
+use crate::values::shown_values::value_found;
+use crate::values::writers::{MOST_OWNERS, Writer, Writers, low_of, writes};
 use indexmap::IndexMap;
 use lin_history::ProblemCall;
 use lin_object::{Op, Reply};
 use smallvec::SmallVec;
 use std::alloc::{AllocError, Global};
-
-// With more owners than this nothing is told of a call.
-const MOST_OWNERS: usize = 64;
 
 // How many rows are looked at for the owners of a call.
 const MOST_STEPS: usize = 256;
@@ -209,8 +208,44 @@ fn owners_of_finder(
     }
 }
 
-// The owners of a call.
-fn owners_of_call(
+// Whether the two are the same.
+fn are_same(value: i64, other: i64) -> bool
+    ensures { result ≡ false → value ≢ other }
+{
+    value == other
+}
+
+// The owners of a call that found a value, by a look at each call.
+fn owners_by_calls(
+    alloc: Global,
+    start: i64,
+    calls: &[ProblemCall<Op, Reply>],
+    value: i64,
+    call: usize,
+) -> Result<Owners, AllocError>
+    requires { ShowsFound calls.now value call }
+    ensures told { IfOk result (λ row. IsTrue row.are_told → AreOwnersOf calls.now start call row) }
+    ensures few { IfOk result (λ row. IsTrue row.are_told ⊎ AreTooMany calls.now value) }
+{
+    let mut owners = SmallVec::new(alloc);
+    for writer in 0..calls.len() {
+        if writes(calls, value, writer) {
+            if owners.len() >= MOST_OWNERS {
+                return Ok(untold(alloc));
+            }
+            owners.push(writer)?;
+        }
+    }
+    Ok(Owners {
+        calls: owners,
+        at_start: are_same(value, start),
+        are_told: true,
+    })
+}
+
+// The owners of a call, by the rows of the calls that may write what it found. Nothing is told if it found no value that has a number,
+// or the rows are too many.
+fn owners_by_rows(
     alloc: Global,
     start: i64,
     values: &IndexMap<i64, ()>,
@@ -231,6 +266,54 @@ fn owners_of_call(
     }
 }
 
+// Whether more calls than are told of may write the value.
+fn are_too_many(
+    values: &IndexMap<i64, ()>,
+    calls: &[ProblemCall<Op, Reply>],
+    writers: &Writers,
+    value: i64,
+) -> bool
+    requires { AreRuns calls.now writers.now.rows.items writers.now.runs.items }
+    ensures { IsTrue result → AreTooMany calls.now value }
+{
+    match low_of(values, writers.lows.as_slice(), value) {
+        Some(low) => writers.are_too_many(calls, value, low),
+        None => false,
+    }
+}
+
+// The owners of a call. By the rows they are told, unless they are too many; if not, each call is looked at.
+fn owners_of_call(
+    alloc: Global,
+    start: i64,
+    values: &IndexMap<i64, ()>,
+    calls: &[ProblemCall<Op, Reply>],
+    writers: &Writers,
+    call: usize,
+) -> Result<Owners, AllocError>
+    requires within { call < length calls.now }
+    requires all { HaveAllRows calls.now
+        (λ v. low_by writers.now.lows.items (index_of int_eq values.now v)) writers.now.rows.items }
+    requires order { AreInOrder writers.now.rows.items }
+    requires under { AreUnder writers.now.rows.items writers.now.under.items }
+    requires runs { AreRuns calls.now writers.now.rows.items writers.now.runs.items }
+    ensures told { IfOk result (λ row. IsTrue row.are_told → AreOwnersOf calls.now start call row) }
+    ensures few { IfOk result (λ row. (v : ℤ) → ShowsFound calls.now v call
+        → IsTrue row.are_told ⊎ AreTooMany calls.now v) }
+{
+    let row = owners_by_rows(alloc, start, values, calls, writers, call)?;
+    if row.are_told {
+        return Ok(row);
+    }
+    let Some(value) = value_found(&calls[call]) else {
+        return Ok(row);
+    };
+    if are_too_many(values, calls, writers, value) {
+        return Ok(row);
+    }
+    owners_by_calls(alloc, start, calls, value, call)
+}
+
 /// The owners of each call, on a register that starts with this value. The values are those that the calls show. `AllocError` where
 /// memory was refused.
 pub(crate) fn owners_of_each(
@@ -239,7 +322,8 @@ pub(crate) fn owners_of_each(
     values: &IndexMap<i64, ()>,
     calls: &[ProblemCall<Op, Reply>],
 ) -> Result<Vec<Owners>, AllocError>
-    ensures { IfOk result (λ rows. AreOwnerRows calls.now start rows.items) }
+    ensures told { IfOk result (λ rows. AreOwnerRows calls.now start rows.items) }
+    ensures few { IfOk result (λ rows. AreToldWhereFew calls.now rows.items) }
 {
     let writers = Writers::new(alloc, values, calls)?;
     let mut rows = Vec::with_capacity(alloc, calls.len())?;

@@ -18,7 +18,8 @@ use lin_history::{NeedRows, ProblemCall};
 use lin_object::{Op, Reply};
 use std::alloc::{AllocError, Global};
 
-/// What is known before any search of a register's problem, or of one of a map whose calls are on one key.
+/// What is known before any search of a register's problem, or of one of a map whose calls are on one key, or of a set whose calls are
+/// on one item.
 #[derive(Drop)]
 pub struct ValuesAhead {
     /// The numbers `by` and `from` of each call: a call needs every other one whose number `by` is less than its own number `from`.

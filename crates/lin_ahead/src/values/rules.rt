@@ -1,4 +1,5 @@
-//! The rules of a first search of a register, or of a map whose calls are on one key: needs, and calls that are due.
+//! The rules of a first search of a register, of a map whose calls are on one key, or of a set whose calls are on one item: needs, and
+//! calls that are due.
 ghost use Rattle.std.specs.Prelude.{◌≡◌, IfOk, IsTrue};
 ghost use Rattle.lin_history.specs.Problems.AnyProblem.{any_problem};
 ghost use Rattle.lin_ahead.specs.Behind.{IsRightOfValues};

@@ -5,10 +5,10 @@ ghost use Rattle.lin_history.specs.Problems.AnyProblem.{any_problem};
 ghost use Rattle.lin_ahead.specs.Values.Owners.{CanFollow, AreOwners};
 ghost use Rattle.lin_ahead.specs.Values.Stranded.{FindsOneState, FindOneState, IsLeftTo, IsOfCluster, AreOfCluster, AreCrossed, StandsBetween, IsParted, AreStranded};
 
-use crate::mutexes::turns::precedes;
 use crate::values::due_rules::{Next, changes, is_due, state_after};
 use crate::values::owners::Owners;
 use lin_history::Problem;
+use lin_laws::precedes;
 use lin_object::{AnyObject, ObjState};
 use std::alloc::{AllocError, Global};
 

@@ -1,9 +1,11 @@
 //! The calls that may write each value, in the order of their calls.
 
-ghost use Rattle.std.specs.Prelude.{◌≡◌, ◌+◌, ◌*◌, ◌^◌, ◌<◌, ◌≤◌, ℕ, ℤ, Some, length, slice_get, IfOk, IfSome};
+ghost use Rattle.std.specs.Prelude.{◌≡◌, ◌+◌, ◌*◌, ◌^◌, ◌<◌, ◌≤◌, ℕ, ℤ, Some, length, slice_get, IfOk, IfSome, IsTrue};
 ghost use Rattle.std.specs.Ordering.{int_eq};
 ghost use Rattle.indexmap.specs.IndexMap.{index_of};
 ghost use Rattle.lin_ahead.specs.Values.Register.{value_written};
+ghost use Rattle.lin_ahead.specs.Values.PossibleOwners.{Writes, AreTooMany};
+ghost use Rattle.lin_ahead.specs.Values.Writers.{IsRun, AreRuns};
 ghost use Rattle.lin_ahead.specs.Values.Writers.{low_at, low_by, returned_or_beyond, HaveAllRows, AreInOrder, NoneLater, AreUnder};
 
 use crate::items::item_calls::BEYOND;
@@ -13,6 +15,9 @@ use indexmap::IndexMap;
 use lin_history::ProblemCall;
 use lin_object::{Op, Reply};
 use std::alloc::{AllocError, Global};
+
+/// With more owners than this nothing is told of a call.
+pub(crate) const MOST_OWNERS: usize = 64;
 
 // The keys of a value that has rows begin below this.
 const MOST_LOW: u64 = 1 << 63;
@@ -47,6 +52,8 @@ pub(crate) struct Writers {
     pub others: Vec<usize>,
     // For each number of a value the place behind the last of its rows. A hint.
     ends: Vec<usize>,
+    /// For each row how many calls up to its own may write its value, as far as they are counted.
+    pub runs: Vec<usize>,
 }
 
 // From which key on the rows of the value with this index stand, if that is told.
@@ -185,6 +192,91 @@ fn under_each(alloc: Global, rows: &[Writer]) -> Result<Vec<usize>, AllocError>
     Ok(under)
 }
 
+/// Whether the call may write the value.
+pub(crate) fn writes(calls: &[ProblemCall<Op, Reply>], value: i64, call: usize) -> bool
+    ensures is { IsTrue result → Writes calls.now value call }
+    ensures all { Writes calls.now value call → IsTrue result }
+{
+    match calls.get(call) {
+        Some(one) => value_written(one) == Some(value),
+        None => false,
+    }
+}
+
+// Whether the call comes before the other one, and may write the value that this one may write.
+fn goes_with(calls: &[ProblemCall<Op, Reply>], call: usize, other: usize) -> bool
+    ensures { IsTrue result → (call < other) × ((v : ℤ) → Writes calls.now v other → Writes calls.now v call) }
+{
+    if call >= other {
+        return false;
+    }
+    let Some(one) = calls.get(other) else {
+        return false;
+    };
+    match value_written(one) {
+        Some(value) => writes(calls, value, call),
+        None => false,
+    }
+}
+
+// How many calls up to that of the row may write its value, by how many they are up to that of the row before. They are counted
+// as far as to one more than are told of.
+fn run_at(calls: &[ProblemCall<Op, Reply>], rows: &[Writer], runs: &[usize], place: usize) -> usize
+    requires place { place < length rows.now }
+    requires each { length runs.now ≡ place }
+    requires runs { AreRuns calls.now rows.now runs.now }
+    ensures { (r : Writer) → slice_get rows.now place ≡ Some r → IsRun calls.now r.call result }
+{
+    if place == 0 {
+        return 1;
+    }
+    if !goes_with(calls, rows[place - 1].call, rows[place].call) {
+        return 1;
+    }
+    let before = runs[place - 1];
+    if before > MOST_OWNERS {
+        before
+    } else {
+        before + 1
+    }
+}
+
+// For each row how many calls up to its own may write its value.
+fn runs_each(
+    alloc: Global,
+    calls: &[ProblemCall<Op, Reply>],
+    rows: &[Writer],
+) -> Result<Vec<usize>, AllocError>
+    ensures { IfOk result (λ runs. AreRuns calls.now rows.now runs.items) }
+{
+    let mut runs = Vec::with_capacity(alloc, rows.len())?;
+    for place in 0..rows.len() {
+        let run = run_at(calls, rows, runs.as_slice(), place);
+        runs.push(run)?;
+    }
+    Ok(runs)
+}
+
+// Whether more calls than are told of may write the value, by the row at this place.
+fn is_long(
+    calls: &[ProblemCall<Op, Reply>],
+    rows: &[Writer],
+    runs: &[usize],
+    value: i64,
+    place: usize,
+) -> bool
+    requires { AreRuns calls.now rows.now runs.now }
+    ensures { IsTrue result → AreTooMany calls.now value }
+{
+    let Some(run) = runs.get(place) else {
+        return false;
+    };
+    let Some(row) = rows.get(place) else {
+        return false;
+    };
+    MOST_OWNERS < *run && writes(calls, value, row.call)
+}
+
 // The number of the value, by a key of its rows.
 fn number_of(key: u64) -> usize {
     (key / BEYOND) as usize
@@ -212,6 +304,7 @@ impl Writers {
             (λ v. low_by writers.lows.items (index_of int_eq values.now v)) writers.rows.items) }
         ensures order { IfOk result (λ writers. AreInOrder writers.rows.items) }
         ensures under { IfOk result (λ writers. AreUnder writers.rows.items writers.under.items) }
+        ensures runs { IfOk result (λ writers. AreRuns calls.now writers.rows.items writers.runs.items) }
     {
         let lows = lows_of_values(alloc, values, calls)?;
         let rows = writers_in_order(alloc, values, lows.as_slice(), calls)?;
@@ -219,9 +312,31 @@ impl Writers {
             under: under_each(alloc, rows.as_slice())?,
             ends: ends_of_values(alloc, rows.as_slice(), values.len().saturating_add(1))?,
             others: others_before(alloc, calls)?,
+            runs: runs_each(alloc, calls, rows.as_slice())?,
             lows,
             rows,
         })
+    }
+
+    /// Whether more calls than are told of may write the value whose rows stand from this key on.
+    pub(crate) fn are_too_many(
+        &self,
+        calls: &[ProblemCall<Op, Reply>],
+        value: i64,
+        low: u64,
+    ) -> bool
+        requires { AreRuns calls.now self.now.rows.items self.now.runs.items }
+        ensures { IsTrue result → AreTooMany calls.now value }
+    {
+        let end = self.ends.get(number_of(low)).copied().unwrap_or(0);
+        let place = end.saturating_sub(1);
+        is_long(
+            calls,
+            self.rows.as_slice(),
+            self.runs.as_slice(),
+            value,
+            place,
+        )
     }
 
     // Where the rows with greater keys begin, of those of the value whose rows stand from this key on. A hint.

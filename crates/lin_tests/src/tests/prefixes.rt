@@ -3,14 +3,27 @@
 use super::random::random_history;
 use super::searches::Event::{Call, Return};
 use super::searches::{Event, Part, posed_by};
+use lin_decide::Ladder;
+use lin_effort::Work;
 use lin_object::{Kind, Op, Reply};
 use lin_prefixes::{WholeAnswer, search_by_prefixes};
 use lin_search::{NoStop, Outcome, OwnMemo, longest_run, search_alone};
 use std::alloc::{AllocError, Global};
 
+// What searches of prefixes tell with so many lifts.
+fn told_by_prefixes(
+    alloc: Global,
+    problem: &Part,
+    lifts: u64,
+) -> Result<Option<WholeAnswer>, AllocError> {
+    let mut stop = NoStop;
+    let mut ladder = Ladder::new(problem, Work::of_lifts(lifts), &mut stop);
+    search_by_prefixes(alloc, problem, &mut ladder)
+}
+
 // Whether searches of prefixes answer as the full search does.
 fn prefixes_agree(alloc: Global, problem: &Part) -> Result<bool, AllocError> {
-    let answer = search_by_prefixes(alloc, problem, 1_000_000, &mut NoStop)?;
+    let answer = told_by_prefixes(alloc, problem, 1_000_000)?;
     let (outcome, _) = search_alone(alloc, problem)?;
     match outcome {
         Outcome::Found(order) => match answer {
@@ -119,7 +132,7 @@ const FOUND_EMPTY_UNDER_AN_ITEM: [Event; 6] = [
 fn are_refuted_within(alloc: Global, kind: Kind, events: &[Event], lifts: u64) -> bool {
     let problem = posed_by(alloc, kind, events);
     matches!(
-        search_by_prefixes(alloc, &problem, lifts, &mut NoStop),
+        told_by_prefixes(alloc, &problem, lifts),
         Ok(Some(WholeAnswer::Refuted(_)))
     )
 }

@@ -1,4 +1,4 @@
-use Rattle.lin_ahead.specs.FirstItemLemmas.{first_none}
+use Rattle.lin_laws.specs.FirstItemLemmas.{first_none}
 use Rattle.lin_ahead.proofs.look_ahead.is_empty.Goals as goal
 
 pub returns : goal.returns

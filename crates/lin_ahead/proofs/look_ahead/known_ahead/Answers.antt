@@ -1,11 +1,12 @@
 use Rattle.std.proofs.Common.{◌≡◌, [], inl, inr, rules, refl, sym, ◌∙◌, ap, w64, to_z, of_z, FitsSigned}
 use Rattle.std.proofs.lemmas.Int.{to_z-of_z}
-use Rattle.lin_object.specs.declared.state.ObjState.TheVariants.{Queue, Register, Stack, Map, Counter}
+use Rattle.lin_object.specs.declared.state.ObjState.TheVariants.{Queue, Register, Stack, Set, Map, Counter}
 use Rattle.lin_history.specs.Problems.AnyProblem.{any_problem}
 use Rattle.lin_ahead.proofs.queues.AheadLemmas.{is_right, is_told}
 use Rattle.lin_ahead.proofs.counters.CounterLemmas.{counter_right, counter_told}
 use Rattle.lin_ahead.proofs.stacks.StackLateLemmas.{stack_right}
 use Rattle.lin_ahead.proofs.stacks.StackRowLemmas.{stack_told}
+use Rattle.lin_ahead.proofs.values.ItemLemmas.{item_right}
 use Rattle.lin_ahead.proofs.values.KeyLemmas.{key_right}
 use Rattle.lin_ahead.proofs.values.VainLemmas.{register_right}
 use Rattle.lin_ahead.proofs.look_ahead.known_ahead.Goals as goal
@@ -78,4 +79,16 @@ pub returns-in-Some-clause-told : goal.returns-in-Some-clause-told
 returns-in-Some-clause-told c =
     let start : c.args.problem.now.start ≡ Map [] = search rules in
     let tells = c.in_ok-ahead-in-Map.ensures in
-    inr (start, rw (c.in-Some.is, c.calls-calls.ensures.calls) at tells.rows)
+    inr (inl (start, rw (c.in-Some.is, c.calls-calls.ensures.calls) at tells.rows))
+
+pub returns-in-Some-2-clause-right : goal.returns-in-Some-2-clause-right
+returns-in-Some-2-clause-right c =
+    let start : c.args.problem.now.start ≡ Set [] = search rules in
+    let tells = c.in_ok-ahead-in-Set.ensures in
+    item_right c.set_law.ensures c.args.problem.now start ((rw (c.in-Some-2.is, c.calls-calls.ensures.calls) at tells.when).0 refl) c.in-Some-2.ahead (rw (c.in-Some-2.is, c.calls-calls.ensures.calls) at tells.rows)
+
+pub returns-in-Some-2-clause-told : goal.returns-in-Some-2-clause-told
+returns-in-Some-2-clause-told c =
+    let start : c.args.problem.now.start ≡ Set [] = search rules in
+    let tells = c.in_ok-ahead-in-Set.ensures in
+    inr (inr (start, rw (c.in-Some-2.is, c.calls-calls.ensures.calls) at tells.rows))

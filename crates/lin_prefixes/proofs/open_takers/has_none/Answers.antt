@@ -1,4 +1,4 @@
-use Rattle.lin_ahead.specs.FirstItemLemmas.{first_none}
+use Rattle.lin_laws.specs.FirstItemLemmas.{first_none}
 use Rattle.lin_prefixes.proofs.open_takers.has_none.Goals as goal
 
 pub returns : goal.returns

@@ -2,6 +2,7 @@ use Rattle.std.proofs.Common.{◌≡◌, ◌+◌, length, refl, sym, subst, arit
 use Rattle.lincheck.specs.Stored.{IsStoredTold}
 use Rattle.lincheck.proofs.StoredLemmas.{stored_none, stored_more}
 use Rattle.lincheck.proofs.JudgeLemmas.{least_none, least_more, linearizations, verdict_yes}
+use Rattle.lincheck.proofs.ExplainedLemmas.{witness_in}
 use Rattle.lincheck.proofs.judgement.judge.Goals as goal
 
 pub order_or_end-requires-clause-right : goal.order_or_end-requires-clause-right
@@ -36,3 +37,6 @@ pub returns-clause-verdict : goal.returns-clause-verdict
 returns-clause-verdict g c =
     let all : c.loop-object.object ≡ length c.args.history.now.objects = omega (arith, c.loop-object-test.false, c.loop-object.auto.object-end, c.len-object-end.ensures, c.in_ok-lists.ensures.count) in
     verdict_yes c.args.history.now c.loop-object.orders.items c.loop-object.object c.in_ok-join.field-0 all c.loop-object.invariant.0 (rw c.as_slice.ensures.value at c.in_ok-join.ensures.joined) c.in_ok-join.ensures.whole c.args.setting.now.bounds
+
+pub returns-in-Break-clause-witness : goal.returns-in-Break-clause-witness
+returns-in-Break-clause-witness g c = witness_in c.args.history.now c.in-Break.verdict c.loop-object.object c.in_ok-answer.witness (c.in_ok-order.ensures.judged c.in-Break.verdict c.in-Break.is) c.in_ok-answer.ensures.witness

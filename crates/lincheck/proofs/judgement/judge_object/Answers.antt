@@ -6,9 +6,9 @@ use Rattle.lincheck.proofs.judgement.judge_object.Goals as goal
 pub returns-clause-answer : goal.returns-clause-answer
 returns-clause-answer g c =
     let part : IsPart c.args.history.now c.args.object c.in_ok-problem.problem.calls c.in_ok-problem.problem.start = record { calls_are = c.in_ok-problem.ensures.calls; start_is = c.in_ok-problem.ensures.start } in
-    at_part _ _ _ _ part (λ q. IsObjectAnswer q c.args.question c.args.setting.now.bounds c.in_ok-answer.answer) c.in_ok-answer.ensures.0
+    at_part _ _ _ _ part (λ q. IsObjectAnswer q c.args.question c.args.setting.now.bounds c.in_ok-answer.answer) c.in_ok-answer.ensures.answer.0
 
 pub returns-clause-stored : goal.returns-clause-stored
 returns-clause-stored g c =
     let part : IsPart c.args.history.now c.args.object c.in_ok-problem.problem.calls c.in_ok-problem.problem.start = record { calls_are = c.in_ok-problem.ensures.calls; start_is = c.in_ok-problem.ensures.start } in
-    at_part _ _ _ _ part (λ q. IsNumberStored q c.in_ok-answer.stored) c.in_ok-answer.ensures.1
+    at_part _ _ _ _ part (λ q. IsNumberStored q c.in_ok-answer.stored) c.in_ok-answer.ensures.answer.1

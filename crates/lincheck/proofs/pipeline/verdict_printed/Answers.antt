@@ -5,8 +5,8 @@ use Rattle.lincheck.proofs.LimitLemmas.{few_objects}
 use Rattle.lincheck.proofs.PrintLemmas.{judged_few, stats_told, prints_verdict}
 use Rattle.lincheck.proofs.pipeline.verdict_printed.Goals as goal
 
-pub report_explained-requires : goal.report_explained-requires
-report_explained-requires g c = ((bounds_of c.args.options.now), c.in-Ok.ensures.verdict)
+pub report_explained-requires-clause-verdict : goal.report_explained-requires-clause-verdict
+report_explained-requires-clause-verdict g c = ((bounds_of c.args.options.now), c.in-Ok.ensures.verdict)
 
 pub returns : goal.returns
 returns g c = λ text means.

@@ -1,0 +1,201 @@
+-- The laws of windows: of any lawful object, of the calls on some values, and of those on a key of a map.
+use Rattle.std.proofs.Common.{◌≡◌, ℕ, ◌≤◌, ◌==◌, Bool, true, false, cond, Option, Some, None, List, [], ◌∷◌, length, ◌⊎◌, inl, inr, refl, sym, ◌∙◌, ap, subst, arith}
+use Rattle.std.specs.Prelude.{ℤ, pos, ◌||◌, if◌then◌else◌}
+use Rattle.std.specs.Ordering.{int_eq}
+use Rattle.std.specs.Cmp.{signed_Decides}
+use Rattle.lin_object.specs.declared.op.Op.{Op}
+use Rattle.lin_object.specs.declared.op.Op.TheVariants.{Write, Read, Cas, Insert, Remove, Contains, Lock, Unlock, TryLock}
+use Rattle.lin_object.specs.declared.reply.Reply.{Reply}
+use Rattle.lin_object.specs.declared.reply.Reply.TheVariants.{Okay, Int, Flag}
+use Rattle.lin_object.specs.declared.state.ObjState.{ObjState}
+use Rattle.lin_object.specs.declared.state.ObjState.TheVariants.{Register, Counter, Queue, Stack, Set, Mutex, Map}
+use Rattle.lin_object.specs.contracts.reply.ReplyPartialEq.TheImpl.{eq-value as reply_eq}
+use Rattle.lin_object.specs.contracts.state.ObjStatePartialEq.TheImpl.{eq-value as state_eq}
+use Rattle.lin_object.specs.Items.{is_in}
+use Rattle.lin_object.specs.Kinds.{after}
+use Rattle.lin_object.specs.Kinds.Register.{register_step}
+use Rattle.lin_object.specs.Kinds.Set.{set_step, SetLaw}
+use Rattle.lin_object.specs.Kinds.Mutex.{mutex_step}
+use Rattle.lin_object.specs.Kinds.Map.{MapLaw}
+use Rattle.lin_object.specs.Laws.{IsLawful}
+use Rattle.lin_history.specs.declared.problems.problem.ProblemCall.{ProblemCall}
+use Rattle.lin_history.specs.Problems.Lists.{In}
+use Rattle.lin_history.specs.Problems.Problem.{Problem, problem_of}
+use Rattle.lin_history.specs.Problems.ProblemParts.{ProblemParts}
+use Rattle.lin_history.specs.Problems.LegalLists.{after_call, fits, state_if_fits}
+use Rattle.lin_history.specs.Problems.AnyProblem.{any_problem}
+use Rattle.lin_search.specs.SameLemmas.{alike_itself}
+use Rattle.lin_core.specs.Laws.{Any, IsIdle, IsOn, IsOff}
+use Rattle.lin_core.specs.OnValues.{holder_among, IsOnValues}
+use Rattle.lin_core.specs.KeyValues.{IsOnKey, IsOffKey, IsMap}
+use Rattle.lin_core.specs.Windows.{is_over, AreEnoughWithin}
+use Rattle.lin_core.specs.Suffixes.{IsLeftFrom, IsAnyState, SuffixLaw, HasBeginnings, IsBeginning, SuffixValuesLaw, IsKeyBeginning, SuffixKeyValuesLaw, IsAtKey, IsBesideKey, SuffixKeyLaw}
+use Rattle.lin_core.proofs.WindowLemmas.{left_from}
+use Rattle.lin_core.proofs.LawLemmas.{fitting, any_stays, any_goes}
+use Rattle.lin_core.proofs.SinceLemmas.{one_in}
+use Rattle.lin_core.proofs.OnValues.{clash}
+use Rattle.lin_core.proofs.KeyValueLemmas.{Knows, any_key_stays, any_key_goes}
+use Rattle.lin_core.proofs.KeyStateLemmas.{map_step, known_from, HasAlike, any_at_stays, any_away_goes, alike_from}
+
+-- ---- by what each call may
+
+module _ {State Op Reply : Type 0} (p : Problem State Op Reply) (R : State → State → Type 0) (may_stay may_go : ProblemCall Op Reply → Type 0)
+    (stays : (x : ProblemCall Op Reply) (s t u : State) → may_stay x → R s u → after_call p s (Some x) ≡ Some t → ((v : State) × (after_call p u (Some x) ≡ Some v) × R t v) ⊎ (R t u × (x.returned ≡ None)))
+    (goes : (x : ProblemCall Op Reply) (s t u : State) → may_go x → R s u → after_call p s (Some x) ≡ Some t → R t u)
+    (Kind Start : State → Type 0) (kind : Kind p.start) (kind_step : (x : ProblemCall Op Reply) (s t : State) → Kind s → after_call p s (Some x) ≡ Some t → Kind t)
+    (covers : (s : State) → Kind s → (u : State) × Start u × R s u)
+    (from event : ℕ) (kept : List ℕ) (calls : List (ProblemCall Op Reply)) (enough : AreEnoughWithin p from event kept calls may_stay may_go) where
+  pub left_within : IsLeftFrom p Start kept calls
+  left_within = left_from p from event kept calls enough.within R
+      (λ x i s t u is e n. stays x s t u (enough.stay i x is) e n)
+      (λ c x s t u is up out fresh e n. elim (enough.go c x is up) [
+        | inl there ↦ absurd (out there)
+        | inr (inl over) ↦ absurd (fresh over)
+        | inr (inr off) ↦ goes x s t u off e n
+      ])
+      Kind Start kind kind_step covers
+
+-- ---- any lawful object
+
+module _ {Object State Op Reply : Type 0} {after : Object → State → ℕ → Op → Option (State × Reply)} {same_object : Object → Object → Bool} {same_state : State → State → Bool} {same_op : Op → Op → Bool} {same_reply : Reply → Reply → Bool} (lawful : IsLawful after same_object same_state same_op same_reply) (parts : ProblemParts Object State Op Reply) where
+  abbrev P : Problem State Op Reply
+  P = problem_of after same_state same_reply parts
+
+  pub suffix_law : SuffixLaw P
+  suffix_law from event kept calls enough = left_within P (λ s u. same_state s u ≡ true) Any (IsIdle P)
+      (λ x s t u any e n. inl ((alike_itself lawful (record parts { calls = x ∷ [] })).there.steps s u t 0 e n))
+      (λ x s t u idle e n. (
+      let f = fitting same_reply x.returned (after parts.object s x.process x.op) t n in
+      let still : same_state s t ≡ true = subst (λ (y : State). same_state s y ≡ true) f.3 (idle s x.process f.0 f.1 f.2) in
+      sym (lawful.states.congr s t u still) ∙ e
+      ))
+      (λ s. Unit {0}) IsAnyState tt (λ x s t k n. tt) (λ s k. (s, tt, lawful.states.refl s))
+      from event kept calls enough
+
+-- ---- what stays a register, a set, a mutex
+
+abbrev pub SameKind : ObjState → ObjState → Type 0
+SameKind (Register z) (Register w) = Unit {0}
+SameKind (Set items) (Set others) = Unit {0}
+SameKind (Mutex holder) (Mutex other) = Unit {0}
+SameKind s u = ⊥
+
+abbrev Leads : ObjState → Option (ObjState × Reply) → Type 0
+Leads s None = Unit {0}
+Leads s (Some a) = SameKind s a.0
+
+chosen : (s : ObjState) (b : Bool) (x y : ObjState × Reply) → SameKind s x.0 → SameKind s y.0 → SameKind s (if b then x else y).0
+chosen s true x y k h = k
+chosen s false x y k h = h
+
+register_leads : (z v : ℤ) (op : Op) → Leads (Register z) (register_step v op)
+register_leads z v (Write w) = tt
+register_leads z v Read = tt
+register_leads z v (Cas a b) = chosen (Register z) (int_eq v a) (Register b, Flag true) (Register v, Flag false) tt tt
+register_leads z v op = tt
+
+set_leads : (zs items : List ℤ) (op : Op) → Leads (Set zs) (set_step items op)
+set_leads zs items (Insert v) = chosen (Set zs) (is_in v items) _ _ tt tt
+set_leads zs items (Remove v) = chosen (Set zs) (is_in v items) _ _ tt tt
+set_leads zs items (Contains v) = tt
+set_leads zs items op = tt
+
+released : (z : Option ℕ) (b : Bool) → Leads (Mutex z) (if b then Some (Mutex None, Okay) else None)
+released z true = tt
+released z false = tt
+
+mutex_leads : (z holder : Option ℕ) (process : ℕ) (op : Op) → Leads (Mutex z) (mutex_step holder process op)
+mutex_leads z None process Lock = tt
+mutex_leads z (Some h) process Lock = tt
+mutex_leads z None process Unlock = tt
+mutex_leads z (Some h) process Unlock = released z (h == process)
+mutex_leads z None process TryLock = tt
+mutex_leads z (Some h) process TryLock = tt
+mutex_leads z None process op = tt
+mutex_leads z (Some h) process op = tt
+
+kind_of : (s : ObjState) (a : Option (ObjState × Reply)) (returned : Option (ℕ × Reply)) (t : ObjState) → Leads s a → state_if_fits reply_eq.it returned a ≡ Some t → SameKind s t
+kind_of s a returned t k n =
+    let f = fitting reply_eq.it returned a t n in
+    subst (SameKind s) f.3 (subst (Leads s) f.1 k)
+
+kind_step : (z : ObjState) (x : ProblemCall Op Reply) (s t : ObjState) → SameKind z s → state_if_fits reply_eq.it x.returned (after s x.process x.op) ≡ Some t → SameKind z t
+kind_step (Register z) x (Register v) t k n = kind_of (Register z) (after (Register v) x.process x.op) x.returned t (register_leads z v x.op) n
+kind_step (Set zs) x (Set items) t k n = kind_of (Set zs) (after (Set items) x.process x.op) x.returned t (set_leads zs items x.op) n
+kind_step (Mutex z) x (Mutex holder) t k n = kind_of (Mutex z) (after (Mutex holder) x.process x.op) x.returned t (mutex_leads z holder x.process x.op) n
+kind_step z x s t k n = absurd k
+
+-- ---- what stands for a state
+
+register_from : (values : List ℤ) (z v : ℤ) (b : Bool) → is_in v values ≡ b → (u : ObjState) × IsBeginning values (Register z) u × IsOnValues values (Register v) u
+register_from values z v true e = (Register v, inr (v, e, refl), λ h. refl)
+register_from values z v false e = (Register z, inl refl, λ h. clash h e)
+
+mutex_from : (values : List ℤ) (z : Option ℕ) (h : ℕ) (b : Bool) → is_in (pos h) values ≡ b → (u : ObjState) × IsBeginning values (Mutex z) u × IsOnValues values (Mutex (Some h)) u
+mutex_from values z h true e = (Mutex (Some h), inr (h, e, refl), ap (λ (b : Bool). if b then Some h else None) e)
+mutex_from values z h false e = (Mutex None, inl refl, ap (λ (b : Bool). if b then Some h else None) e)
+
+-- the one item of the list
+only_item : (v : ℤ) (values : List ℤ) → length values ≡ 1 → is_in v values ≡ true → (items : List ℤ) (b : Bool) → is_in v items ≡ b → (item : ℤ) → is_in item values ≡ true → item ≡ v
+only_item v values one h items b e item k = first_is (one_in values v one h) (one_in values item one k)
+  where
+    head_is : (a c : ℤ) → a ∷ [] ≡ c ∷ [] → c ≡ a
+    head_is a c f = cc
+
+    first_is : values ≡ v ∷ [] → values ≡ item ∷ [] → item ≡ v
+    first_is f g = head_is v item (sym f ∙ g)
+
+nothing_in : (item : ℤ) → is_in item [] ≡ false
+nothing_in item = refl
+
+set_from : (values zs items : List ℤ) → length values ≡ 1 → (u : ObjState) × IsBeginning values (Set zs) u × IsOnValues values (Set items) u
+set_from [] zs items one = absurd (omega (arith, one))
+set_from (v ∷ []) zs items one = by (is_in v items) refl
+  where
+    there : is_in v (v ∷ []) ≡ true
+    there = ap (λ (b : Bool). b || false) ((signed_Decides v v).1 refl)
+
+    by : (b : Bool) → is_in v items ≡ b → (u : ObjState) × IsBeginning (v ∷ []) (Set zs) u × IsOnValues (v ∷ []) (Set items) u
+    by true e = (Set (v ∷ []), inr refl, λ item h. subst (λ (x : ℤ). is_in x items ≡ is_in x (v ∷ [])) (sym (only_item v (v ∷ []) refl there items true e item h)) (e ∙ sym there))
+    by false e = (Set [], inl refl, λ item h. subst (λ (x : ℤ). is_in x items ≡ false) (sym (only_item v (v ∷ []) refl there items false e item h)) e)
+set_from (v ∷ w ∷ rest) zs items one = absurd (omega (arith, one))
+
+begins_from : (values : List ℤ) (z s : ObjState) → HasBeginnings values z → SameKind z s → (u : ObjState) × IsBeginning values z u × IsOnValues values s u
+begins_from values (Register z) (Register v) has k = register_from values z v (is_in v values) refl
+begins_from values (Set zs) (Set items) has k = set_from values zs items has
+begins_from values (Mutex z) (Mutex None) has k = (Mutex None, inl refl, refl)
+begins_from values (Mutex z) (Mutex (Some h)) has k = mutex_from values z h (is_in (pos h) values) refl
+begins_from values z s has k = absurd k
+
+kind_itself : (values : List ℤ) (z : ObjState) → HasBeginnings values z → SameKind z z
+kind_itself values (Register z) has = tt
+kind_itself values (Set items) has = tt
+kind_itself values (Mutex holder) has = tt
+kind_itself values z has = absurd has
+
+-- ---- the laws of the kinds
+
+module _ {Object : Type 0} (parts : ProblemParts Object ObjState Op Reply) where
+  abbrev A : Problem ObjState Op Reply
+  A = any_problem parts
+
+  pub suffix_values_law : SetLaw after state_eq.it → MapLaw after state_eq.it → SuffixValuesLaw A
+  suffix_values_law sets maps values from event kept calls has enough = left_within A (IsOnValues values) (IsOn values) (IsOff values)
+      (any_stays sets maps values)
+      (any_goes sets maps values)
+      (SameKind parts.start) (IsBeginning values parts.start) (kind_itself values parts.start has) (kind_step parts.start) (λ s k. begins_from values parts.start s has k)
+      from event kept calls enough
+
+  pub suffix_key_values_law : MapLaw after state_eq.it → SuffixKeyValuesLaw A
+  suffix_key_values_law law key nothing values from event kept calls is_map enough = left_within A (Knows law key nothing values) (IsOnKey key nothing values) (IsOffKey key nothing values)
+      (any_key_stays law key nothing values)
+      (any_key_goes law key nothing values)
+      IsMap (IsKeyBeginning key values) is_map map_step (known_from law key nothing values)
+      from event kept calls enough
+
+  pub suffix_key_law : MapLaw after state_eq.it → SuffixKeyLaw A
+  suffix_key_law law key other seen from event kept calls is_map out enough = left_within A (HasAlike law key seen) (IsAtKey key seen) (IsBesideKey key)
+      (λ x s t u on e n. inl (any_at_stays law key seen x s t u on e n))
+      (any_away_goes law key seen)
+      IsMap (IsKeyBeginning key (other ∷ seen)) is_map map_step (alike_from law key seen other out)
+      from event kept calls enough

@@ -1,0 +1,13 @@
+pub mod FullLemmas
+pub mod KeyLemmas
+pub mod KeyPartLemmas
+pub mod MapKeyLemmas
+pub mod SetKeyLemmas
+pub mod MergeLemmas
+pub mod MergingLemmas
+pub mod GroupLemmas
+pub mod NumberLemmas
+pub mod PlaceLemmas
+pub mod AnswerLemmas
+pub mod WholeLemmas
+pub mod SpentLemmas

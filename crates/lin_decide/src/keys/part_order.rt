@@ -1,0 +1,187 @@
+//! What searches of one part tell.
+
+ghost use Rattle.std.specs.Prelude.{◌≡◌, ◌<◌, ◌≤◌, ℕ, IfOk, length};
+ghost use Rattle.lin_history.specs.declared.limits.TheConstants.{MAX_CALLS_ON_OBJECT};
+ghost use Rattle.lin_history.specs.Problems.AnyProblem.{any_problem};
+ghost use Rattle.lin_history.specs.Problems.Lists.{In};
+ghost use Rattle.lin_search.specs.Told.{IsRightOf, IsSpent, IsToldUnless};
+ghost use Rattle.lin_decide.specs.Keys.PartOrder.{IsNamed, IsPartOrder, IsSpentOnPart, at_most, lifts_of_part};
+ghost use Rattle.lin_parts.specs.Parts.{AreSomeCalls};
+
+use lin_ahead::{known_ahead, search_first};
+use lin_effort::efforts::{STEPS_FOR_A_LIFT, ahead};
+use lin_fewer::{NoRules, has_many_pending, least_linearization};
+use lin_history::{Order, Problem};
+use lin_object::{AnyObject, ObjState};
+use lin_parts::{fill, own_names, part_of};
+use lin_search::{Stop, Told, search_for_order};
+use std::alloc::{AllocError, Global};
+
+// The most lifts for each call of a part of the search that comes before anything is known ahead.
+const LIFTS_AT_ONCE: u64 = 8;
+
+// The most lifts of a search for each call of a part, and how many more. A part of a real history takes few; where one takes
+// more, the search of the whole decides.
+const LIFTS_FOR_A_CALL: u64 = 300;
+
+const MORE_LIFTS: u64 = 4_000;
+
+/// So many lifts, but never more than the limit.
+pub(crate) fn within(lifts: u64, limit: Option<u64>) -> u64
+    ensures { result ≡ at_most limit lifts }
+{
+    match limit {
+        Some(most) => most.min(lifts),
+        None => lifts,
+    }
+}
+
+// How many lifts a search of a part of so many calls may make: never more than the limit.
+fn lifts_of_part(calls: usize, limit: Option<u64>) -> u64
+    requires { calls ≤ MAX_CALLS_ON_OBJECT }
+    ensures { result ≡ lifts_of_part limit calls }
+{
+    within(LIFTS_FOR_A_CALL * calls as u64 + MORE_LIFTS, limit)
+}
+
+// What a first search of the part tells, where something is known ahead.
+fn told_at_first<S: Stop>(
+    alloc: Global,
+    part: &Problem<AnyObject>,
+    limit: Option<u64>,
+    stop: &mut S,
+) -> Result<Told, AllocError>
+    ensures told { IfOk result (IsRightOf (any_problem part.now)) }
+    ensures stop { S.follows stop.old stop.new }
+{
+    let lifts = within(ahead(part.len()).lifts, limit);
+    match known_ahead(alloc, part)? {
+        Some(known) => search_first(alloc, part, &known, lifts, stop),
+        None => Ok(Told::Nothing),
+    }
+}
+
+// What a search tells that tries pending calls only between completed ones, where there are many of them.
+fn told_by_blocks<S: Stop>(
+    alloc: Global,
+    part: &Problem<AnyObject>,
+    lifts: u64,
+    stop: &mut S,
+) -> Result<Told, AllocError>
+    ensures told { IfOk result (IsRightOf (any_problem part.now)) }
+    ensures stop { S.follows stop.old stop.new }
+{
+    if !has_many_pending(part) {
+        return Ok(Told::Nothing);
+    }
+    let steps = STEPS_FOR_A_LIFT.saturating_mul(lifts);
+    least_linearization(alloc, part, &NoRules, steps, stop)
+}
+
+// What these two tell: a first search where something is known ahead, and where that tells nothing, one by blocks.
+fn told_by_rules<S: Stop>(
+    alloc: Global,
+    part: &Problem<AnyObject>,
+    limit: Option<u64>,
+    stop: &mut S,
+) -> Result<Told, AllocError>
+    ensures told { IfOk result (IsRightOf (any_problem part.now)) }
+    ensures stop { S.follows stop.old stop.new }
+{
+    let lifts = lifts_of_part(part.calls().len(), limit);
+    match told_at_first(alloc, part, limit, stop)? {
+        Told::Nothing => told_by_blocks(alloc, part, lifts, stop),
+        known => Ok(known),
+    }
+}
+
+// What a search of few lifts tells of an item of a set. What is known ahead of it takes as long as eight lifts for each call, and most
+// items are easy.
+fn told_at_once<S: Stop>(
+    alloc: Global,
+    part: &Problem<AnyObject>,
+    limit: Option<u64>,
+    stop: &mut S,
+) -> Result<Told, AllocError>
+    ensures told { IfOk result (IsRightOf (any_problem part.now)) }
+    ensures stop { S.follows stop.old stop.new }
+{
+    let lifts = LIFTS_AT_ONCE.saturating_mul(part.len() as u64);
+    match part.start() {
+        ObjState::Set(_) => search_for_order(alloc, part, within(lifts, limit), stop),
+        _ => Ok(Told::Nothing),
+    }
+}
+
+// What these two tell.
+fn told_before<S: Stop>(
+    alloc: Global,
+    part: &Problem<AnyObject>,
+    limit: Option<u64>,
+    stop: &mut S,
+) -> Result<Told, AllocError>
+    ensures told { IfOk result (IsRightOf (any_problem part.now)) }
+    ensures stop { S.follows stop.old stop.new }
+{
+    match told_at_once(alloc, part, limit, stop)? {
+        Told::Nothing => told_by_rules(alloc, part, limit, stop),
+        known => Ok(known),
+    }
+}
+
+// What searches of the part tell: these, and where they tell nothing, one that keeps what it refuted.
+fn told_of_part<S: Stop>(
+    alloc: Global,
+    part: &Problem<AnyObject>,
+    limit: Option<u64>,
+    stop: &mut S,
+) -> Result<Told, AllocError>
+    ensures told { IfOk result (IsRightOf (any_problem part.now)) }
+    ensures nothing { IfOk result (IsToldUnless (IsSpent (any_problem part.now)
+        (lifts_of_part limit (length part.now.calls)) (S.tells stop.new))) }
+    ensures stop { S.follows stop.old stop.new }
+{
+    let lifts = lifts_of_part(part.calls().len(), limit);
+    match told_before(alloc, part, limit, stop)? {
+        Told::Nothing => search_for_order(alloc, part, lifts, stop),
+        known => Ok(known),
+    }
+}
+
+// The order's calls and, behind them, the other calls of the part, by their numbers in the whole.
+fn full_order(alloc: Global, kept: &[usize], order: Order) -> Result<Order, AllocError>
+    requires { (c : ℕ) → In c order → c < length kept.now }
+    ensures { IfOk result (IsNamed kept.now order) }
+{
+    let mut calls = order.into_calls();
+    fill(alloc, &mut calls, kept.len())?;
+    let names = own_names(alloc, kept, calls.as_slice())?;
+    Ok(Order::new(names))
+}
+
+/// What searches of the part of these calls tell: its least linearization and behind it the pending calls that it lacks, by
+/// their numbers in the whole; or that it has none; or nothing, where it has more runs than lifts may be made, or where the stop
+/// answers. `AllocError` where memory was refused.
+pub(crate) fn order_of_part<S: Stop>(
+    alloc: Global,
+    problem: &Problem<AnyObject>,
+    kept: &[usize],
+    limit: Option<u64>,
+    stop: &mut S,
+) -> Result<Told, AllocError>
+    requires { AreSomeCalls (any_problem problem.now) kept.now }
+    ensures told { IfOk result (IsPartOrder (any_problem problem.now) kept.now) }
+    ensures nothing { IfOk result (IsToldUnless (IsSpentOnPart (any_problem problem.now) kept.now
+        limit (S.tells stop.new))) }
+    ensures stop { S.follows stop.old stop.new }
+{
+    let part = part_of(alloc, problem, kept)?;
+    match told_of_part(alloc, &part, limit, stop)? {
+        Told::Found(order) => {
+            let order = full_order(alloc, kept, order)?;
+            Ok(Told::Found(order))
+        }
+        Told::Refuted => Ok(Told::Refuted),
+        Told::Nothing => Ok(Told::Nothing),
+    }
+}

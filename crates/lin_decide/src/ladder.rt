@@ -1,0 +1,342 @@
+//! The ladder: every way to the answer for one problem, and which of them is gone when.
+//!
+//!   key by key, where the effort says so first ---- told ----------------> that
+//!      |
+//!   what shows without a search (`shown`) --------- there is none -------> none
+//!      |
+//!   +> in order: a first search where something is known ahead, else key by key or a full one --- told ---> that
+//!   |     |  (of a counter in the other order)
+//!   |  by blocks: pending calls only between completed ones --------------------------------- told ---> that
+//!   |     |
+//!   +-----+ nothing: the next round, several times as far, until the effort or the work ends
+//!
+//! How far each goes stands in `lin_effort::efforts`; there is no number here.
+
+ghost use Rattle.std.specs.Prelude.{◌≡◌, ℕ, List, IfOk, IfSome, IsTrue};
+ghost use Rattle.lin_history.specs.Problems.AnyProblem.{any_problem};
+ghost use Rattle.lin_history.specs.Problems.Linearizations.{IsLinearization};
+ghost use Rattle.lin_ahead.specs.Behind.{IsRightAhead};
+ghost use Rattle.lin_search.specs.Told.{IsRightOf};
+
+use crate::keys::key_search::search_by_key;
+use crate::shown::shows_none;
+use lin_ahead::{KnownAhead, held_until, known_ahead, search_first};
+use lin_effort::efforts::may_take_steps;
+use lin_effort::{Decide, Effort, Keys, Work};
+use lin_fewer::{SumRules, has_many_pending, is_refuted_with_any_adds, least_linearization};
+use lin_history::Problem;
+use lin_object::{AnyObject, ObjState};
+use lin_search::{AtTimes, Stop, Told, search_for_order};
+use std::alloc::{AllocError, Global};
+
+// Whether the object is a counter.
+fn is_counter(problem: &Problem<AnyObject>) -> bool {
+    matches!(problem.start(), ObjState::Counter(_))
+}
+
+// Whether it is a mutex.
+fn is_mutex(problem: &Problem<AnyObject>) -> bool {
+    matches!(problem.start(), ObjState::Mutex(_))
+}
+
+// Whether it is a set.
+fn is_set(problem: &Problem<AnyObject>) -> bool {
+    matches!(problem.start(), ObjState::Set(_))
+}
+
+// What a search tells of a map or a set that goes key by key.
+fn told_by_key<S: Stop>(
+    alloc: Global,
+    problem: &Problem<AnyObject>,
+    lifts: u64,
+    stop: &mut S,
+) -> Result<Told, AllocError>
+    ensures { IfOk result (IsRightOf (any_problem problem.now)) }
+{
+    search_by_key(alloc, problem, Some(lifts), stop)
+}
+
+// What a search of so many steps tells that tries pending calls only between completed ones.
+fn told_in_steps<S: Stop>(
+    alloc: Global,
+    problem: &Problem<AnyObject>,
+    steps: u64,
+    stop: &mut S,
+) -> Result<Told, AllocError>
+    ensures { IfOk result (IsRightOf (any_problem problem.now)) }
+{
+    let rules = SumRules::of(alloc, problem)?;
+    least_linearization(alloc, problem, &rules, steps, &mut AtTimes::new(stop))
+}
+
+// Whether a counter has no linearization whatever its pending calls add.
+fn has_none_with_any_adds<S: Stop>(
+    alloc: Global,
+    problem: &Problem<AnyObject>,
+    stop: &mut S,
+) -> Result<bool, AllocError>
+    ensures { IfOk result (λ shown. IsTrue shown
+        → (l : List ℕ) → IsLinearization (any_problem problem.now) l → ⊥) }
+{
+    is_refuted_with_any_adds(alloc, problem, &mut AtTimes::new(stop))
+}
+
+// What a search tells that keeps what it refuted: key by key before it, where the effort says so.
+fn told_in_full<S: Stop>(
+    alloc: Global,
+    problem: &Problem<AnyObject>,
+    keys: Keys,
+    lifts: u64,
+    stop: &mut S,
+) -> Result<Told, AllocError>
+    ensures { IfOk result (IsRightOf (any_problem problem.now)) }
+{
+    if keys == Keys::InRounds {
+        match told_by_key(alloc, problem, lifts, stop)? {
+            Told::Nothing => {}
+            told => return Ok(told),
+        }
+    }
+    search_for_order(alloc, problem, lifts, &mut AtTimes::new(stop))
+}
+
+// What a search tells that goes by the order of the calls: a first search where something is known ahead. An item of a set has two states
+// alone, so a search that keeps what it refuted goes before it.
+fn told_in_order<S: Stop>(
+    alloc: Global,
+    problem: &Problem<AnyObject>,
+    known: &Option<KnownAhead>,
+    keys: Keys,
+    lifts: u64,
+    stop: &mut S,
+) -> Result<Told, AllocError>
+    requires { IfSome known.now (IsRightAhead (any_problem problem.now)) }
+    ensures { IfOk result (IsRightOf (any_problem problem.now)) }
+{
+    let Some(ahead) = known else {
+        return told_in_full(alloc, problem, keys, lifts, stop);
+    };
+    if is_set(problem) {
+        match told_in_full(alloc, problem, Keys::Never, lifts, stop)? {
+            Told::Nothing => {}
+            told => return Ok(told),
+        }
+    }
+    search_first(alloc, problem, ahead, lifts, &mut AtTimes::new(stop))
+}
+
+/// Decides parts of one problem, or the problem itself, by every way there is, until the work is done or the stop answers.
+#[derive(Drop)]
+pub struct Ladder<'a, S> {
+    left: Work,
+    has_many_pending: bool,
+    stop: &'a mut S,
+}
+
+impl<'a, S: Stop> Ladder<'a, S> {
+    /// The ladder for a problem and its parts, with so much work and this stop.
+    pub fn new(problem: &Problem<AnyObject>, work: Work, stop: &'a mut S) -> Self {
+        Ladder {
+            left: work,
+            has_many_pending: has_many_pending(problem),
+            stop,
+        }
+    }
+
+    // Takes so much work off, where searches are charged.
+    fn take(&mut self, effort: &Effort, work: Work) {
+        if effort.is_charged {
+            self.left = self.left.without(work);
+        }
+    }
+
+    // So many lifts, or as many as there is work for.
+    fn lifts(&mut self, effort: &Effort, wanted: u64) -> u64 {
+        let lifts = wanted.min(self.left.lifts());
+        self.take(effort, Work::of_lifts(lifts));
+        lifts
+    }
+
+    // Whether work is left and the stop does not answer.
+    fn may_search(&mut self) -> bool {
+        self.left.lifts() > 0 && self.stop.ask().is_none()
+    }
+
+    // The same before a search. One that is not charged is made in any case, since it may end before the stop is asked within it: so a
+    // small object is decided when the time is up.
+    fn may_begin(&mut self, effort: &Effort) -> bool {
+        !effort.is_charged || self.may_search()
+    }
+
+    // What a search tells that tries pending calls only between completed ones, of the parts of a problem with many of them.
+    fn told_by_blocks(
+        &mut self,
+        alloc: Global,
+        problem: &Problem<AnyObject>,
+        effort: &Effort,
+        lifts: u64,
+    ) -> Result<Told, AllocError>
+        ensures { IfOk result (IsRightOf (any_problem problem.now)) }
+    {
+        let steps = lifts.saturating_mul(effort.steps_for_a_lift);
+        if !self.has_many_pending || steps == 0 || !may_take_steps(problem, steps) {
+            return Ok(Told::Nothing);
+        }
+        self.take(effort, Work::of_steps(steps));
+        told_in_steps(alloc, problem, steps, self.stop)
+    }
+
+    // What is told of a counter with so many lifts for each search: that by blocks goes first.
+    fn told_of_counter(
+        &mut self,
+        alloc: Global,
+        problem: &Problem<AnyObject>,
+        known: &Option<KnownAhead>,
+        effort: &Effort,
+        lifts: u64,
+    ) -> Result<Told, AllocError>
+        requires { IfSome known.now (IsRightAhead (any_problem problem.now)) }
+        ensures { IfOk result (IsRightOf (any_problem problem.now)) }
+    {
+        match self.told_by_blocks(alloc, problem, effort, lifts)? {
+            Told::Nothing => { told_in_order(alloc, problem, known, effort.keys, lifts, self.stop) }
+            told => Ok(told),
+        }
+    }
+
+    // What one round tells, with so many lifts for each search.
+    fn round(
+        &mut self,
+        alloc: Global,
+        problem: &Problem<AnyObject>,
+        known: &Option<KnownAhead>,
+        effort: &Effort,
+        lifts: u64,
+    ) -> Result<Told, AllocError>
+        requires { IfSome known.now (IsRightAhead (any_problem problem.now)) }
+        ensures { IfOk result (IsRightOf (any_problem problem.now)) }
+    {
+        if is_counter(problem) {
+            return self.told_of_counter(alloc, problem, known, effort, lifts);
+        }
+        match told_in_order(alloc, problem, known, effort.keys, lifts, self.stop)? {
+            Told::Nothing => self.told_by_blocks(alloc, problem, effort, lifts),
+            told => Ok(told),
+        }
+    }
+
+    // What rounds tell, each of which goes several times as far as the one before.
+    fn rounds(
+        &mut self,
+        alloc: Global,
+        problem: &Problem<AnyObject>,
+        known: &Option<KnownAhead>,
+        effort: &Effort,
+    ) -> Result<Told, AllocError>
+        requires { IfSome known.now (IsRightAhead (any_problem problem.now)) }
+        ensures { IfOk result (IsRightOf (any_problem problem.now)) }
+    {
+        let mut wanted = effort.lifts;
+        for _ in 0..effort.rounds_for(known.is_some()) {
+            if !self.may_begin(effort) {
+                return Ok(Told::Nothing);
+            }
+            let lifts = self.lifts(effort, wanted);
+            match self.round(alloc, problem, known, effort, lifts)? {
+                Told::Nothing => wanted = wanted.saturating_mul(effort.growth),
+                told => return Ok(told),
+            }
+        }
+        Ok(Told::Nothing)
+    }
+
+    // Whether a counter with many pending calls has no linearization whatever these add, where the effort asks for that.
+    fn is_refuted_with_any_adds(
+        &mut self,
+        alloc: Global,
+        problem: &Problem<AnyObject>,
+        effort: &Effort,
+    ) -> Result<bool, AllocError>
+        ensures { IfOk result (λ refuted. IsTrue refuted
+            → (l : List ℕ) → IsLinearization (any_problem problem.now) l → ⊥) }
+    {
+        if !effort.with_any_adds || !self.has_many_pending || !is_counter(problem) {
+            return Ok(false);
+        }
+        has_none_with_any_adds(alloc, problem, self.stop)
+    }
+
+    // Whether it shows without a search that there is no linearization, where the effort asks for that.
+    fn shows_none(
+        &mut self,
+        alloc: Global,
+        problem: &Problem<AnyObject>,
+        known: &Option<KnownAhead>,
+        effort: &Effort,
+    ) -> Result<bool, AllocError>
+        requires { IfSome known.now (IsRightAhead (any_problem problem.now)) }
+        ensures { IfOk result (λ shown. IsTrue shown
+            → (l : List ℕ) → IsLinearization (any_problem problem.now) l → ⊥) }
+    {
+        if effort.is_shown && shows_none(alloc, problem, known)? {
+            return Ok(true);
+        }
+        self.is_refuted_with_any_adds(alloc, problem, effort)
+    }
+
+    // What is told by all but the search key by key that may go before.
+    fn told_by_all(
+        &mut self,
+        alloc: Global,
+        problem: &Problem<AnyObject>,
+        effort: &Effort,
+    ) -> Result<Told, AllocError>
+        ensures { IfOk result (IsRightOf (any_problem problem.now)) }
+    {
+        let known = known_ahead(alloc, problem)?;
+        if self.shows_none(alloc, problem, &known, effort)? {
+            return Ok(Told::Refuted);
+        }
+        self.rounds(alloc, problem, &known, effort)
+    }
+}
+
+impl<'a, S: Stop> Decide for Ladder<'a, S> {
+    fn decide(
+        &mut self,
+        alloc: Global,
+        problem: &Problem<AnyObject>,
+        effort: &Effort,
+    ) -> Result<Told, AllocError> {
+        self.take(effort, effort.made);
+        if !self.may_begin(effort) {
+            return Ok(Told::Nothing);
+        }
+        if effort.keys == Keys::AtFirst {
+            match told_by_key(alloc, problem, self.left.lifts(), self.stop)? {
+                Told::Nothing => {}
+                told => return Ok(told),
+            }
+        }
+        self.told_by_all(alloc, problem, effort)
+    }
+
+    fn goes_on(&mut self, work: Work) -> bool {
+        self.left = self.left.without(work);
+        self.may_search()
+    }
+
+    fn stand_ins(
+        &self,
+        alloc: Global,
+        problem: &Problem<AnyObject>,
+    ) -> Result<Vec<usize>, AllocError> {
+        if !is_mutex(problem) {
+            return Ok(Vec::new(alloc));
+        }
+        match held_until(alloc, problem)? {
+            Some(until) => Ok(until),
+            None => Ok(Vec::new(alloc)),
+        }
+    }
+}

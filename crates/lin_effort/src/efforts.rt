@@ -1,0 +1,277 @@
+//! How far each way goes: all thresholds of the check, with their reasons.
+
+ghost use Rattle.std.specs.Prelude.{◌≤◌, IfSome};
+
+use crate::effort::{Effort, Keys};
+use crate::work::Work;
+use lin_history::Problem;
+use lin_object::{AnyObject, ObjState};
+
+// ---- limits
+
+// The least limit with which ways are gone that a limit does not speak of: searches of prefixes, one value for all that nobody saw,
+// and a verdict that is known ahead. A smaller one bounds the full search of the problem as it is, and that alone says `undecided`
+// or `not linearizable`.
+const LEAST_LIMIT: u64 = 500_000;
+
+/// Whether the limit is one of the full search alone.
+pub fn is_small(limit: Option<u64>) -> bool {
+    match limit {
+        Some(most) => most < LEAST_LIMIT,
+        None => false,
+    }
+}
+
+/// So many lifts, but never more than the limit.
+pub fn within(lifts: u64, limit: Option<u64>) -> u64
+    ensures { IfSome limit (λ most. result ≤ most) }
+{
+    match limit {
+        Some(most) => most.min(lifts),
+        None => lifts,
+    }
+}
+
+/// As much work as the limit allows.
+pub fn work_within(limit: Option<u64>) -> Work {
+    match limit {
+        Some(most) => Work::of_lifts(most),
+        None => Work::ANY,
+    }
+}
+
+// ---- an object before its full search
+
+// The most lifts of a first search for each call. Where what is known ahead is enough to decide, a queue takes little more than one
+// lift for each call; where it is not, a search that goes before another is to cost little.
+const LIFTS_AHEAD: u64 = 3;
+
+/// An object of so many calls, before its full search: key by key, or a first search where something is known ahead.
+pub fn ahead(calls: usize) -> Effort {
+    Effort {
+        is_shown: false,
+        with_any_adds: false,
+        keys: Keys::AtFirst,
+        lifts: LIFTS_AHEAD.saturating_mul(calls as u64),
+        growth: 1,
+        rounds_ahead: 1,
+        rounds: 0,
+        steps_for_a_lift: 0,
+        made: Work::NONE,
+        is_charged: false,
+    }
+}
+
+// How many calls an object has at least for whose full search one value is put in place of all that nobody saw. Fewer are soon
+// searched, and how many configurations they have shows more of them as they are.
+const MANY_CALLS: usize = 16;
+
+/// Whether one value is put in place of all that nobody saw, for a full search within this limit.
+pub fn makes_unseen_one(problem: &Problem<AnyObject>, limit: Option<u64>) -> bool {
+    !is_small(limit) && problem.len() >= MANY_CALLS
+}
+
+// ---- turns of the full search and of searches of prefixes
+
+// How many lifts the full search makes in its first turn, or as many as there are calls where these are more. It takes some 20
+// milliseconds and 8 megabytes for so many, and small histories are decided before.
+const FIRST_TURN: u64 = 20_000;
+
+// How many keys a map or a set may have for which a lift of its full search counts as one: each copies all keys, so with more of them
+// fewer lifts are made in the first turn, if there is known to be no order.
+const KEYS_FOR_A_LIFT: u64 = 1_000;
+
+// The least lifts, for each call, of the first searches of prefixes. They halve the number of calls some ten times, and search a few
+// dozen prefixes then, each with about a lift for each call.
+const LIFTS_BY_PREFIXES: u64 = 32;
+
+// The most lifts of searches of prefixes for each call. What they do not tell with so many is left to the full search. Where it is
+// known that there is no linearization they make all of them in the first turn: the full search would have every configuration to
+// go through in its next one.
+const MOST_BY_PREFIXES: u64 = 1_000;
+
+/// How many turns there are at most: as often as a number of lifts can be doubled.
+pub const MOST_TURNS: u32 = 64;
+
+/// How far the ways go in one turn: how many lifts the full search makes, and searches of prefixes.
+#[derive(Clone, Copy, Debug)]
+pub struct Turn {
+    /// How many lifts the full search makes, or makes no progress for.
+    pub full: u64,
+    /// How many lifts searches of prefixes make.
+    pub prefixes: u64,
+    /// Whether it is the first.
+    pub is_first: bool,
+}
+
+// How many lifts searches of prefixes make at most.
+fn most_by_prefixes(problem: &Problem<AnyObject>, limit: Option<u64>) -> u64 {
+    within(MOST_BY_PREFIXES.saturating_mul(problem.len() as u64), limit)
+}
+
+// How many lifts the full search makes in its first turn.
+fn full_at_first(problem: &Problem<AnyObject>, is_refuted: bool) -> u64 {
+    let calls = problem.len() as u64;
+    match problem.start() {
+        ObjState::Map(_) | ObjState::Set(_) if is_refuted => {
+            FIRST_TURN * KEYS_FOR_A_LIFT / calls.max(KEYS_FOR_A_LIFT)
+        }
+        _ => FIRST_TURN.max(calls),
+    }
+}
+
+/// How many lifts the first searches of prefixes make.
+pub fn prefixes_at_first(
+    problem: &Problem<AnyObject>,
+    is_refuted: bool,
+    limit: Option<u64>,
+) -> u64 {
+    let most = most_by_prefixes(problem, limit);
+    if is_refuted {
+        return most;
+    }
+    let lifts = LIFTS_BY_PREFIXES.saturating_mul(problem.len() as u64);
+    FIRST_TURN.max(lifts).min(most)
+}
+
+/// The first turn.
+pub fn first_turn(problem: &Problem<AnyObject>, is_refuted: bool, limit: Option<u64>) -> Turn {
+    Turn {
+        full: full_at_first(problem, is_refuted),
+        prefixes: prefixes_at_first(problem, is_refuted, limit),
+        is_first: true,
+    }
+}
+
+/// The turn after one in which searches of prefixes made so many lifts: twice as far. `None` where they made as many as they ever do.
+pub fn turn_after(problem: &Problem<AnyObject>, prefixes: u64, limit: Option<u64>) -> Option<Turn> {
+    let most = most_by_prefixes(problem, limit);
+    if prefixes >= most {
+        return None;
+    }
+    let lifts = prefixes.saturating_mul(2);
+    Some(Turn {
+        full: lifts,
+        prefixes: lifts.min(most),
+        is_first: false,
+    })
+}
+
+// ---- prefixes, and other parts that are made anew
+
+// How many lifts for each call a search may make at first, and how many times as many each time that it says nothing.
+const FIRST_LIFTS: u64 = 2;
+
+const GROWTH: u64 = 4;
+
+// How often it is made at most. Where only a bound is asked for, seldom: without it more parts are searched, but each of those
+// shows more. Of a group of calls, where something is known ahead, once: mostly that alone shows that no run has them all, and
+// the search begins only where it does not.
+const ROUNDS: usize = 16;
+
+const ROUNDS_FOR_A_BOUND: usize = 2;
+
+const ROUNDS_FOR_A_GROUP: usize = 1;
+
+/// How many steps a search makes that tries pending calls only between completed ones (`lin_fewer`), for each lift of another that goes
+/// beside it. A step takes about a quarter of the time of a lift, and such a search mostly takes fewer.
+pub const STEPS_FOR_A_LIFT: u64 = 16;
+
+// How many times as many it makes for a bound or a group: these have few rounds, and what they tell saves many others.
+const TIMES_FOR_A_BOUND: u64 = 4;
+
+/// The least linearization of a problem of so many calls.
+pub fn order(calls: usize) -> Effort {
+    Effort {
+        is_shown: true,
+        with_any_adds: true,
+        keys: Keys::InRounds,
+        lifts: FIRST_LIFTS.saturating_mul(calls as u64),
+        growth: GROWTH,
+        rounds_ahead: ROUNDS,
+        rounds: ROUNDS,
+        steps_for_a_lift: STEPS_FOR_A_LIFT,
+        made: Work::of_problem(calls),
+        is_charged: true,
+    }
+}
+
+/// Whether a call has no run with all that precedes it.
+pub fn bound(calls: usize) -> Effort {
+    Effort {
+        rounds_ahead: ROUNDS_FOR_A_BOUND,
+        rounds: ROUNDS_FOR_A_BOUND,
+        steps_for_a_lift: STEPS_FOR_A_LIFT * TIMES_FOR_A_BOUND,
+        ..order(calls)
+    }
+}
+
+/// Whether it has none that has a group of other calls, too. Mostly it has one, so a counter is not asked about any adds.
+pub fn group(calls: usize) -> Effort {
+    Effort {
+        with_any_adds: false,
+        rounds_ahead: ROUNDS_FOR_A_GROUP,
+        ..bound(calls)
+    }
+}
+
+// How many steps a search makes at most that tries pending calls only between completed ones, times how many calls there are. With
+// more calls a step takes longer, and more of them are wanted: with thousands of calls it is no good bet, and the full search would
+// wait for it. Of a counter it is one: what its gets leave room for bounds it.
+const MOST_STEPS_TIMES_CALLS: u64 = 200_000_000;
+
+const MOST_STEPS_TIMES_CALLS_OF_A_COUNTER: u64 = 4_000_000_000;
+
+/// Whether it is a good bet to make so many steps.
+pub fn may_take_steps(problem: &Problem<AnyObject>, steps: u64) -> bool {
+    let most = match problem.start() {
+        ObjState::Counter(_) => MOST_STEPS_TIMES_CALLS_OF_A_COUNTER,
+        _ => MOST_STEPS_TIMES_CALLS,
+    };
+    steps.saturating_mul(problem.len() as u64) <= most
+}
+
+// ---- cores
+
+// How much work a core may take, and how much more for each call of its object: enough for each part of the calls to be searched a
+// few times, and no more than a search takes that stalls.
+const CORE_WORK: u64 = 100_000;
+
+const CORE_WORK_FOR_A_CALL: u64 = 64;
+
+/// How much work is put into looking for a core among so many calls.
+pub fn core_work(calls: usize) -> u64 {
+    (calls as u64)
+        .saturating_mul(CORE_WORK_FOR_A_CALL)
+        .saturating_add(CORE_WORK)
+}
+
+// How many lifts for each call a search of a selection may make, and how many more.
+const CORE_LIFTS_FOR_A_CALL: u64 = 16;
+
+const CORE_LIFTS_MORE: u64 = 256;
+
+// How many lifts a search of a few calls may make: as many as all sets of these calls have, each with a few states.
+const FEW_CALLS: usize = 12;
+
+const LIFTS_FOR_FEW: u64 = 65_536;
+
+/// How many lifts the search of so many calls of an object may make.
+pub fn core_lifts(calls: usize) -> u64 {
+    if calls <= FEW_CALLS {
+        return LIFTS_FOR_FEW;
+    }
+    (calls as u64)
+        .saturating_mul(CORE_LIFTS_FOR_A_CALL)
+        .saturating_add(CORE_LIFTS_MORE)
+}
+
+/// Whether a selection of an object's calls has no linearization, with so many lifts.
+pub fn selection(lifts: u64) -> Effort {
+    Effort {
+        lifts,
+        rounds: 1,
+        keys: Keys::Never,
+        ..ahead(0)
+    }
+}

@@ -1,0 +1,39 @@
+//! The stop of what is done between two questions.
+
+use crate::decide::Decide;
+use crate::work::Work;
+use lin_search::Stop;
+
+// What the stop answers.
+const SPENT: u64 = 0;
+
+/// A stop that answers once what decides does not go on. Nothing follows from its answer.
+#[derive(Drop)]
+pub struct UntilSpent<'a, D> {
+    decider: &'a mut D,
+}
+
+impl<'a, D: Decide> UntilSpent<'a, D> {
+    /// The stop over this decider.
+    pub fn new(decider: &'a mut D) -> Self {
+        UntilSpent { decider }
+    }
+}
+
+impl<'a, D: Decide> Stop for UntilSpent<'a, D> {
+    ghost tells = { λ _ _. Unit {0} };
+
+    ghost follows = { λ _ _. Unit {0} };
+
+    fn ask(&mut self) -> Option<u64> {
+        if self.decider.goes_on(Work::NONE) {
+            None
+        } else {
+            Some(SPENT)
+        }
+    }
+
+    ghost unchanged = { λ s. tt };
+
+    ghost chained = { λ a b c first second. tt };
+}

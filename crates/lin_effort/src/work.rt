@@ -1,0 +1,86 @@
+//! Work, in one unit: a look at one call.
+
+ghost use Rattle.std.specs.Prelude.{◌≡◌, ◌+◌, ◌-◌, ◌*◌, ◌/◌, ◌^◌, ◌==◌, min};
+ghost use Rattle.lin_effort.specs.declared.work.TheConstants.{LOOKS_FOR_A_LIFT, LOOKS_FOR_A_PLACE, LOOKS_FOR_A_STEP};
+
+// How many looks at a call a lift counts as: about as long does it take.
+const LOOKS_FOR_A_LIFT: u64 = 256;
+
+// How many looks a step counts as of a search that tries pending calls only between completed ones.
+const LOOKS_FOR_A_STEP: u64 = 8;
+
+// How many looks it counts as to put a call into a problem that is made anew; the problem itself counts as a lift.
+const LOOKS_FOR_A_PLACE: u64 = 4;
+
+/// An amount of work. The unit is one look at one call. Sums and products that are too great for 64 bits are the greatest amount.
+#[derive(Clone, Copy, PartialEq, Eq, Debug)]
+pub struct Work {
+    looks: u64,
+}
+
+impl Work {
+    /// No work.
+    pub const NONE: Work = Work { looks: 0 };
+
+    /// More than any search makes.
+    pub const ANY: Work = Work { looks: u64::MAX };
+
+    /// So many looks at a call.
+    pub fn of_looks(looks: u64) -> Self
+        ensures { result.looks ≡ looks }
+    {
+        Work { looks }
+    }
+
+    /// So many lifts.
+    pub fn of_lifts(lifts: u64) -> Self
+        ensures { result.looks ≡ min (lifts * LOOKS_FOR_A_LIFT) (2 ^ 64 - 1) }
+    {
+        Work {
+            looks: lifts.saturating_mul(LOOKS_FOR_A_LIFT),
+        }
+    }
+
+    /// So many steps of a search that tries pending calls only between completed ones.
+    pub fn of_steps(steps: u64) -> Self
+        ensures { result.looks ≡ min (steps * LOOKS_FOR_A_STEP) (2 ^ 64 - 1) }
+    {
+        Work {
+            looks: steps.saturating_mul(LOOKS_FOR_A_STEP),
+        }
+    }
+
+    /// That of making a problem of so many calls.
+    pub fn of_problem(calls: usize) -> Self
+        ensures { result.looks ≡ min (min (calls * LOOKS_FOR_A_PLACE) (2 ^ 64 - 1) + LOOKS_FOR_A_LIFT) (2 ^ 64 - 1) }
+    {
+        Work {
+            looks: (calls as u64)
+                .saturating_mul(LOOKS_FOR_A_PLACE)
+                .saturating_add(LOOKS_FOR_A_LIFT),
+        }
+    }
+
+    /// How many whole lifts it is worth.
+    pub fn lifts(self) -> u64
+        ensures { result ≡ self.looks / LOOKS_FOR_A_LIFT }
+    {
+        self.looks / LOOKS_FOR_A_LIFT
+    }
+
+    /// Whether it is none.
+    pub fn is_none(self) -> bool
+        ensures { result ≡ (self.looks == 0) }
+    {
+        self.looks == 0
+    }
+
+    /// What is left of it without the other; none where that is more.
+    pub fn without(self, other: Work) -> Self
+        ensures { result.looks ≡ self.looks - other.looks }
+    {
+        Work {
+            looks: self.looks.saturating_sub(other.looks),
+        }
+    }
+}

@@ -1,5 +1,0 @@
-use Rattle.lin_parts.proofs.keys.PlaceLemmas.{IsMergeAt}
-use Rattle.lin_parts.proofs.keys.merge.merged.Given as goal
-
-abbrev pub invariant-loop-call : goal.invariant-loop-call
-invariant-loop-call l = IsMergeAt l.numbers l.orders l.places.items l.call l.merged.items

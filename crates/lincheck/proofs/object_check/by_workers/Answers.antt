@@ -1,5 +1,0 @@
-use Rattle.lin_history.specs.Problems.AnyProblem.{any_problem}
-use Rattle.lincheck.proofs.object_check.by_workers.Goals as goal
-
-pub returns : goal.returns
-returns g c = (c.answer_by.ensures.answer (any_problem c.args.problem.now) c.args.asked.question c.args.setting.now.bounds c.in_ok-verdict.ensures.verdict c.in_ok-verdict.ensures.time c.requires.refuted, c.in_ok-verdict.ensures.stored)

@@ -1,0 +1,45 @@
+//! What is known of an object while it is checked.
+
+ghost use Rattle.std.specs.Prelude.{◌≡◌, false};
+
+use crate::object_fault::ObjectFault;
+
+/// Whether it was looked for what lets a reader see that an object has no order.
+#[derive(Drop)]
+pub(crate) enum Sought {
+    /// It was not.
+    NotYet,
+    /// It was, and was not found.
+    InVain,
+    /// It was found.
+    Found(ObjectFault),
+}
+
+impl Sought {
+    /// Whether it is still to be looked for.
+    pub(crate) fn is_not_yet(&self) -> bool {
+        matches!(self, Sought::NotYet)
+    }
+}
+
+/// What is known of an object.
+#[derive(Drop)]
+pub(crate) struct Known {
+    /// Whether it is known that it has no linearization.
+    pub(crate) is_refuted: bool,
+    /// What lets a reader see that.
+    pub(crate) fault: Sought,
+}
+
+impl Known {
+    /// Nothing is known.
+    pub(crate) fn nothing() -> Self
+        ensures refuted { result.is_refuted ≡ false }
+        ensures fault { result.fault ≡ Sought.NotYet }
+    {
+        Known {
+            is_refuted: false,
+            fault: Sought::NotYet,
+        }
+    }
+}

@@ -1,0 +1,381 @@
+//! The check of one object: which way is gone when.
+//!
+//!   known ahead --- an order -------------------------> yes
+//!      | nothing, or that there is none
+//!   sums of a counter: they may leave no room for a reply
+//!      |
+//!   +> full search --- its end -----------------------> yes, or no with its longest run
+//!   |     | no progress
+//!   |  a fault, once --- found -----------------------> there is none: only the run is sought
+//!   |     |
+//!   |  searches of prefixes --- an order, or a run ---> yes, or no with its longest run
+//!   +-----+ twice as far each time; then
+//!   full search to its end, by workers ---------------> yes, no, or undecided
+//!
+//! Where it is known that there is none and no run is asked for, that is the answer. How far each way goes stands in
+//! `lin_effort::efforts`; there is no number here. The full search keeps what it refuted, and goes on from there in its next turn.
+
+ghost use Rattle.std.specs.Prelude.{◌≡◌, IfOk, IfSome, IsTrue};
+ghost use Rattle.std.specs.ControlFlow.{ForBreak};
+ghost use Rattle.lin_history.specs.Problems.AnyProblem.{any_problem};
+ghost use Rattle.lin_history.specs.Problems.Linearizations.{IsLinearization};
+ghost use Rattle.lin_history.specs.Problems.Lists.{IsLeast};
+ghost use Rattle.lin_unseen.specs.SameRuns.{HasRunsOf};
+ghost use Rattle.lincheck.specs.Known.{IsKnownOf};
+ghost use Rattle.lincheck.specs.ObjectAnswer.{HasNoOrder, IsAnswered, IsObjectAnswer};
+
+use crate::full_search::{answer_alone, by_workers, search_alone, stored_now, to_the_end};
+use crate::known::{Known, Sought};
+use crate::object_answer::{ObjectAnswer, Question};
+use crate::object_fault::{calls_of_object, sums_of_object};
+use crate::setting::Setting;
+use lin_decide::Ladder;
+use lin_effort::efforts::{
+    MOST_TURNS, Turn, ahead, first_turn, is_small, makes_unseen_one, order, prefixes_at_first,
+    turn_after, work_within,
+};
+use lin_effort::{Decide, Effort, Work};
+use lin_fewer::has_many_pending;
+use lin_history::{Order, Problem};
+use lin_object::{AnyObject, ObjState};
+use lin_prefixes::longest_run_by_prefixes;
+use lin_search::{OwnMemo, Told};
+use lin_unseen::unseen_made_one;
+use lin_workers::{Gate, Patience, UntilUp, Watcher, Way};
+use std::alloc::{AllocError, AllocGlobal, Global};
+use std::ops::ControlFlow;
+use std::thread::Threads;
+
+// Whether no longest run is asked for.
+fn asks_no_run(question: Question) -> bool
+    ensures { IsTrue result → question ≡ Question.Verdict }
+{
+    match question {
+        Question::Verdict => true,
+        Question::LongestRun => false,
+    }
+}
+
+// ---- what is decided without a full search
+
+// The order, if the ladder finds it with so much work; that there is none is known then.
+fn decided<R: AllocGlobal, G: Gate, W: Watcher>(
+    setting: &Setting<'_, '_, R, G, W>,
+    problem: &Problem<AnyObject>,
+    effort: &Effort,
+    work: Work,
+    known: &mut Known,
+) -> Result<Option<Order>, AllocError>
+    requires { IsKnownOf (any_problem problem.now) known.old }
+    ensures order { IfOk result (λ found. IfSome found (IsLeast (IsLinearization (any_problem problem.now)))) }
+    ensures known { IsKnownOf (any_problem problem.now) known.new }
+{
+    let mut stop = UntilUp::new(&setting.bounds);
+    let mut ladder = Ladder::new(problem, work, &mut stop);
+    match ladder.decide(setting.rt.alloc(), problem, effort)? {
+        Told::Found(order) => Ok(Some(order)),
+        Told::Refuted => {
+            known.is_refuted = true;
+            Ok(None)
+        }
+        Told::Nothing => Ok(None),
+    }
+}
+
+// The order, if it is known ahead: not where workers are wanted at once.
+fn order_ahead<R: AllocGlobal, G: Gate, W: Watcher>(
+    setting: &Setting<'_, '_, R, G, W>,
+    problem: &Problem<AnyObject>,
+    known: &mut Known,
+) -> Result<Option<Order>, AllocError>
+    requires { IsKnownOf (any_problem problem.now) known.old }
+    ensures order { IfOk result (λ found. IfSome found (IsLeast (IsLinearization (any_problem problem.now)))) }
+    ensures known { IsKnownOf (any_problem problem.now) known.new }
+{
+    if setting.gate.wants_workers() {
+        return Ok(None);
+    }
+    setting.bounds.watcher().enter(Way::Ahead);
+    let work = work_within(setting.bounds.limit());
+    decided(setting, problem, &ahead(problem.len()), work, known)
+}
+
+// Looks for a get of a counter for whose reply the adds leave no room: in one pass over the calls, where searches may take long.
+fn look_for_sums<R: AllocGlobal, G: Gate, W: Watcher>(
+    setting: &Setting<'_, '_, R, G, W>,
+    problem: &Problem<AnyObject>,
+    known: &mut Known,
+) -> Result<(), AllocError>
+    requires { IsKnownOf (any_problem problem.now) known.old }
+    ensures { IsKnownOf (any_problem problem.now) known.new }
+{
+    if known.is_refuted || is_small(setting.bounds.limit()) || setting.gate.wants_workers() {
+        return Ok(());
+    }
+    let mut stop = UntilUp::new(&setting.bounds);
+    let mut ladder = Ladder::new(problem, Work::ANY, &mut stop);
+    if let Some(fault) = sums_of_object(setting.rt.alloc(), problem, &mut ladder)? {
+        *known = Known {
+            is_refuted: true,
+            fault: Sought::Found(fault),
+        };
+    }
+    Ok(())
+}
+
+// Looks once for calls that let a reader see that there is no order, while that is not known.
+fn look_for_fault<R: AllocGlobal, G: Gate, W: Watcher>(
+    setting: &Setting<'_, '_, R, G, W>,
+    problem: &Problem<AnyObject>,
+    known: &mut Known,
+) -> Result<(), AllocError>
+    requires { IsKnownOf (any_problem problem.now) known.old }
+    ensures { IsKnownOf (any_problem problem.now) known.new }
+{
+    if known.is_refuted || !known.fault.is_not_yet() {
+        return Ok(());
+    }
+    setting.bounds.watcher().enter(Way::Core);
+    let mut stop = UntilUp::new(&setting.bounds);
+    let mut ladder = Ladder::new(problem, Work::ANY, &mut stop);
+    match calls_of_object(setting.rt.alloc(), problem, &mut ladder)? {
+        Some(fault) => {
+            *known = Known {
+                is_refuted: true,
+                fault: Sought::Found(fault),
+            };
+        }
+        None => known.fault = Sought::InVain,
+    }
+    Ok(())
+}
+
+// The first of the longest runs of an object without a linearization, if searches of prefixes find it with so many lifts; where no
+// run is asked for, that there is none.
+fn answer_refuted<R: AllocGlobal, G: Gate, W: Watcher>(
+    setting: &Setting<'_, '_, R, G, W>,
+    problem: &Problem<AnyObject>,
+    question: Question,
+    lifts: u64,
+) -> Result<Option<ObjectAnswer>, AllocError>
+    requires { HasNoOrder (any_problem problem.now) }
+    ensures { IfOk result (λ told. IfSome told
+        (IsObjectAnswer (any_problem problem.now) question setting.now.bounds)) }
+{
+    if asks_no_run(question) {
+        return Ok(Some(ObjectAnswer::No(None)));
+    }
+    let mut stop = UntilUp::new(&setting.bounds);
+    let mut ladder = Ladder::new(problem, Work::of_lifts(lifts), &mut stop);
+    match longest_run_by_prefixes(setting.rt.alloc(), problem, &mut ladder)? {
+        Some(run) => Ok(Some(ObjectAnswer::No(Some(run)))),
+        None => Ok(None),
+    }
+}
+
+// The answer by searches of prefixes that make so many lifts.
+fn answer_by_prefixes<R: AllocGlobal, G: Gate, W: Watcher>(
+    setting: &Setting<'_, '_, R, G, W>,
+    problem: &Problem<AnyObject>,
+    question: Question,
+    lifts: u64,
+    known: &mut Known,
+) -> Result<Option<ObjectAnswer>, AllocError>
+    requires { IsKnownOf (any_problem problem.now) known.old }
+    ensures answer { IfOk result (λ told. IfSome told
+        (IsObjectAnswer (any_problem problem.now) question setting.now.bounds)) }
+    ensures known { IsKnownOf (any_problem problem.now) known.new }
+{
+    setting.bounds.watcher().enter(Way::Prefixes);
+    if !known.is_refuted {
+        let work = Work::of_lifts(lifts);
+        if let Some(order) = decided(setting, problem, &order(problem.len()), work, known)? {
+            return Ok(Some(ObjectAnswer::Yes(order)));
+        }
+    }
+    if !known.is_refuted {
+        return Ok(None);
+    }
+    answer_refuted(setting, problem, question, lifts)
+}
+
+// ---- turns
+
+// Whether the problem is that of a counter of which many calls are pending. A search that tries these only between completed ones
+// mostly decides it, while the full search may make progress for minutes and come to no end.
+fn is_counter_with_many_pending(problem: &Problem<AnyObject>) -> bool {
+    match problem.start() {
+        ObjState::Counter(_) => has_many_pending(problem),
+        _ => false,
+    }
+}
+
+// How long the full search goes on in a turn: where there may be an order, as long as it makes progress towards it; but of such a counter
+// not in the first turn.
+fn patience_for(problem: &Problem<AnyObject>, turn: Turn, is_refuted: bool) -> Patience {
+    if is_refuted || turn.is_first && is_counter_with_many_pending(problem) {
+        Patience::ForLifts(turn.full)
+    } else {
+        Patience::UntilStalled(turn.full)
+    }
+}
+
+// The answer of a turn behind the full search, with the number stored; and how many lifts searches of prefixes made at most. An answer
+// for which that number is not told is left to workers.
+fn behind_full_search<R: AllocGlobal, G: Gate, W: Watcher>(
+    setting: &Setting<'_, '_, R, G, W>,
+    problem: &Problem<AnyObject>,
+    memo: &OwnMemo<'_, AnyObject>,
+    question: Question,
+    turn: Turn,
+    known: &mut Known,
+) -> Result<ControlFlow<(ObjectAnswer, u64), u64>, AllocError>
+    requires runs { HasRunsOf (any_problem problem.now) (any_problem memo.now.problem) }
+    requires known { IsKnownOf (any_problem problem.now) known.old }
+    ensures answer { IfOk result (λ told. ForBreak told
+        (IsAnswered (any_problem problem.now) question setting.now.bounds)) }
+    ensures known { IsKnownOf (any_problem problem.now) known.new }
+{
+    let Some(stored) = stored_now(problem, memo) else {
+        return Ok(ControlFlow::Continue(turn.prefixes));
+    };
+    look_for_fault(setting, problem, known)?;
+    let at_first = prefixes_at_first(problem, known.is_refuted, setting.bounds.limit());
+    let lifts = turn.prefixes.max(at_first);
+    match answer_by_prefixes(setting, problem, question, lifts, known)? {
+        Some(answer) => Ok(ControlFlow::Break((answer, stored))),
+        None => Ok(ControlFlow::Continue(lifts)),
+    }
+}
+
+// So many lifts fewer, where there is a limit.
+fn less(limit: Option<u64>, lifts: u64) -> Option<u64> {
+    Some(limit?.saturating_sub(lifts))
+}
+
+// The answer by the full search and searches of prefixes in turn, each time twice as far; or how many lifts the full search may still
+// make, where there is a limit.
+fn by_turns<R: AllocGlobal, G: Gate, W: Watcher>(
+    setting: &Setting<'_, '_, R, G, W>,
+    problem: &Problem<AnyObject>,
+    full: &Problem<AnyObject>,
+    memo: &mut OwnMemo<'_, AnyObject>,
+    question: Question,
+    known: &mut Known,
+) -> Result<ControlFlow<(ObjectAnswer, u64), Option<u64>>, AllocError>
+    requires runs { HasRunsOf (any_problem problem.now) (any_problem full.now) }
+    requires memo { memo.old.problem ≡ full.now }
+    requires known { IsKnownOf (any_problem problem.now) known.old }
+    ensures answer { IfOk result (λ told. ForBreak told
+        (IsAnswered (any_problem problem.now) question setting.now.bounds)) }
+    ensures known { IsKnownOf (any_problem problem.now) known.new }
+    ensures memo { memo.new.problem ≡ memo.old.problem }
+{
+    let mut limit = setting.bounds.limit();
+    if is_small(limit) {
+        return Ok(ControlFlow::Continue(limit));
+    }
+    let mut turn = first_turn(problem, known.is_refuted, setting.bounds.limit());
+    for _ in 0..MOST_TURNS {
+        let patience = patience_for(problem, turn, known.is_refuted);
+        let alone = search_alone(setting, problem, full, memo, patience, limit)?;
+        match answer_alone(alone, known.is_refuted) {
+            ControlFlow::Break(answer) => return Ok(ControlFlow::Break(answer)),
+            ControlFlow::Continue(lifts) => limit = less(limit, lifts),
+        }
+        if limit == Some(0) {
+            return Ok(ControlFlow::Continue(limit));
+        }
+        let lifts = match behind_full_search(setting, problem, memo, question, turn, known)? {
+            ControlFlow::Break(answer) => return Ok(ControlFlow::Break(answer)),
+            ControlFlow::Continue(lifts) => lifts,
+        };
+        let Some(next) = turn_after(problem, lifts, setting.bounds.limit()) else {
+            return Ok(ControlFlow::Continue(limit));
+        };
+        turn = next;
+    }
+    Ok(ControlFlow::Continue(limit))
+}
+
+// ---- the whole check of an object
+
+// The answer by a full search of the second problem, which has the same runs as the first, and by searches of prefixes of the first.
+fn answer_over<R: AllocGlobal + Threads + Sync, G: Gate, W: Watcher>(
+    setting: &Setting<'_, '_, R, G, W>,
+    problem: &Problem<AnyObject>,
+    full: &Problem<AnyObject>,
+    question: Question,
+    known: &mut Known,
+) -> Result<(ObjectAnswer, u64), AllocError>
+    requires runs { HasRunsOf (any_problem problem.now) (any_problem full.now) }
+    requires known { IsKnownOf (any_problem problem.now) known.old }
+    ensures answer { IfOk result (IsAnswered (any_problem problem.now) question setting.now.bounds) }
+    ensures known { IsKnownOf (any_problem problem.now) known.new }
+{
+    let mut memo = OwnMemo::new(setting.rt.alloc(), full);
+    if setting.gate.wants_workers() {
+        return by_workers(setting, problem, &memo, known.is_refuted);
+    }
+    match by_turns(setting, problem, full, &mut memo, question, known)? {
+        ControlFlow::Break(answer) => Ok(answer),
+        ControlFlow::Continue(limit) => {
+            to_the_end(setting, problem, full, &mut memo, known.is_refuted, limit)
+        }
+    }
+}
+
+// The problem with one value in place of all that nobody saw, where the full search goes over it.
+fn with_unseen_made_one(
+    alloc: Global,
+    problem: &Problem<AnyObject>,
+    limit: Option<u64>,
+) -> Result<Option<Problem<AnyObject>>, AllocError>
+    ensures { IfOk result (λ told. IfSome told (λ other. HasRunsOf (any_problem problem.now)
+        (any_problem other))) }
+{
+    if !makes_unseen_one(problem, limit) {
+        return Ok(None);
+    }
+    unseen_made_one(alloc, problem)
+}
+
+// The answer by searches.
+fn by_searches<R: AllocGlobal + Threads + Sync, G: Gate, W: Watcher>(
+    setting: &Setting<'_, '_, R, G, W>,
+    problem: &Problem<AnyObject>,
+    question: Question,
+    known: &mut Known,
+) -> Result<(ObjectAnswer, u64), AllocError>
+    requires { IsKnownOf (any_problem problem.now) known.old }
+    ensures answer { IfOk result (IsAnswered (any_problem problem.now) question setting.now.bounds) }
+    ensures known { IsKnownOf (any_problem problem.now) known.new }
+{
+    match with_unseen_made_one(setting.rt.alloc(), problem, setting.bounds.limit())? {
+        Some(full) => answer_over(setting, problem, &full, question, known),
+        None => answer_over(setting, problem, problem, question, known),
+    }
+}
+
+/// The answer to what is asked of one object, and how many configurations were stored: none where it is known ahead. A gate that
+/// wants workers has them at once. In an object of 16 calls or more, with no limit below 500,000, one value stands in the full
+/// search for all that nobody saw. What was found out on the way is known then. `AllocError` where the calling thread was refused memory.
+pub(crate) fn answer_object<R: AllocGlobal + Threads + Sync, G: Gate, W: Watcher>(
+    setting: &Setting<'_, '_, R, G, W>,
+    problem: &Problem<AnyObject>,
+    question: Question,
+    known: &mut Known,
+) -> Result<(ObjectAnswer, u64), AllocError>
+    requires { IsKnownOf (any_problem problem.now) known.old }
+    ensures answer { IfOk result (IsAnswered (any_problem problem.now) question setting.now.bounds) }
+    ensures known { IsKnownOf (any_problem problem.now) known.new }
+{
+    if let Some(order) = order_ahead(setting, problem, known)? {
+        return Ok((ObjectAnswer::Yes(order), 0));
+    }
+    look_for_sums(setting, problem, known)?;
+    if known.is_refuted && asks_no_run(question) && !is_small(setting.bounds.limit()) {
+        return Ok((ObjectAnswer::No(None), 0));
+    }
+    by_searches(setting, problem, question, known)
+}
