@@ -1,5 +1,6 @@
 pub mod ClusterLemmas
 pub mod TakenTwiceLemmas
+pub mod RankLemmas
 pub mod StrandedLemmas
 pub mod FoundStateLemmas
 pub mod NarrowLemmas

@@ -11,4 +11,5 @@ pub mod ToldOfRegister
 pub mod KeyValue
 pub mod ItemValue
 pub mod TakenTwice
+pub mod Ranks
 pub mod Clusters

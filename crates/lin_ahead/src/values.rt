@@ -2,7 +2,7 @@
 //!
 //! - `shown_values`: the value that a call may write, and that it found; `call_values`: all that it shows of values, for a search; `rows`:
 //!   what is known ahead; `needed_pairs`: two calls that need each other; `taken_values`: two calls that took away one and the same
-//!   value.
+//!   value; `ranks`: values that come about once at most; `broken_ranks`: two calls that cannot be so by them.
 //! - `owners`: the calls of which one wrote what a call found; `writers`: those that may write each value; `breaking_calls`: those by
 //!   which a value is not there all the time; `clusters`: the calls that one call owns, by their events;
 //!   `narrowing`: fewer owners, by such calls.
@@ -13,6 +13,7 @@
 //!   `crossings`: which are, and what stands between them; `last_breaks`: the calls that do not leave a value, by their returns.
 
 pub(crate) mod breaking_calls;
+pub(crate) mod broken_ranks;
 pub(crate) mod call_values;
 pub(crate) mod calls_left;
 pub(crate) mod clusters;
@@ -25,6 +26,7 @@ pub(crate) mod last_breaks;
 pub(crate) mod narrowing;
 pub(crate) mod needed_pairs;
 pub(crate) mod owners;
+pub(crate) mod ranks;
 pub(crate) mod rows;
 pub(crate) mod rules;
 pub(crate) mod shown_values;

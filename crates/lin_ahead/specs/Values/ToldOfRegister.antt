@@ -6,6 +6,7 @@ use Rattle.lin_history.specs.declared.problems.problem.ProblemCall.{ProblemCall}
 use Rattle.lin_ahead.specs.declared.values.rows.ValuesAhead.{ValuesAhead}
 use Rattle.lin_ahead.specs.Values.Narrowing.{AreRightRows}
 use Rattle.lin_ahead.specs.Values.PossibleOwners.{AreToldWhereFew}
+use Rattle.lin_ahead.specs.Values.Ranks.{AreRanksBroken}
 use Rattle.lin_ahead.specs.Values.TakenTwice.{IsTakenTwice}
 use Rattle.lin_ahead.specs.Values.Clusters.{AreClusterNumbers, FoundNowhere, NeedEachOther}
 
@@ -15,7 +16,7 @@ pub record IsToldOfRegister (start : ℤ) (calls : List (ProblemCall Op Reply)) 
   -- It is said of each call that found a value which calls may have written it, if no more than MOST_OWNERS calls may write that value.
   pub few : AreToldWhereFew calls ahead.owners.items
   pub numbers : AreClusterNumbers calls ahead.owners.items ahead.needs
-  -- There is no linearization by these facts alone where a call found what is nowhere, two calls need each other, or two took away
-  -- what one call made.
-  pub in_vain : IsTrue ahead.in_vain → FoundNowhere ahead.owners.items ⊎ (NeedEachOther calls ahead.owners.items ⊎ IsTakenTwice calls ahead.owners.items)
+  -- There is no linearization by these facts alone where a call found what is nowhere, two calls need each other, two took away what
+  -- one call made, or two break the ranks of values.
+  pub in_vain : IsTrue ahead.in_vain → FoundNowhere ahead.owners.items ⊎ (NeedEachOther calls ahead.owners.items ⊎ (IsTakenTwice calls ahead.owners.items ⊎ AreRanksBroken calls))
   pub in_vain_told : FoundNowhere ahead.owners.items ⊎ NeedEachOther calls ahead.owners.items → IsTrue ahead.in_vain

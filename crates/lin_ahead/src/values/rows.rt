@@ -4,9 +4,11 @@
 ghost use Rattle.std.specs.Prelude.{◌≡◌, ◌⊎◌, length, IfOk, IsTrue, map};
 ghost use Rattle.lin_ahead.specs.declared.values.needed_pairs.CallNumbers.{CallNumbers};
 ghost use Rattle.lin_ahead.specs.Values.Clusters.{AreNumbersTo, FoundNowhere, NeedEachOther};
+ghost use Rattle.lin_ahead.specs.Values.Ranks.{AreRanksBroken};
 ghost use Rattle.lin_ahead.specs.Values.TakenTwice.{IsTakenTwice};
 ghost use Rattle.lin_ahead.specs.Values.ToldOfRegister.{IsToldOfRegister};
 
+use crate::values::broken_ranks::some_rank_is_broken;
 use crate::values::call_values::{CallValues, values_of_each};
 use crate::values::clusters::{cluster_numbers, some_found_nowhere};
 use crate::values::narrowing::narrow;
@@ -14,6 +16,7 @@ use crate::values::needed_pairs::{CallNumbers, some_pair};
 use crate::values::owners::{Owners, owners_of_each};
 use crate::values::shown_values::values_of_calls;
 use crate::values::taken_values::some_value_taken_twice;
+use indexmap::IndexMap;
 use lin_history::{NeedRows, ProblemCall};
 use lin_object::{Op, Reply};
 use std::alloc::{AllocError, Global};
@@ -46,16 +49,18 @@ fn from_of_each(alloc: Global, numbers: &[CallNumbers]) -> Result<Vec<u64>, Allo
     numbers.iter().map(|one| one.from).collect(alloc)
 }
 
-// Whether some call found what is nowhere, two calls need each other, or two took away what one call made.
+// Whether some call found what is nowhere, two calls need each other, two took away what one call made, or two cannot be so by ranks of
+// the values.
 fn are_in_vain(
     alloc: Global,
+    values: &IndexMap<i64, ()>,
     calls: &[ProblemCall<Op, Reply>],
     owners: &[Owners],
     numbers: &[CallNumbers],
 ) -> Result<bool, AllocError>
     requires { AreNumbersTo calls.now owners.now (length owners.now) numbers.now }
     ensures is { IfOk result (λ found. IsTrue found → FoundNowhere owners.now
-        ⊎ (NeedEachOther calls.now owners.now ⊎ IsTakenTwice calls.now owners.now)) }
+        ⊎ (NeedEachOther calls.now owners.now ⊎ (IsTakenTwice calls.now owners.now ⊎ AreRanksBroken calls.now))) }
     ensures told { IfOk result (λ found. FoundNowhere owners.now
         ⊎ NeedEachOther calls.now owners.now → IsTrue found) }
 {
@@ -65,7 +70,10 @@ fn are_in_vain(
     if some_pair(alloc, numbers)? {
         return Ok(true);
     }
-    some_value_taken_twice(alloc, calls, owners)
+    if some_value_taken_twice(alloc, calls, owners)? {
+        return Ok(true);
+    }
+    some_rank_is_broken(alloc, values, calls)
 }
 
 /// What these calls show, on a register that starts with this value. `AllocError` where memory was refused.
@@ -83,7 +91,7 @@ pub(crate) fn told_of_register(
     let rows = owners.as_slice();
     let row = cluster_numbers(alloc, calls, rows)?;
     let numbers = row.as_slice();
-    let in_vain = are_in_vain(alloc, calls, rows, numbers)?;
+    let in_vain = are_in_vain(alloc, &shown, calls, rows, numbers)?;
     let by = by_of_each(alloc, numbers)?;
     let from = from_of_each(alloc, numbers)?;
     Ok(ValuesAhead {

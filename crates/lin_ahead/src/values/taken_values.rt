@@ -8,8 +8,8 @@ use lin_history::ProblemCall;
 use lin_object::{Op, Reply};
 use std::alloc::{AllocError, Global};
 
-// Whether the call found a value and took it away.
-fn takes(call: &ProblemCall<Op, Reply>) -> bool
+/// Whether the call found a value and took it away.
+pub(crate) fn takes(call: &ProblemCall<Op, Reply>) -> bool
     ensures { result ≡ takes call.now.op call.now.returned }
 {
     match (&call.op, &call.returned) {

@@ -15,7 +15,7 @@ if_ok A (Ok found) none = λ is. absurd (none is)
 if_ok A (Err e) none = tt
 
 pub returns-clause-told : goal.returns-clause-told
-returns-clause-told c = if_ok (FoundNowhere c.args.owners.now ⊎ NeedEachOther c.args.calls.now c.args.owners.now) c.some_value_taken_twice.result (λ shown. elim shown [
+returns-clause-told c = if_ok (FoundNowhere c.args.owners.now ⊎ NeedEachOther c.args.calls.now c.args.owners.now) c.some_rank_is_broken.result (λ shown. elim shown [
   | inl nowhere ↦ true≢false (sym (c.some_found_nowhere.ensures ∙ nowhere_shown c.args.owners.now nowhere) ∙ c.if-some_found_nowhere.false)
   | inr pair ↦ true≢false (sym (c.in_ok-some_pair.ensures ∙ pair_shown c.args.calls.now c.args.owners.now c.args.numbers.now c.requires pair) ∙ c.if-branch.false)
 ])
