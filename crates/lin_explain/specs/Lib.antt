@@ -7,5 +7,6 @@ pub mod TouchingText
 pub mod RunReplies
 pub mod RunExplained
 pub mod CoreText
+pub mod LastLine
 pub mod SumsText
 pub mod WitnessText

@@ -28,6 +28,7 @@
 mod core_text;
 mod explanation;
 mod explanation_text;
+mod last_line;
 mod next_calls;
 mod run_explained;
 mod state_text;

@@ -1,5 +1,5 @@
 use Rattle.std.proofs.Common.{append_assoc}
-use Rattle.lin_explain.proofs.core_text.write_no_other.Goals as goal
+use Rattle.lin_explain.proofs.last_line.write_no_other.Goals as goal
 
 pub returns : goal.returns
 returns c = simp append_assoc (rw (c.line_of-line.ensures, c.last_event.ensures) at c.write.ensures.bytes)
