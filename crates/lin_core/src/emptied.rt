@@ -11,11 +11,11 @@ ghost use Rattle.lin_history.specs.Problems.AnyProblem.{any_problem};
 ghost use Rattle.lin_core.specs.Laws.{IsOff};
 ghost use Rattle.lin_core.specs.Emptied.{puts, is_item, gave, took, puts_at, took_at, count_puts, count_takes, is_even};
 
-use lin_parts::has_flag;
 use crate::value_tables::may_go;
 use lin_history::{Problem, ProblemCall};
 use lin_laws::precedes;
 use lin_object::{AnyObject, Op, Reply};
+use lin_parts::has_flag;
 use lin_search::Stop;
 use std::alloc::{AllocError, Global};
 

@@ -4,8 +4,8 @@ ghost use Rattle.std.specs.Prelude.{◌≡◌, IfOk, IsTrue};
 ghost use Rattle.lin_search.specs.Told.{IsRightOf};
 ghost use Rattle.lin_history.specs.Problems.AnyProblem.{any_problem};
 
-use lin_effort::efforts::selection;
 use lin_effort::Decide;
+use lin_effort::efforts::selection;
 use lin_history::Problem;
 use lin_object::AnyObject;
 use lin_search::Told;

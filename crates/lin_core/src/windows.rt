@@ -13,7 +13,6 @@ ghost use Rattle.lin_core.specs.Suffixes.{is_at_key, is_away, IsBesideKey};
 ghost use Rattle.lin_core.specs.SuffixCores.{MayStayAt, MayGoAt, MayStayIn, MayGoIn, HasBeginningsIn, holding, holding_none, IsRefutedFrom, IsSuffixCore};
 ghost use Rattle.lin_core.specs.Cores.{IsCoreOf, HasNone};
 
-use lin_parts::flags_of;
 use crate::key_tables::{is_on_key, may_go_by_key, may_tell};
 use crate::laws::suffix_core_law;
 use crate::part_anew::made_within;
@@ -25,6 +24,7 @@ use crate::value_tables::{has, is_on, may_go};
 use lin_effort::{Decide, UntilSpent, Work};
 use lin_history::{Problem, ProblemCall};
 use lin_object::{AnyObject, Items, ObjState, Op, Pairs, Reply, SeqObject};
+use lin_parts::flags_of;
 use lin_search::{AtTimes, Stop};
 use std::alloc::{AllocError, Global};
 
@@ -489,7 +489,12 @@ fn is_suffix_core<D: Decide>(
     }
     let flags = flags_of(alloc, window.calls.as_slice(), problem.len())?;
     let mut stop = UntilSpent::new(decider);
-    if !others_may_go_within(problem, window, flags.as_slice(), &mut AtTimes::new(&mut stop)) {
+    if !others_may_go_within(
+        problem,
+        window,
+        flags.as_slice(),
+        &mut AtTimes::new(&mut stop),
+    ) {
         return Ok(false);
     }
     is_refuted_anyhow(alloc, problem, window, lifts, decider)

@@ -40,9 +40,9 @@ witnesses_none h object witness e = absurd (cc)
 -- what is known of one object more
 pub witnesses_more : (h : RecordedHistory) (n : ℕ) (known : List (Option Witness)) (witness : Option Witness) → length known ≡ n → AreWitnessesOf h known → IfSome witness (IsWitness h n) → AreWitnessesOf h (known ++ witness ∷ [])
 witnesses_more h n known witness count so_far right object w e = elim (last_is known witness object w e) [
-    inl f ↦ so_far object w f
+  | inl f ↦ so_far object w f
   | inr f ↦ subst (λ (k : ℕ). IfSome w (IsWitness h k)) (sym (f.0 ∙ count)) (subst (λ (one : Option Witness). IfSome one (IsWitness h n)) f.1 right)
-  ]
+]
 
 -- the lines so far and the lines of what is left are the lines of all
 pub record StatusesWritten (h : RecordedHistory) (statuses : List Status) (old out : List ℕ) (i : ℕ) : Type 0 where

@@ -111,7 +111,14 @@ fn report_told<S: Stop>(
             status: *status,
             witness: taken(witnesses, object),
         };
-        let told = told_of(alloc, history, judged, lists[object].as_slice(), lines, stop)?;
+        let told = told_of(
+            alloc,
+            history,
+            judged,
+            lists[object].as_slice(),
+            lines,
+            stop,
+        )?;
         out.push_str(told.as_str())?;
     }
     Ok(out.into_bytes())

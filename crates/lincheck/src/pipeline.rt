@@ -186,14 +186,7 @@ fn each_printed<R: AllocGlobal + Threads + Clock + Sync, L: Listener + Sync>(
     let statuses = checked.statuses.as_slice();
     watcher.begin_to_explain();
     let mut stop = UntilUp::new(&Bounds::new(None, &watcher));
-    let told = report_each_explained(
-        rt.alloc(),
-        history,
-        statuses,
-        witnesses,
-        lines,
-        &mut stop,
-    )?;
+    let told = report_each_explained(rt.alloc(), history, statuses, witnesses, lines, &mut stop)?;
     let printed = with_stats(rt.alloc(), told, options.stats(), checked.stored)?;
     tell_if_empty(history, listener);
     Ok((status_of_all(statuses), printed))

@@ -101,7 +101,9 @@ impl<'a, E: AllocGlobal + Eprint + Sync> Listener for OnStandardError<'a, E> {
 
     fn seek_run(&self, sought: &RunSought<'_>) {
         let object = sought.object;
-        let _ = eprintln!(self.rt; "lincheck: {object}: not linearizable; looking for its longest run");
+        let _ = eprintln!(self.rt;
+            "lincheck: {object}: not linearizable; looking for its longest run"
+        );
         if let Some(core) = sought.core {
             let _ = eprint!(self.rt; "{core}");
         }

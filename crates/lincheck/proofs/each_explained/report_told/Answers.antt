@@ -19,7 +19,7 @@ loop-object-preserved g c =
     let there : slice_get c.args.statuses.now c.loop-object.object ≡ Some status = slice_get-get_or c.args.statuses.now c.loop-object.object Yes c.loop-object-test.true in
     let told = c.in_ok-told.ensures in (
       told_more c.args.history.now c.args.lines.now c.args.statuses.now [] (string_bytes c.loop-object.out) (string_bytes c.push_str.new.self) c.loop-object.object status told.0 there c.loop-object.invariant.0 told.1
-      (c.in_ok-push_str.ensures.bytes ∙ ap (λ (l : List ℕ). string_bytes c.loop-object.out ++ l) (c.as_str.ensures.value ∙ told.2)),
+          (c.in_ok-push_str.ensures.bytes ∙ ap (λ (l : List ℕ). string_bytes c.loop-object.out ++ l) (c.as_str.ensures.value ∙ told.2)),
       c.loop-object.invariant.1,
       c.taken.ensures.left c.args.history.now c.loop-object.invariant.2,
     )
