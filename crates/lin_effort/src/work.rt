@@ -1,6 +1,6 @@
 //! Work, in one unit: a look at one call.
 
-ghost use Rattle.std.specs.Prelude.{◌≡◌, ◌+◌, ◌-◌, ◌*◌, ◌/◌, ◌^◌, ◌==◌, min};
+ghost use Rattle.std.specs.Prelude.{◌≡◌, ◌+◌, ◌-◌, ◌*◌, ◌/◌, ◌^◌, min};
 ghost use Rattle.lin_effort.specs.declared.work.TheConstants.{LOOKS_FOR_A_LIFT, LOOKS_FOR_A_PLACE, LOOKS_FOR_A_STEP};
 
 // How many looks at a call a lift counts as: about as long does it take.
@@ -66,13 +66,6 @@ impl Work {
         ensures { result ≡ self.looks / LOOKS_FOR_A_LIFT }
     {
         self.looks / LOOKS_FOR_A_LIFT
-    }
-
-    /// Whether it is none.
-    pub fn is_none(self) -> bool
-        ensures { result ≡ (self.looks == 0) }
-    {
-        self.looks == 0
     }
 
     /// What is left of it without the other; none where that is more.

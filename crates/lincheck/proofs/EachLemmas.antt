@@ -1,23 +1,24 @@
 -- The statuses of a history's objects, one after another, and their lines.
-use Rattle.std.proofs.Common.{◌≡◌, ℕ, zero, suc, ◌+◌, ◌≤◌, List, [], ◌∷◌, ◌++◌, drop, length, length-append, append_assoc, append-nil, Some, refl, sym, ap, ◌∙◌, subst, ◌⊎◌, inl, inr, arith, codes}
+use Rattle.std.proofs.Common.{◌≡◌, ℕ, zero, suc, ◌+◌, ◌≤◌, Option, IfSome, List, [], ◌∷◌, ◌++◌, drop, length, length-append, append_assoc, append-nil, Some, refl, sym, ap, ◌∙◌, subst, ◌⊎◌, inl, inr, arith, codes}
 use Rattle.std.specs.Prelude.{slice_get}
 use Rattle.lin_history.specs.Recorder.RecordedHistory.{RecordedHistory}
 use Rattle.lin_workers.specs.Bounds.{Bounds}
 use Rattle.lincheck.specs.declared.status.Status.{Status}
 use Rattle.lincheck.specs.Report.{name_of}
 use Rattle.lin_explain.specs.declared.witness_text.Witness.{Witness}
-use Rattle.lincheck.specs.Each.{IsStatusOf, AreStatusesOf, IsToldBehind, AreToldFrom, told_text, status_text, status_lines}
+use Rattle.lincheck.specs.Each.{IsStatusOf, AreStatusesOf, IsToldBehind, AreToldFrom, AreWitnessesOf, told_text, status_text, status_lines}
+use Rattle.lincheck.specs.Explained.{IsWitness}
 use Rattle.lincheck.proofs.ReportLemmas.{dropped_at, over}
 
 -- before the first object
 pub statuses_none : (h : RecordedHistory) (bounds : Bounds) → AreStatusesOf h bounds 0 []
 statuses_none h bounds = record { count = refl; each = λ object status e. absurd (cc) }
 
-last_is : (statuses : List Status) (status : Status) (object : ℕ) (s : Status) → slice_get (statuses ++ status ∷ []) object ≡ Some s → (slice_get statuses object ≡ Some s) ⊎ ((object ≡ length statuses) × (status ≡ s))
-last_is [] status zero s e = inr (refl, cc)
-last_is [] status (suc object) s e = absurd (cc)
-last_is (x ∷ xs) status zero s e = inl e
-last_is (x ∷ xs) status (suc object) s e = elim (last_is xs status object s e) [ inl f ↦ inl f | inr f ↦ inr (omega (arith, f.0), f.1) ]
+last_is : {A : Type 0} (all : List A) (last : A) (n : ℕ) (one : A) → slice_get (all ++ last ∷ []) n ≡ Some one → (slice_get all n ≡ Some one) ⊎ ((n ≡ length all) × (last ≡ one))
+last_is [] last zero one e = inr (refl, cc)
+last_is [] last (suc n) one e = absurd (cc)
+last_is (x ∷ xs) last zero one e = inl e
+last_is (x ∷ xs) last (suc n) one e = elim (last_is xs last n one e) [ inl f ↦ inl f | inr f ↦ inr (omega (arith, f.0), f.1) ]
 
 -- one object more
 pub statuses_more : (h : RecordedHistory) (bounds : Bounds) (n : ℕ) (statuses : List Status) (status : Status) → AreStatusesOf h bounds n statuses → IsStatusOf h bounds n status → AreStatusesOf h bounds (n + 1) (statuses ++ status ∷ [])
@@ -31,6 +32,17 @@ statuses_more h bounds n statuses status so_far is = record {
     at_place object s (inr e) =
         let same : object ≡ n = e.0 ∙ so_far.count in
         subst (λ (k : ℕ). IsStatusOf h bounds k s) (sym same) (subst (IsStatusOf h bounds n) e.1 is)
+
+-- nothing is known of none
+pub witnesses_none : (h : RecordedHistory) → AreWitnessesOf h []
+witnesses_none h object witness e = absurd (cc)
+
+-- what is known of one object more
+pub witnesses_more : (h : RecordedHistory) (n : ℕ) (known : List (Option Witness)) (witness : Option Witness) → length known ≡ n → AreWitnessesOf h known → IfSome witness (IsWitness h n) → AreWitnessesOf h (known ++ witness ∷ [])
+witnesses_more h n known witness count so_far right object w e = elim (last_is known witness object w e) [
+  | inl f ↦ so_far object w f
+  | inr f ↦ subst (λ (k : ℕ). IfSome w (IsWitness h k)) (sym (f.0 ∙ count)) (subst (λ (one : Option Witness). IfSome one (IsWitness h n)) f.1 right)
+]
 
 -- the lines so far and the lines of what is left are the lines of all
 pub record StatusesWritten (h : RecordedHistory) (statuses : List Status) (old out : List ℕ) (i : ℕ) : Type 0 where

@@ -1,5 +1,5 @@
 -- What each object of a history is by itself, and how that is printed (this project's own).
-use Rattle.std.specs.Prelude.{◌≡◌, ℕ, ◌+◌, ◌++◌, Bool, true, false, Option, Some, None, List, [], ◌∷◌, codes, length, slice_get, if◌then◌else◌}
+use Rattle.std.specs.Prelude.{◌≡◌, ℕ, ◌+◌, ◌++◌, Bool, true, false, Option, Some, None, List, [], ◌∷◌, codes, length, slice_get, if◌then◌else◌, IfSome}
 use Rattle.std.specs.List.{list_any}
 use Rattle.lin_history.specs.Problems.Linearizations.{IsLinearization}
 use Rattle.lin_history.specs.Recorder.RecordedHistory.{RecordedHistory}
@@ -24,6 +24,10 @@ IsStatusOf h bounds object Refused = ⊥
 pub record AreStatusesOf (h : RecordedHistory) (bounds : Bounds) (n : ℕ) (statuses : List Status) : Type 0 where
   pub count : length statuses ≡ n
   pub each : (object : ℕ) (status : Status) → slice_get statuses object ≡ Some status → IsStatusOf h bounds object status
+
+-- What is known of each of the first objects to let a reader see that it has no order, does.
+abbrev pub AreWitnessesOf : RecordedHistory → List (Option Witness) → Type 0
+AreWitnessesOf h known = (object : ℕ) (witness : Option Witness) → slice_get known object ≡ Some witness → IfSome witness (IsWitness h object)
 
 -- What is printed of an object by itself.
 abbrev pub status_text : Status → List ℕ

@@ -3,6 +3,7 @@
 ghost use Rattle.std.specs.Prelude.{◌≡◌, IsSome, IsTrue};
 
 use crate::listener::{Listener, SoFar, Spent, Undecided};
+use crate::notice::Notice;
 use crate::way_times::WayTimes;
 use lin_history::History;
 use lin_workers::{Options, Watcher, Way};
@@ -23,6 +24,7 @@ pub(crate) struct CheckWatcher<'a, C, L> {
     clock: &'a C,
     history: &'a History,
     listener: &'a L,
+    notice: Notice<'a>,
     is_shown: bool,
     is_bounded: bool,
     begun: Option<Instant>,
@@ -43,11 +45,13 @@ pub(crate) struct CheckWatcher<'a, C, L> {
 }
 
 impl<'a, C: Clock, L: Listener> CheckWatcher<'a, C, L> {
-    // Of a check that begins now by this clock, which is read only where there is a limit or a time, or progress is to be shown.
+    // Of a check that begins now by this clock, which is read only where there is a limit or a time, progress is to be shown, or a run is
+    // sought of an object that has no linearization. Where the lines of the events are given, what explains the answer is wanted.
     pub(crate) fn new(
         clock: &'a C,
         history: &'a History,
         options: &Options,
+        lines: Option<&'a [u64]>,
         listener: &'a L,
     ) -> Self
         ensures { result.seconds ≡ options.now.seconds }
@@ -60,6 +64,7 @@ impl<'a, C: Clock, L: Listener> CheckWatcher<'a, C, L> {
             clock,
             history,
             listener,
+            notice: Notice::new(history, lines),
             is_shown,
             is_bounded,
             begun: time_now(clock, is_bounded || is_shown),
@@ -79,6 +84,11 @@ impl<'a, C: Clock, L: Listener> CheckWatcher<'a, C, L> {
             stored: AtomicU64::new(0),
             furthest: AtomicU64::new(0),
         }
+    }
+
+    // What is said while a run is sought.
+    pub(crate) fn notice(&self) -> &Notice<'a> {
+        &self.notice
     }
 
     // How long the check takes up to now, where the clock says so.
@@ -208,6 +218,7 @@ impl<'a, C: Clock + Sync, L: Listener + Sync> Watcher for CheckWatcher<'a, C, L>
     }
 
     fn is_up(&self) -> bool {
+        self.notice.tell_in_time(self.clock, self.listener);
         if !self.is_shown && self.seconds.is_none() {
             return false;
         }
@@ -228,6 +239,7 @@ impl<'a, C: Clock + Sync, L: Listener + Sync> Watcher for CheckWatcher<'a, C, L>
 
     fn begin(&self, object: usize, calls: usize) {
         self.object.store(object, SeqCst);
+        self.notice.begin(object);
         self.calls.store(calls, SeqCst);
         self.workers.store(1, SeqCst);
         self.tried_before.store(self.tried.load(SeqCst), SeqCst);

@@ -6,7 +6,7 @@ ghost use Rattle.lin_history.specs.Locality.RecordedWhole.{part_of};
 ghost use Rattle.lin_history.specs.Recorder.RecordedHistory.{RecordedHistory};
 ghost use Rattle.lin_workers.specs.Bounds.{Bounds as BoundsOf};
 ghost use Rattle.lin_workers.specs.Options.{bounds_of};
-ghost use Rattle.lincheck.specs.Each.{is_no, is_undecided, status_lines, status_of_all, status_text, AreStatusesOf, IsStatusOf};
+ghost use Rattle.lincheck.specs.Each.{is_no, is_undecided, status_lines, status_of_all, status_text, AreStatusesOf, AreWitnessesOf, IsStatusOf};
 ghost use Rattle.lincheck.specs.ObjectAnswer.{IsObjectAnswer};
 ghost use Rattle.lincheck.specs.Report.{name_of};
 ghost use Rattle.lincheck.specs.Stored.{IsStoredTold};
@@ -18,6 +18,7 @@ use crate::object_answer::{ObjectAnswer, Question};
 use crate::setting::Setting;
 use crate::status::Status;
 use crate::verdict::CheckedEach;
+use lin_explain::Witness;
 use lin_history::History;
 use lin_workers::{Bounds, CheckFault, Gate, Options, Watcher};
 use std::alloc::{AllocError, AllocGlobal, Global};
@@ -37,22 +38,25 @@ fn status_by(answer: &ObjectAnswer) -> Status
     }
 }
 
-// The status of each object, and how many configurations were stored.
+// The status of each object, and how many configurations were stored; and what is known then to let a reader see of an object that it
+// has no order.
 fn judge_each<R: AllocGlobal + Threads + Sync, G: Gate, W: Watcher>(
     setting: &Setting<'_, '_, R, G, W>,
     history: &History,
-) -> Result<CheckedEach, AllocError>
-    ensures statuses { IfOk result (λ checked. AreStatusesOf history.now setting.now.bounds
-        (length history.now.objects) checked.statuses.items) }
-    ensures stored { IfOk result (λ checked. IsStoredTold history.now
-        (length history.now.objects) checked.stored) }
+) -> Result<(CheckedEach, Vec<Option<Witness>>), AllocError>
+    ensures statuses { IfOk result (λ judged. AreStatusesOf history.now setting.now.bounds
+        (length history.now.objects) judged.0.statuses.items) }
+    ensures stored { IfOk result (λ judged. IsStoredTold history.now
+        (length history.now.objects) judged.0.stored) }
+    ensures witnesses { IfOk result (λ judged. AreWitnessesOf history.now judged.1.items) }
 {
     let lists = history.calls_by_object(setting.rt.alloc())?;
     let mut statuses = Vec::new(setting.rt.alloc());
+    let mut witnesses = Vec::new(setting.rt.alloc());
     let mut stored = Some(0);
     for object in 0..lists.len() {
         let indices = lists[object].as_slice();
-        let (answer, more, _witness) = judge_object(
+        let (answer, more, witness) = judge_object(
             setting,
             history,
             object,
@@ -61,8 +65,9 @@ fn judge_each<R: AllocGlobal + Threads + Sync, G: Gate, W: Watcher>(
         )?;
         stored = with_more(stored, more);
         statuses.push(status_by(&answer))?;
+        witnesses.push(witness)?;
     }
-    Ok(CheckedEach { statuses, stored })
+    Ok((CheckedEach { statuses, stored }, witnesses))
 }
 
 /// Checks each object of a history by itself, also those after one that has no linearization or is not decided. The seconds of the
@@ -82,12 +87,13 @@ pub fn check_each<R: AllocGlobal + Threads + Clock + Sync, G: Gate>(
     ensures stored { IfOk result (λ checked. IsStoredTold history.now
         (length history.now.objects) checked.stored) }
 {
-    let watcher = CheckWatcher::new(rt, history, options, &NoListener);
-    check_each_watched(rt, history, options, gate, &watcher)
+    let watcher = CheckWatcher::new(rt, history, options, None, &NoListener);
+    let (checked, _witnesses) = check_each_watched(rt, history, options, gate, &watcher)?;
+    Ok(checked)
 }
 
 /// Checks each object as `check_each` does, while a watcher is told how far that has come, and knows when the time is up: it began when
-/// the check did.
+/// the check did. What is known then to let a reader see of an object that it has no order is told, too.
 pub(crate) fn check_each_watched<
     R: AllocGlobal + Threads + Clock + Sync,
     G: Gate,
@@ -98,24 +104,26 @@ pub(crate) fn check_each_watched<
     options: &Options,
     gate: &G,
     watcher: &CheckWatcher<'_, R, L>,
-) -> Result<CheckedEach, CheckFault>
+) -> Result<(CheckedEach, Vec<Option<Witness>>), CheckFault>
     requires { watcher.now.seconds ≡ options.now.seconds }
-    ensures statuses { IfOk result (λ checked. AreStatusesOf history.now (bounds_of options.now)
-        (length history.now.objects) checked.statuses.items) }
-    ensures stored { IfOk result (λ checked. IsStoredTold history.now
-        (length history.now.objects) checked.stored) }
+    ensures statuses { IfOk result (λ judged. AreStatusesOf history.now (bounds_of options.now)
+        (length history.now.objects) judged.0.statuses.items) }
+    ensures stored { IfOk result (λ judged. IsStoredTold history.now
+        (length history.now.objects) judged.0.stored) }
+    ensures witnesses { IfOk result (λ judged. AreWitnessesOf history.now judged.1.items) }
 {
     let setting = Setting {
         rt,
         options: options_here(rt, options, gate),
         bounds: Bounds::new(options.limit(), watcher),
         gate,
+        notice: watcher.notice(),
     };
-    let checked = judge_each(&setting, history)?;
+    let (checked, witnesses) = judge_each(&setting, history)?;
     if checked.statuses.as_slice().contains(&Status::Undecided) {
         watcher.end_of_all();
     }
-    Ok(checked)
+    Ok((checked, witnesses))
 }
 
 // What is printed of an object by itself.

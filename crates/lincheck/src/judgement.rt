@@ -198,7 +198,7 @@ pub fn check<R: AllocGlobal + Threads + Clock + Sync, G: Gate>(
     ensures stored { IfOk result (λ checked. IsStoredTold history.now
         (judged_of history.now checked.verdict) checked.stored) }
 {
-    let watcher = CheckWatcher::new(rt, history, options, &NoListener);
+    let watcher = CheckWatcher::new(rt, history, options, None, &NoListener);
     let (checked, _witness) = check_watched(rt, history, options, gate, &watcher)?;
     Ok(checked)
 }
@@ -224,6 +224,7 @@ pub(crate) fn check_watched<R: AllocGlobal + Threads + Clock + Sync, G: Gate, L:
         options: options_here(rt, options, gate),
         bounds: Bounds::new(options.limit(), watcher),
         gate,
+        notice: watcher.notice(),
     };
     let (checked, witness) = judge(&setting, history)?;
     if let Verdict::Undecided { .. } = checked.verdict {

@@ -20,6 +20,14 @@ impl Sought {
     pub(crate) fn is_not_yet(&self) -> bool {
         matches!(self, Sought::NotYet)
     }
+
+    /// What was found.
+    pub(crate) fn found(&self) -> Option<&ObjectFault> {
+        match self {
+            Sought::Found(fault) => Some(fault),
+            _ => None,
+        }
+    }
 }
 
 /// What is known of an object.

@@ -6,8 +6,8 @@
 //! - They write exactly what the text prints by definition (`ran`), which is sound (`sound`): at `Yes` the history has a
 //!   linearization, at `No` it has none. docs/GUARANTEES.md says more. `Source` and `Sink` say what
 //!   is left to read and what was written, as far as that is known.
-//! - A `Listener` hears how far a check has come and how long each way takes (`CheckWatcher`, `WayTimes`), what was left undecided,
-//!   and which text is refused. `lincheck_program` puts that into words (`hints`, `advice`).
+//! - A `Listener` hears how far a check has come and how long each way takes (`CheckWatcher`, `WayTimes`), that an object has no
+//!   linearization while its run is sought (`Notice`), what was left undecided, and which text is refused. `lincheck_program` puts that into words (`hints`, `advice`).
 //!
 //! Why it is so:
 //!
@@ -30,6 +30,7 @@ mod judgement;
 mod known;
 mod lines;
 mod listener;
+mod notice;
 mod object_answer;
 mod object_fault;
 mod option_rows;
@@ -52,7 +53,7 @@ pub use lin_workers::{
     Options, Way,
 };
 pub use lines::report;
-pub use listener::{Listener, NoListener, SoFar, Spent, Undecided};
+pub use listener::{Listener, NoListener, RunSought, SoFar, Spent, Undecided};
 pub use pipeline::{run, run_each, run_explained, run_with};
 pub use request::{DEFAULT_SHARDS, DEFAULT_WORKERS, Request, options_of};
 pub use status::{Status, status_code};

@@ -114,7 +114,7 @@ fn verdict_printed<R: AllocGlobal + Threads + Clock + Sync, L: Listener + Sync>(
         → PrintsWith options.now (option_map (λ l. l.now) lines.entry) history.now answer.0
         answer.1.items) }
 {
-    let watcher = CheckWatcher::new(rt, history, options, listener);
+    let watcher = CheckWatcher::new(rt, history, options, lines, listener);
     let Ok((checked, known)) = check_watched(rt, history, options, &FreeGate, &watcher) else {
         return Err(AllocError);
     };
@@ -178,14 +178,15 @@ fn each_printed<R: AllocGlobal + Threads + Clock + Sync, L: Listener + Sync>(
         → PrintsEach options.now (option_map (λ l. l.now) lines.entry) history.now answer.0
         answer.1.items) }
 {
-    let watcher = CheckWatcher::new(rt, history, options, listener);
-    let Ok(checked) = check_each_watched(rt, history, options, &FreeGate, &watcher) else {
+    let watcher = CheckWatcher::new(rt, history, options, lines, listener);
+    let Ok((checked, witnesses)) = check_each_watched(rt, history, options, &FreeGate, &watcher)
+    else {
         return Err(AllocError);
     };
     let statuses = checked.statuses.as_slice();
     watcher.begin_to_explain();
     let mut stop = UntilUp::new(&Bounds::new(None, &watcher));
-    let told = report_each_explained(rt.alloc(), history, statuses, lines, &mut stop)?;
+    let told = report_each_explained(rt.alloc(), history, statuses, witnesses, lines, &mut stop)?;
     let printed = with_stats(rt.alloc(), told, options.stats(), checked.stored)?;
     tell_if_empty(history, listener);
     Ok((status_of_all(statuses), printed))

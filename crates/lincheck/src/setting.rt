@@ -1,9 +1,11 @@
 //! With what the objects of a history are searched.
 ghost use Rattle.std.specs.Prelude.{◌≡◌};
 
+use crate::notice::Notice;
 use lin_workers::{Bounds, Options, Watcher};
 
-/// With what an object is searched: the runtime, the options, the bounds, and the gate of the workers.
+/// With what an object is searched: the runtime, the options, the bounds, the gate of the
+/// workers, and what is said on the way.
 #[derive(Drop)]
 pub(crate) struct Setting<'a, 'b, R, G, W: Watcher> {
     /// Where memory and threads come from.
@@ -14,4 +16,6 @@ pub(crate) struct Setting<'a, 'b, R, G, W: Watcher> {
     pub(crate) bounds: Bounds<'b, W>,
     /// What a worker passes after each claim.
     pub(crate) gate: &'a G,
+    /// What is said while a run is sought.
+    pub(crate) notice: &'b Notice<'b>,
 }

@@ -27,7 +27,7 @@ ghost use Rattle.lincheck.specs.ObjectAnswer.{HasNoOrder, IsAnswered, IsObjectAn
 use crate::full_search::{answer_alone, by_workers, search_alone, stored_now, to_the_end};
 use crate::known::{Known, Sought};
 use crate::object_answer::{ObjectAnswer, Question};
-use crate::object_fault::{calls_of_object, sums_of_object};
+use crate::object_fault::{calls_of_object, fault_of_object, sums_of_object};
 use crate::setting::Setting;
 use lin_decide::Ladder;
 use lin_effort::efforts::{
@@ -150,6 +150,49 @@ fn look_for_fault<R: AllocGlobal, G: Gate, W: Watcher>(
     Ok(())
 }
 
+// Looks for what lets a reader see that there is no order, where that is known and is to be explained: so who waits for the run hears
+// of it, and it is not looked for again.
+fn look_for_explanation<R: AllocGlobal, G: Gate, W: Watcher>(
+    setting: &Setting<'_, '_, R, G, W>,
+    problem: &Problem<AnyObject>,
+    known: &mut Known,
+) -> Result<(), AllocError>
+    requires { IsKnownOf (any_problem problem.now) known.old }
+    ensures { IsKnownOf (any_problem problem.now) known.new }
+{
+    if !setting.notice.tells_why() || !known.fault.is_not_yet() {
+        return Ok(());
+    }
+    setting.bounds.watcher().enter(Way::Core);
+    let mut stop = UntilUp::new(&setting.bounds);
+    let mut ladder = Ladder::new(problem, Work::ANY, &mut stop);
+    known.fault = match fault_of_object(setting.rt.alloc(), problem, &mut ladder)? {
+        Some(fault) => Sought::Found(fault),
+        None if setting.bounds.watcher().is_up() => Sought::NotYet,
+        None => Sought::InVain,
+    };
+    Ok(())
+}
+
+// Where it is known that there is no order and a run is asked for, has that said should the run take long.
+fn announce<R: AllocGlobal, G: Gate, W: Watcher>(
+    setting: &Setting<'_, '_, R, G, W>,
+    problem: &Problem<AnyObject>,
+    question: Question,
+    known: &mut Known,
+) -> Result<(), AllocError>
+    requires { IsKnownOf (any_problem problem.now) known.old }
+    ensures { IsKnownOf (any_problem problem.now) known.new }
+{
+    if !known.is_refuted || asks_no_run(question) || is_small(setting.bounds.limit()) {
+        return Ok(());
+    }
+    look_for_explanation(setting, problem, known)?;
+    setting
+        .notice
+        .wait(setting.rt.alloc(), problem, known.fault.found())
+}
+
 // The first of the longest runs of an object without a linearization, if searches of prefixes find it with so many lifts; where no
 // run is asked for, that there is none.
 fn answer_refuted<R: AllocGlobal, G: Gate, W: Watcher>(
@@ -196,6 +239,7 @@ fn answer_by_prefixes<R: AllocGlobal, G: Gate, W: Watcher>(
     if !known.is_refuted {
         return Ok(None);
     }
+    announce(setting, problem, question, known)?;
     answer_refuted(setting, problem, question, lifts)
 }
 
@@ -240,6 +284,7 @@ fn behind_full_search<R: AllocGlobal, G: Gate, W: Watcher>(
         return Ok(ControlFlow::Continue(turn.prefixes));
     };
     look_for_fault(setting, problem, known)?;
+    announce(setting, problem, question, known)?;
     let at_first = prefixes_at_first(problem, known.is_refuted, setting.bounds.limit());
     let lifts = turn.prefixes.max(at_first);
     match answer_by_prefixes(setting, problem, question, lifts, known)? {
@@ -377,5 +422,6 @@ pub(crate) fn answer_object<R: AllocGlobal + Threads + Sync, G: Gate, W: Watcher
     if known.is_refuted && asks_no_run(question) && !is_small(setting.bounds.limit()) {
         return Ok((ObjectAnswer::No(None), 0));
     }
+    announce(setting, problem, question, known)?;
     by_searches(setting, problem, question, known)
 }

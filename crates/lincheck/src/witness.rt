@@ -1,7 +1,8 @@
 //! What lets a reader see that an object has no order, as it is shown.
 
-ghost use Rattle.std.specs.Prelude.{◌≡◌, Some, map, option_map, slice_get, IfOk, IfSome};
+ghost use Rattle.std.specs.Prelude.{◌≡◌, ℕ, Some, map, option_map, slice_get, IfOk, IfSome};
 ghost use Rattle.lin_history.specs.Recorder.Parts.{start_of, part_calls};
+ghost use Rattle.lin_history.specs.Recorder.RecordedHistory.{RecordedHistory};
 ghost use Rattle.lin_history.specs.Problems.AnyProblem.{any_problem};
 ghost use Rattle.lincheck.specs.Explained.{told_in, shown_of, IsWitness};
 ghost use Rattle.lincheck.specs.Known.{IsSoughtOf};
@@ -64,26 +65,24 @@ fn shown(fault: &SumFault) -> ShownSums
     }
 }
 
-// What this fault of the object is shown as.
-fn shown_fault(
+/// What this fault of an object is shown as: where the problem is the part of a history on it, as what lets a reader see that the object
+/// has no order. `AllocError` where memory was refused.
+pub(crate) fn shown_fault(
     alloc: Global,
-    history: &History,
-    object: usize,
     problem: &Problem<AnyObject>,
-    fault: ObjectFault,
+    fault: &ObjectFault,
 ) -> Result<Witness, AllocError>
-    requires start { option_map start_of (slice_get history.now.objects object)
-        ≡ Some problem.now.start }
-    requires calls { problem.now.calls ≡ part_calls history.now object }
-    requires fault { IsFaultOf (any_problem problem.now) fault }
-    ensures { IfOk result (λ witness. IsWitness history.now object witness) }
+    ensures { IfOk result (λ witness. (history : RecordedHistory) (object : ℕ)
+        → option_map start_of (slice_get history.objects object) ≡ Some problem.now.start
+        → problem.now.calls ≡ part_calls history object
+        → IsFaultOf (any_problem problem.now) fault.now → IsWitness history object witness) }
 {
     match fault {
         ObjectFault::Core(core) => {
-            let calls = told_of(alloc, problem, &core, core.calls.as_slice())?;
+            let calls = told_of(alloc, problem, core, core.calls.as_slice())?;
             Ok(Witness::Core(core.from, calls))
         }
-        ObjectFault::Sums(fault) => Ok(Witness::Sums(shown(&fault))),
+        ObjectFault::Sums(fault) => Ok(Witness::Sums(shown(fault))),
     }
 }
 
@@ -106,7 +105,7 @@ pub(crate) fn witness_known(
         Sought::NotYet => Ok(None),
         Sought::InVain => Ok(Some(Witness::Nothing)),
         Sought::Found(fault) => {
-            let witness = shown_fault(alloc, history, object, problem, fault)?;
+            let witness = shown_fault(alloc, problem, &fault)?;
             Ok(Some(witness))
         }
     }
@@ -129,7 +128,7 @@ pub(crate) fn witness_of<S: Stop>(
 {
     let mut ladder = Ladder::new(problem, Work::ANY, stop);
     match fault_of_object(alloc, problem, &mut ladder)? {
-        Some(fault) => shown_fault(alloc, history, object, problem, fault),
+        Some(fault) => shown_fault(alloc, problem, &fault),
         None => Ok(Witness::Nothing),
     }
 }

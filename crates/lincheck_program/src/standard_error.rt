@@ -4,7 +4,7 @@
 use crate::advice::{advice_for, way_word};
 use crate::hints::hint_of;
 use lin_text::TextFault;
-use lincheck::{Listener, Options, SoFar, Spent, Undecided};
+use lincheck::{Listener, Options, RunSought, SoFar, Spent, Undecided};
 use std::fmt;
 use std::io::Eprint;
 use std::time::Duration;
@@ -97,6 +97,16 @@ impl<'a, E: AllocGlobal + Eprint + Sync> Listener for OnStandardError<'a, E> {
         let _ = eprintln!(self.rt;
             "lincheck: {object}: {way}, {tried} calls tried, {tried_in_a_second} in a second, {stored} configurations stored, furthest run {furthest} of {calls} calls, {workers} worker{ending}"
         );
+    }
+
+    fn seek_run(&self, sought: &RunSought<'_>) {
+        let object = sought.object;
+        let _ = eprintln!(self.rt;
+            "lincheck: {object}: not linearizable; looking for its longest run"
+        );
+        if let Some(core) = sought.core {
+            let _ = eprint!(self.rt; "{core}");
+        }
     }
 
     fn leave_undecided(&self, spent: &Spent<'_>) {
