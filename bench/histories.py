@@ -7,6 +7,7 @@
 Those that are simulated are linearizable: each call takes effect at one moment between its call and its return. They
 come from a fixed seed, so that they are the same each time.
 """
+import copy
 import random
 import sys
 from typing import Callable, Iterable, NamedTuple
@@ -326,6 +327,63 @@ class ForgetfulCounter(Adding):
         return super().reply(op, value)
 
 
+class Members(Set):
+    """A set of a few items that clients join and leave."""
+
+    def __init__(self):
+        super().__init__(5)
+
+
+class ThreeKeys(Map):
+    """A map of three keys."""
+
+    def __init__(self):
+        super().__init__(3)
+
+
+class Pool(Queue):
+    """A queue of so many items, each of which goes back in after it was taken out."""
+
+    def __init__(self, count):
+        super().__init__()
+        self.left, self.out = list(range(count)), []
+
+    def choose(self, chance, number):
+        if self.left:
+            return self.put, self.left.pop()
+        if self.out and chance.random() < 0.5:
+            return self.put, self.out.pop(chance.randrange(len(self.out)))
+        return self.take, None
+
+    def reply(self, op, value):
+        reply = super().reply(op, value)
+        if op == self.take and reply != "null":
+            self.out.append(reply)
+        return reply
+
+
+class Parted:
+    """An object of which there are two replicas for so many calls from the middle on, one for the even processes and one for the
+    odd ones. Then the first is what all see."""
+
+    APART = 100  # calls
+
+    def __init__(self, model, calls):
+        self.all, self.other, self.middle, self.calls, self.process = model, None, calls // 2, 0, 0
+
+    def choose(self, chance, number):
+        return self.all.choose(chance, number)
+
+    def reply(self, op, value):
+        self.calls += 1
+        if self.calls == self.middle:
+            self.other = copy.deepcopy(self.all)
+        if self.calls == self.middle + self.APART:
+            self.other = None
+        one = self.other if self.other and self.process % 2 else self.all
+        return one.reply(op, value)
+
+
 class Event(NamedTuple):
     process: int
     op: str
@@ -341,7 +399,7 @@ def simulated(model, processes, calls, stops=0):
     events, called, done, made = [], {}, {}, 0
     running = list(range(processes))
     while made < calls or called or done:
-        process = chance.choice(running)
+        process = model.process = chance.choice(running)
         stopped = processes - len(running)
         if process in called:
             op, value = called.pop(process)
@@ -467,6 +525,27 @@ def with_item_taken_twice(events, op):
     first = len(places) * 9 // 10 - 20
     one, other = places[first], places[first + 5]
     events[other] = events[other]._replace(reply=events[one].reply)
+    return events
+
+
+def with_pairs_swapped(events, op, count):
+    """So many pairs of results of the operation, from the middle on, each in the other's place."""
+    places = [place for place, event in enumerate(events) if event.op == op and isinstance(event.reply, int)]
+    first = len(places) // 2
+    for number in range(count):
+        one, other = places[first + 24 * number], places[first + 24 * number + 20]
+        replies = events[one].reply, events[other].reply
+        events[other], events[one] = events[other]._replace(reply=replies[0]), events[one]._replace(reply=replies[1])
+    return events
+
+
+def with_items_taken_twice(events, op, count):
+    """So many results of the operation, from the middle on, in the place of one 20 later."""
+    places = [place for place, event in enumerate(events) if event.op == op and isinstance(event.reply, int)]
+    first = len(places) // 2
+    for number in range(count):
+        one, other = places[first + 4 * number], places[first + 4 * number + 20]
+        events[other] = events[other]._replace(reply=events[one].reply)
     return events
 
 
@@ -889,6 +968,41 @@ def unseen_at_once(kind, put, take, key=None):
     return history
 
 
+def queue_swapped(processes, most, count):
+    return lambda calls: lines("q", "queue", with_pairs_swapped(simulated(FilledQueue(most), processes, calls), "deq", count))
+
+
+def queue_taken_twice(processes, most, count):
+    return lambda calls: lines("q", "queue", with_items_taken_twice(simulated(FilledQueue(most), processes, calls), "deq", count))
+
+
+def pool_swapped(processes, items, count):
+    return lambda calls: lines("q", "queue", with_pairs_swapped(simulated(Pool(items), processes, calls), "deq", count))
+
+
+def parted(model, processes):
+    return lambda calls: lines("x", model().kind, simulated(Parted(model(), calls), processes, calls))
+
+
+def likes(processes):
+    """A counter of +1 whose replicas part."""
+    return parted(Counter, processes)
+
+
+def all_at_once(count):
+    """So many writes at once, and then as many reads at once, of which each second one found the value of another write than the
+    others."""
+    yield declared("x")
+    for process in range(count):
+        yield call(process, "x", "write", process)
+    for process in range(count):
+        yield returned(process, "x", OKAY)
+    for process in range(count):
+        yield call(process, "x", "read")
+    for process in range(count):
+        yield returned(process, "x", process % 2)
+
+
 def buffer(model):
     return lambda calls: lines("b", model.kind, simulated(model(), 6, calls))
 
@@ -1219,6 +1333,23 @@ FAMILIES = {
         for tenth in (1, 5, 9)
     },
     "tries": Family("concurrent tries of a held mutex, and an unlock by another", "tries", [18, 22, 64], 1, tries),
+    **{
+        f"queue_swaps_{count}": Family(f"a queue, 16 processes, {count} pairs out of order", "calls", [4000], 1, queue_swapped(16, 40, count)) for count in (2, 3)
+    },
+    **{
+        f"queue_twice_{count}": Family(f"a queue, 16 processes, {count} items handed out twice", "calls", [4000], 1, queue_taken_twice(16, 40, count))
+        for count in (1, 2, 3)
+    },
+    **{
+        f"pool_swaps_{count}": Family(f"a queue of 24 items that go round, 16 processes, {count} pairs out of order", "calls", [4000], 1, pool_swapped(16, 24, count))
+        for count in (1, 2, 3)
+    },
+    **{
+        f"{name}_parted_{processes}": Family(f"a {what} whose replicas part for 100 calls, {processes} processes", "calls", [1000, 4000], 1, parted(model, processes))
+        for name, what, model in (("counter", "counter", Counter), ("set", "set of 5 items", Members), ("map", "map of 3 keys", ThreeKeys))
+        for processes in (8, 16)
+    },
+    "register_at_once": Family("writes at once, then reads at once of two of their values", "processes", [512, 1024, 2048], 1, all_at_once),
     "concurrent": Family("concurrent writes, and an impossible read", "writes", [8, 10, 12, 14, 16, 18], 1, concurrent),
 }
 

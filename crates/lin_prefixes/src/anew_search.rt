@@ -10,8 +10,9 @@ use crate::marks::Marks;
 use crate::open_takers::open_takers;
 use crate::part_search::{PartSearch, RunsTold};
 use crate::parts_anew::{Loosened, Wanted, is_loose_prefix, made_anew};
+use crate::told_of_part::{order_of_part, told_of_part};
 use crate::untold_groups::UntoldGroups;
-use lin_effort::efforts::{bound, group, order};
+use lin_effort::efforts::{bound, group};
 use lin_effort::{Decide, Effort, Work};
 use lin_history::{Problem, ProblemEvent};
 use lin_object::AnyObject;
@@ -84,7 +85,7 @@ impl<'a, D: Decide> AnewSearch<'a, D> {
         if !is_part(problem, kept, &part) {
             return Ok(Told::Nothing);
         }
-        let answer = self.decider.decide(alloc, &part, &order(part.len()))?;
+        let answer = order_of_part(alloc, &part, self.decider)?;
         Ok(answer)
     }
 
@@ -122,7 +123,7 @@ impl<'a, D: Decide> AnewSearch<'a, D> {
             return Ok(false);
         }
         let effort = effort_for(&part, calls);
-        match self.decider.decide(alloc, &part, &effort)? {
+        match told_of_part(alloc, &part, &effort, self.decider)? {
             Told::Refuted => Ok(true),
             Told::Found(_) => Ok(false),
             Told::Nothing => Ok(false),

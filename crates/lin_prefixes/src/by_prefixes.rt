@@ -63,6 +63,37 @@ fn open_calls<O: SeqObject>(
     Ok(open)
 }
 
+// Whether the first call returned after the other one was called and before the one that follows that was.
+fn returns_between<O: SeqObject>(problem: &Problem<O>, call: usize, other: usize) -> bool
+    requires call { call < length problem.now.calls }
+    requires other { other + 1 < length problem.now.calls }
+    ensures { IsFalse result
+        → Before (problem_of O.after O.State.eq O.Reply.eq problem.now) call (other + 1)
+        → Before (problem_of O.after O.State.eq O.Reply.eq problem.now) call other }
+{
+    if is_open(problem, call, other) {
+        let _calls = problem.calls();
+        return !is_open(problem, call, other + 1);
+    }
+    false
+}
+
+// Whether no return stands between this call and the next one. Then each run of this one is a run of that.
+fn is_within_window<O: SeqObject>(problem: &Problem<O>, call: usize) -> bool
+    requires { call + 1 < length problem.now.calls }
+    ensures { IsTrue result → (a : ℕ) → a ≤ call
+        → Before (problem_of O.after O.State.eq O.Reply.eq problem.now) a (call + 1)
+        → Before (problem_of O.after O.State.eq O.Reply.eq problem.now) a call }
+{
+    let _calls = problem.calls();
+    for c in 0..call + 1 {
+        if returns_between(problem, c, call) {
+            return false;
+        }
+    }
+    true
+}
+
 // Whether a run with calls up to this one that lacks so many could be as long as the best.
 fn may_be_best(best: &Order, call: usize, lacking: usize) -> bool
     requires { call + 1 < 2 ^ 64 }
@@ -280,6 +311,9 @@ pub(crate) fn longest_by_prefixes<O: SeqObject, S: PartSearch<O>>(
     };
     while left > 0 && best.calls().len() <= left {
         left -= 1;
+        if left + 1 < problem.len() && is_within_window(problem, left) {
+            continue;
+        }
         let last = LastCall {
             call: left,
             until: until.as_slice(),

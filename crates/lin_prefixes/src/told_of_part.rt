@@ -1,0 +1,76 @@
+//! What is told of one part: by what decides it, or by a few of its calls that alone have no linearization.
+
+ghost use Rattle.std.specs.Prelude.{IfOk, IsTrue};
+ghost use Rattle.lin_history.specs.Problems.AnyProblem.{any_problem};
+ghost use Rattle.lin_core.specs.Cores.{HasNone};
+ghost use Rattle.lin_search.specs.Told.{IsRightOf};
+
+use lin_core::{core_of, sum_fault_of};
+use lin_effort::efforts::{bound, core_work, order};
+use lin_effort::{Decide, Effort, UntilSpent};
+use lin_history::Problem;
+use lin_object::AnyObject;
+use lin_search::Told;
+use std::alloc::{AllocError, Global};
+
+// Whether the part is one of a counter whose adds leave no room for the reply of some get.
+fn has_sum_fault<D: Decide>(
+    alloc: Global,
+    part: &Problem<AnyObject>,
+    decider: &mut D,
+) -> Result<bool, AllocError>
+    ensures { IfOk result (λ shown. IsTrue shown → HasNone (any_problem part.now)) }
+{
+    let fault = sum_fault_of(alloc, part, &mut UntilSpent::new(decider))?;
+    Ok(fault.is_some())
+}
+
+// Whether a few calls of the part are found that alone have no linearization.
+fn has_core<D: Decide>(
+    alloc: Global,
+    part: &Problem<AnyObject>,
+    decider: &mut D,
+) -> Result<bool, AllocError>
+    ensures { IfOk result (λ shown. IsTrue shown → HasNone (any_problem part.now)) }
+{
+    let core = core_of(alloc, part, core_work(part.len()), decider)?;
+    Ok(core.is_some())
+}
+
+/// The least linearization of the part; or that it has none; or nothing, where the effort or the work ends it and no such calls are
+/// found. `AllocError` where memory was refused.
+pub(crate) fn told_of_part<D: Decide>(
+    alloc: Global,
+    part: &Problem<AnyObject>,
+    effort: &Effort,
+    decider: &mut D,
+) -> Result<Told, AllocError>
+    ensures { IfOk result (IsRightOf (any_problem part.now)) }
+{
+    if has_sum_fault(alloc, part, decider)? {
+        return Ok(Told::Refuted);
+    }
+    match decider.decide(alloc, part, effort)? {
+        Told::Nothing => {}
+        told => return Ok(told),
+    }
+    if has_core(alloc, part, decider)? {
+        return Ok(Told::Refuted);
+    }
+    Ok(Told::Nothing)
+}
+
+/// The same with as much effort as the least linearization is worth. Such calls are looked for before most of it: of a part that has
+/// none a search may make all lifts that there are.
+pub(crate) fn order_of_part<D: Decide>(
+    alloc: Global,
+    part: &Problem<AnyObject>,
+    decider: &mut D,
+) -> Result<Told, AllocError>
+    ensures { IfOk result (IsRightOf (any_problem part.now)) }
+{
+    match told_of_part(alloc, part, &bound(part.len()), decider)? {
+        Told::Nothing => decider.decide(alloc, part, &order(part.len())),
+        told => Ok(told),
+    }
+}
