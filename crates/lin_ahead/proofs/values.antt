@@ -1,6 +1,7 @@
 pub mod ClusterLemmas
 pub mod TakenTwiceLemmas
 pub mod RankLemmas
+pub mod BalanceLemmas
 pub mod StrandedLemmas
 pub mod FoundStateLemmas
 pub mod NarrowLemmas

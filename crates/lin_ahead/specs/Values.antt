@@ -11,5 +11,6 @@ pub mod ToldOfRegister
 pub mod KeyValue
 pub mod ItemValue
 pub mod TakenTwice
+pub mod Balance
 pub mod Ranks
 pub mod Clusters

@@ -33,7 +33,7 @@
 //!   of it speaks of *linearizations* (`IsRightAhead`), and for most of it nothing more could be told by real time (`IsToldAhead`);
 //!   for a stack it may leave out which call popped an item. Of values it tells owners of each completed call that found one, if no
 //!   more than 64 calls may write that value (`AreToldWhereFew`); it may name as an owner a call that cannot be one, but of what
-//!   owners show nothing is left out, save values that were taken twice, and all that ranks show.
+//!   owners show nothing is left out, save what balance and ranks show.
 //! - `search_first` looks from the root for the least linearization only, and passes over a call if a rule below shows that it
 //!   begins no completion, or none that an earlier call does not begin too. Its answer is right (`Told`). It is `Nothing` only if
 //!   there are more runs than lifts may be made, or if the stop answered. No clause says which calls it passes over. The search
@@ -66,6 +66,9 @@
 //!   its cluster would cross another cluster with that call, or would be parted by a call that breaks the value. Nor is the start,
 //!   if a call of a cluster returned before the call was called. Such owners are taken out before the search, which then has more
 //!   calls that are due.
+//! - *balance* (register, key of a map, item of a set): No two calls that took a value away found what one and the same call made, or
+//!   the start. So there is no linearization if they are more than the calls, with the start, of which one made what each found. It
+//!   is asked before any search.
 //! - *ranks* (register, key of a map, item of a set): A value has a rank if each call that may write it is a `cas` from a value of a
 //!   lower rank. It comes about once at most. So there is no linearization if two calls took such a value away, or if a call found
 //!   one behind another call that showed a value of no rank or of a higher one. It is asked before any search.

@@ -1,8 +1,8 @@
 //! Registers, maps whose calls are on one key, and sets whose calls are on one item.
 //!
 //! - `shown_values`: the value that a call may write, and that it found; `call_values`: all that it shows of values, for a search; `rows`:
-//!   what is known ahead; `needed_pairs`: two calls that need each other; `taken_values`: two calls that took away one and the same
-//!   value; `ranks`: values that come about once at most; `broken_ranks`: two calls that cannot be so by them.
+//!   what is known ahead; `needed_pairs`: two calls that need each other; `taken_values`: calls that took a value away; `balance`: more
+//!   of them than made what they found; `ranks`: values that come about once at most; `broken_ranks`: two calls that cannot be so by them.
 //! - `owners`: the calls of which one wrote what a call found; `writers`: those that may write each value; `breaking_calls`: those by
 //!   which a value is not there all the time; `clusters`: the calls that one call owns, by their events;
 //!   `narrowing`: fewer owners, by such calls.
@@ -12,6 +12,7 @@
 //!   calls that are left, by their returns; `stranded`: what follows from calls that are left to one owner;
 //!   `crossings`: which are, and what stands between them; `last_breaks`: the calls that do not leave a value, by their returns.
 
+pub(crate) mod balance;
 pub(crate) mod breaking_calls;
 pub(crate) mod broken_ranks;
 pub(crate) mod call_values;

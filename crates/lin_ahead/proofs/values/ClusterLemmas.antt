@@ -1,5 +1,8 @@
 -- Calls that one and the same call owns: between it and each of them no call of a linearization changes the state. So the calls of two such owners stand apart.
-use Rattle.std.proofs.Common.{◌≡◌, ◌≢◌, ℕ, true, false, true≢false, Some, List, [], ◌∷◌, ◌++◌, length, ◌⊎◌, inl, inr, refl, sym, ◌∙◌, ap, subst, append_assoc, append-nil}
+use Rattle.std.proofs.Common.{◌≡◌, ◌≢◌, ℕ, ◌<◌, Bool, true, false, true≢false, Option, Some, None, List, [], ◌∷◌, ◌++◌, length, ◌⊎◌, inl, inr, refl, sym, ◌∙◌, ap, subst, append_assoc, append-nil, arith}
+use Rattle.std.specs.Prelude.{slice_get, IsTrue}
+use Rattle.std.proofs.lemmas.Option.{slice_get_within}
+use Rattle.lin_history.specs.declared.problems.problem.ProblemCall.{ProblemCall}
 use Rattle.lin_history.specs.Problems.Problem.{Problem}
 use Rattle.lin_history.specs.Problems.Lists.{In, IsDistinct}
 use Rattle.lin_history.specs.Problems.ListLemmas.{apart, has_none, in_early, in_late, in_either, in_place}
@@ -296,33 +299,36 @@ module _ {State Op Reply : Type 0} (p : Problem State Op Reply) where
       (λ e. front_itself run.distinct w (subst (λ (n : ℕ). Front l w n) e (owner_front l w g one)))
       (λ i. changes two.to (owner_reached l w h two) (two.kept g i)))
 
-  -- two calls of one owner that each change the state
-  pub taken_twice : (w g h : ℕ) → g ≢ h → IsOwnedBy p (w ∷ []) false g → IsOwnedBy p (w ∷ []) false h → IsCompleted p g → IsCompleted p h → AlwaysChanges g → AlwaysChanges h → (l : List ℕ) → IsLinearization p l → ⊥
-  taken_twice w g h other owned_g owned_h done_g done_h changes_g changes_h l whole =
-      let run = whole.continuation in
-      let one = owned_in l whole w g owned_g done_g in
-      let two = owned_in l whole w h owned_h done_h in
-      elim (front_either run.distinct g h other (member_stands l w g (owner_changed l w g one) (inr one)) (member_stands l w h (owner_changed l w h two) (inr two))) [
-        | inl q ↦ first_leaves l run w g h one two q changes_g
-        | inr q ↦ first_leaves l run w h g two one q changes_h
+  -- Call w made what call g found in the list: it owns it. So did the start, which counts as the call of this number, where no call
+  -- in front of g changed the state.
+  abbrev pub Made : List ℕ → ℕ → ℕ → ℕ → Type 0
+  Made l start w g = (Owned l w g × (w < start)) ⊎ ((w ≡ start) × ((early late : List ℕ) × (l ≡ early ++ g ∷ late) × AllLeave p p.start early))
+
+  step_within : (s t : State) (c : ℕ) → next p s c ≡ Some t → c < length p.calls
+  step_within s t c step = go (slice_get p.calls c) refl
+    where
+      go : (o : Option (ProblemCall Op Reply)) → slice_get p.calls c ≡ o → c < length p.calls
+      go (Some x) e = slice_get_within p.calls c x e
+      go None e = absurd (let f = rw e at step in cc)
+
+  -- what a completed call found was made by one of its owners
+  pub maker : (l : List ℕ) → IsLinearization p l → (calls : List ℕ) (b : Bool) (g : ℕ) → IsOwnedBy p calls b g → IsCompleted p g → (w : ℕ) × (In w calls ⊎ (IsTrue b × (w ≡ length p.calls))) × Made l (length p.calls) w g
+  maker l whole calls b g owned done =
+      let at = stands l g whole done in
+      elim (owned l at.0 at.1 whole at.2) [
+        | inl k ↦ (k.owner, inl k.one_of, inl (owned_at l at.0 at.1 calls g at.2 k, step_within k.from k.to k.owner k.step))
+        | inr q ↦ (length p.calls, inr (q.0, refl), inr (refl, (at.0, at.1, at.2, q.1)))
       ]
 
-  -- a call that found the state of the start stands behind none that changes the state
-  start_kept : (l : List ℕ) → IsLinearization p l → (h : ℕ) → IsOwnedBy p [] true h → (g : ℕ) → Front l g h → AlwaysChanges g → ⊥
-  start_kept l whole h owned g (early, late, eq, there) changes = elim (owned l early late whole eq) [
-    | inl k ↦ k.one_of
-    | inr q ↦ changes p.start ([], refl) (q.1 g there)
+  first_made : (l : List ℕ) → IsRun p l → (start w g h : ℕ) → Made l start w g → Made l start w h → Front l g h → AlwaysChanges g → ⊥
+  first_made l run start w g h (inl one) (inl two) before changes = first_leaves l run w g h one.0 two.0 before changes
+  first_made l run start w g h (inl one) (inr two) before changes = (let a = one.1 in let b = two.0 in omega (arith, a, b))
+  first_made l run start w g h (inr one) (inl two) before changes = (let a = one.0 in let b = two.1 in omega (arith, a, b))
+  first_made l run start w g h (inr one) (inr (e, (early, late, eq, kept))) before changes = changes p.start ([], refl) (kept g (front_here run.distinct g h before early late eq))
+
+  -- of two calls that each change the state, one alone found what a call, or the start, made
+  pub made_once : (l : List ℕ) → IsRun p l → (start w g h : ℕ) → g ≢ h → In g l → In h l → AlwaysChanges g → AlwaysChanges h → Made l start w g → Made l start w h → ⊥
+  made_once l run start w g h other there here changes_g changes_h one two = elim (front_either run.distinct g h other there here) [
+    | inl q ↦ first_made l run start w g h one two q changes_g
+    | inr q ↦ first_made l run start w h g two one q changes_h
   ]
-
-  -- two that both found the state of the start
-  pub start_taken_twice : (g h : ℕ) → g ≢ h → IsOwnedBy p [] true g → IsOwnedBy p [] true h → IsCompleted p g → IsCompleted p h → AlwaysChanges g → AlwaysChanges h → (l : List ℕ) → IsLinearization p l → ⊥
-  start_taken_twice g h other owned_g owned_h done_g done_h changes_g changes_h l whole =
-      let run = whole.continuation in
-      let at_g = stands l g whole done_g in
-      let at_h = stands l h whole done_h in
-      elim (front_either run.distinct g h other
-      (subst (λ (m : List ℕ). In g m) (sym at_g.2) (in_late g at_g.0 (g ∷ at_g.1) (inl refl)))
-      (subst (λ (m : List ℕ). In h m) (sym at_h.2) (in_late h at_h.0 (h ∷ at_h.1) (inl refl)))) [
-        | inl q ↦ start_kept l whole h owned_h g q changes_g
-        | inr q ↦ start_kept l whole g owned_g h q changes_h
-      ]

@@ -27,8 +27,9 @@ use Rattle.lin_ahead.specs.Values.Register.{IsOfRegister, value_found}
 use Rattle.lin_ahead.specs.Values.NeededPairs.{need_each_other, some_pair}
 use Rattle.lin_ahead.specs.Values.Owners.{IsOwnedBy, AreOwners}
 use Rattle.lin_ahead.specs.Values.Narrowing.{AreRightRows}
+use Rattle.lin_ahead.specs.Values.Balance.{AreTooManyTakers}
 use Rattle.lin_ahead.specs.Values.Ranks.{AreRanksBroken}
-use Rattle.lin_ahead.specs.Values.TakenTwice.{IsSoleOwner, IsTakenTwice}
+use Rattle.lin_ahead.specs.Values.TakenTwice.{IsSoleOwner}
 use Rattle.lin_ahead.specs.Values.Clusters.{IsForced, OfCluster, Returned, CalledBy, IsClusterBy, IsClusterFrom, NeedsByNumbers, NeedEachOther, AreClusterNumbers, AreNumbersTo, FoundNowhere, is_nowhere}
 use Rattle.lin_ahead.specs.Values.ToldOfRegister.{IsToldOfRegister}
 use Rattle.lin_ahead.proofs.first.NeedsLemmas.{stands}
@@ -38,7 +39,7 @@ use Rattle.lin_ahead.proofs.values.RegisterLemmas.{finds_completed, of_any_regis
 use Rattle.lin_ahead.proofs.values.FoundStateLemmas.{find_one_state}
 use Rattle.lin_ahead.proofs.values.ClusterLemmas.{Front, front_here, front_both, Owned, Member, owned_in, owner_changed, cluster_front}
 use Rattle.lin_ahead.proofs.values.RankLemmas.{broken_in_vain}
-use Rattle.lin_ahead.proofs.values.TakenTwiceLemmas.{twice_in_vain}
+use Rattle.lin_ahead.proofs.values.TakenTwiceLemmas.{too_many_in_vain}
 
 -- an element of a list that passes a test
 any_at : {A : Type 0} (test : A → Bool) (xs : List A) → list_any test xs ≡ true → (i : ℕ) × (x : A) × (slice_get xs i ≡ Some x) × (test x ≡ true)
@@ -233,10 +234,10 @@ module _ {p : Problem ObjState Op Reply} {start : ℤ} (of : IsOfRegister p star
         | inr q ↦ true≢false (sym q.0)
       ]
 
-  in_vain : FoundNowhere rows ⊎ (NeedEachOther p.calls rows ⊎ (IsTakenTwice p.calls rows ⊎ AreRanksBroken p.calls)) → (l : List ℕ) → IsLinearization p l → ⊥
+  in_vain : FoundNowhere rows ⊎ (NeedEachOther p.calls rows ⊎ (AreTooManyTakers p.calls rows ⊎ AreRanksBroken p.calls)) → (l : List ℕ) → IsLinearization p l → ⊥
   in_vain (inl nowhere) l whole = nowhere_in_vain nowhere l whole
   in_vain (inr (inl (a, b, other, is, too, one, two))) l whole = front_both whole.continuation.distinct a b (needs_front a b other one l whole) (needs_front b a (λ e. other (sym e)) two l whole)
-  in_vain (inr (inr (inl twice))) l whole = twice_in_vain of exact rows owners twice l whole
+  in_vain (inr (inr (inl twice))) l whole = too_many_in_vain of exact rows owners twice l whole
   in_vain (inr (inr (inr broken))) l whole = broken_in_vain of broken l whole
 
 module _ {Object : Type 0} (p : ProblemParts Object ObjState Op Reply) where

@@ -1,5 +1,5 @@
--- Two calls that took one and the same value away (this project's own).
-use Rattle.std.specs.Prelude.{◌≡◌, ◌≢◌, ℕ, Bool, true, false, not, Option, Some, None, List, [], ◌∷◌, slice_get, IsSomeAnd, IsTrue}
+-- Calls on a register that took a value away, and what one call alone made (this project's own).
+use Rattle.std.specs.Prelude.{◌≡◌, ℕ, Bool, true, false, not, Option, Some, None, List, [], ◌∷◌, slice_get, IsSomeAnd, IsTrue}
 use Rattle.std.specs.Ordering.{int_eq}
 use Rattle.lin_object.specs.declared.op.Op.{Op}
 use Rattle.lin_object.specs.declared.op.Op.TheVariants.{Cas}
@@ -21,11 +21,3 @@ TakesAway calls g = IsSomeAnd (slice_get calls g) (λ x. IsTrue (takes x.op x.re
 abbrev pub IsSoleOwner : Owners → Option ℕ → Type 0
 IsSoleOwner owners (Some w) = IsTrue owners.are_told × (owners.calls.items ≡ w ∷ []) × (owners.at_start ≡ false)
 IsSoleOwner owners None = IsTrue owners.are_told × (owners.calls.items ≡ []) × (owners.at_start ≡ true)
-
--- The call took away what this call alone, or the start, made.
-abbrev pub TakesFrom : List (ProblemCall Op Reply) → List Owners → Option ℕ → ℕ → Type 0
-TakesFrom calls rows owner g = TakesAway calls g × IsSomeAnd (slice_get rows g) (λ owners. IsSoleOwner owners owner)
-
--- Two calls did.
-abbrev pub IsTakenTwice : List (ProblemCall Op Reply) → List Owners → Type 0
-IsTakenTwice calls rows = (owner : Option ℕ) × (g h : ℕ) × (g ≢ h) × TakesFrom calls rows owner g × TakesFrom calls rows owner h

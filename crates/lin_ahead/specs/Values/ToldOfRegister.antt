@@ -6,8 +6,8 @@ use Rattle.lin_history.specs.declared.problems.problem.ProblemCall.{ProblemCall}
 use Rattle.lin_ahead.specs.declared.values.rows.ValuesAhead.{ValuesAhead}
 use Rattle.lin_ahead.specs.Values.Narrowing.{AreRightRows}
 use Rattle.lin_ahead.specs.Values.PossibleOwners.{AreToldWhereFew}
+use Rattle.lin_ahead.specs.Values.Balance.{AreTooManyTakers}
 use Rattle.lin_ahead.specs.Values.Ranks.{AreRanksBroken}
-use Rattle.lin_ahead.specs.Values.TakenTwice.{IsTakenTwice}
 use Rattle.lin_ahead.specs.Values.Clusters.{AreClusterNumbers, FoundNowhere, NeedEachOther}
 
 -- All is told that follows from the rows of owners, on a register that starts with this value.
@@ -16,7 +16,7 @@ pub record IsToldOfRegister (start : ℤ) (calls : List (ProblemCall Op Reply)) 
   -- It is said of each call that found a value which calls may have written it, if no more than MOST_OWNERS calls may write that value.
   pub few : AreToldWhereFew calls ahead.owners.items
   pub numbers : AreClusterNumbers calls ahead.owners.items ahead.needs
-  -- There is no linearization by these facts alone where a call found what is nowhere, two calls need each other, two took away what
-  -- one call made, or two break the ranks of values.
-  pub in_vain : IsTrue ahead.in_vain → FoundNowhere ahead.owners.items ⊎ (NeedEachOther calls ahead.owners.items ⊎ (IsTakenTwice calls ahead.owners.items ⊎ AreRanksBroken calls))
+  -- There is no linearization by these facts alone where a call found what is nowhere, two calls need each other, more took values
+  -- away than made them, or two break the ranks of values.
+  pub in_vain : IsTrue ahead.in_vain → FoundNowhere ahead.owners.items ⊎ (NeedEachOther calls ahead.owners.items ⊎ (AreTooManyTakers calls ahead.owners.items ⊎ AreRanksBroken calls))
   pub in_vain_told : FoundNowhere ahead.owners.items ⊎ NeedEachOther calls ahead.owners.items → IsTrue ahead.in_vain

@@ -3,11 +3,12 @@
 
 ghost use Rattle.std.specs.Prelude.{◌≡◌, ◌⊎◌, length, IfOk, IsTrue, map};
 ghost use Rattle.lin_ahead.specs.declared.values.needed_pairs.CallNumbers.{CallNumbers};
+ghost use Rattle.lin_ahead.specs.Values.Balance.{AreTooManyTakers};
 ghost use Rattle.lin_ahead.specs.Values.Clusters.{AreNumbersTo, FoundNowhere, NeedEachOther};
 ghost use Rattle.lin_ahead.specs.Values.Ranks.{AreRanksBroken};
-ghost use Rattle.lin_ahead.specs.Values.TakenTwice.{IsTakenTwice};
 ghost use Rattle.lin_ahead.specs.Values.ToldOfRegister.{IsToldOfRegister};
 
+use crate::values::balance::some_takers_are_too_many;
 use crate::values::broken_ranks::some_rank_is_broken;
 use crate::values::call_values::{CallValues, values_of_each};
 use crate::values::clusters::{cluster_numbers, some_found_nowhere};
@@ -15,7 +16,6 @@ use crate::values::narrowing::narrow;
 use crate::values::needed_pairs::{CallNumbers, some_pair};
 use crate::values::owners::{Owners, owners_of_each};
 use crate::values::shown_values::values_of_calls;
-use crate::values::taken_values::some_value_taken_twice;
 use indexmap::IndexMap;
 use lin_history::{NeedRows, ProblemCall};
 use lin_object::{Op, Reply};
@@ -49,8 +49,8 @@ fn from_of_each(alloc: Global, numbers: &[CallNumbers]) -> Result<Vec<u64>, Allo
     numbers.iter().map(|one| one.from).collect(alloc)
 }
 
-// Whether some call found what is nowhere, two calls need each other, two took away what one call made, or two cannot be so by ranks of
-// the values.
+// Whether some call found what is nowhere, two calls need each other, more took values away than made them, or two cannot be so by
+// ranks of the values.
 fn are_in_vain(
     alloc: Global,
     values: &IndexMap<i64, ()>,
@@ -60,7 +60,7 @@ fn are_in_vain(
 ) -> Result<bool, AllocError>
     requires { AreNumbersTo calls.now owners.now (length owners.now) numbers.now }
     ensures is { IfOk result (λ found. IsTrue found → FoundNowhere owners.now
-        ⊎ (NeedEachOther calls.now owners.now ⊎ (IsTakenTwice calls.now owners.now ⊎ AreRanksBroken calls.now))) }
+        ⊎ (NeedEachOther calls.now owners.now ⊎ (AreTooManyTakers calls.now owners.now ⊎ AreRanksBroken calls.now))) }
     ensures told { IfOk result (λ found. FoundNowhere owners.now
         ⊎ NeedEachOther calls.now owners.now → IsTrue found) }
 {
@@ -70,7 +70,7 @@ fn are_in_vain(
     if some_pair(alloc, numbers)? {
         return Ok(true);
     }
-    if some_value_taken_twice(alloc, calls, owners)? {
+    if some_takers_are_too_many(alloc, calls, owners)? {
         return Ok(true);
     }
     some_rank_is_broken(alloc, values, calls)
