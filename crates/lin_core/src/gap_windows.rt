@@ -132,6 +132,7 @@ fn map_key_of(problem: &Problem<AnyObject>, calls: &[usize]) -> Option<MapKey> {
     Some(MapKey {
         key: key_of(&first.op)?,
         nothing,
+        later: None,
     })
 }
 
