@@ -11,7 +11,8 @@ into a queue or a stack as often as they took it out; or the first returned with
 be smaller: cut at an earlier return, without one of its values, without one call that changes nothing or, where it has many, without
 those before a moment at which each of its items was out, its calls have an order. A core that begins at an event
 may have no order from any state that stands for what the object held before: nothing, one of the core's values, or another; what
-returned before that event is over. Of small histories all orders of the whole are tried too: one with an order may have no core. The
+returned before that event is over. Of a map's key one value may count alone from a second event on: then the calls that were called after it
+and do not put the value are left out. Of small histories all orders of the whole are tried too: one with an order may have no core. The
 sums of a get for whose reply the adds leave no room are made anew; one has to be found exactly where some get has such a reply,
 counted from the start or from an earlier get. Prints how many cores have how many calls, and each object without an order of
 which no core was found. With --counters all random histories are of counters that add different numbers; with --items they are of
@@ -191,11 +192,21 @@ def beginnings(kind, start, values, at):
     return [(), *((item,) for item in values)] if kind == "set" else [(), *(((at[0], value),) for value in named)]
 
 
-def may_go_late(kind, call, values, at):
-    """Whether a call may be left out of a core that begins at an event: of a key of which all is looked at, only if it is on another one."""
+def may_go_late(kind, call, values, at, later):
+    """Whether a call may be left out of a core that begins at an event: of a key of which all is looked at, only if it is on another one,
+    or if it was called when one value counts alone, and does not put that."""
     if at is not None and at[1]:
-        return is_idle(kind, call) or call["args"][0] != at[0]
+        is_late = later is not None and call["called"] > later[0] and not (call["op"] == "put" and call["args"][1] == later[1])
+        return is_idle(kind, call) or call["args"][0] != at[0] or is_late
     return may_go(kind, call, values, at)
+
+
+def may_stay_late(call, later):
+    """Whether a call of such a core returned before one value counted alone, or puts or finds that."""
+    returned = call["returned"]
+    if returned is not PENDING and returned[0] <= later[0]:
+        return True
+    return call["op"] == "put" and call["args"][1] == later[1] or call["op"] == "get" and (returned is PENDING or returned[1] == later[1])
 
 
 def check_late(kind, start, calls, core):
@@ -208,9 +219,11 @@ def check_late(kind, start, calls, core):
         return "these are not its calls"
     if any(has_order(kind, state, part) for state in beginnings(kind, start, values, at)):
         return "its calls have an order"
+    if (later := core["later"]) is not None and not (later[1] in values and all(may_stay_late(c, later) for c in part)):
+        return "a call that it has may not be kept"
     others = [c for k, c in enumerate(calls) if k not in kept and c["called"] <= event]
     is_over = [c["returned"] is not PENDING and c["returned"][0] < since for c in others]
-    if not all(over or may_go_late(kind, c, values, at) for c, over in zip(others, is_over)):
+    if not all(over or may_go_late(kind, c, values, at, later) for c, over in zip(others, is_over)):
         return "a call that it needs is left out"
     return None
 
@@ -280,11 +293,13 @@ def answers(program, files):
         elif what == "none":
             told, fault = told + [(None, fault)], None
         elif what == "core":
-            told, fault = told + [({"event": int(words[0]), "from": None, "key": None, "calls": [], "values": []}, fault)], None
+            told, fault = told + [({"event": int(words[0]), "from": None, "key": None, "later": None, "calls": [], "values": []}, fault)], None
         elif what == "from":
             told[-1][0]["from"] = int(words[0])
         elif what == "key":
             told[-1][0]["key"] = int(words[0]), words[1] == "true"
+        elif what == "later":
+            told[-1][0]["later"] = int(words[0]), int(words[1])
         elif what == "call":
             told[-1][0]["calls"].append((int(words[0]), words[1] == "true"))
         elif what == "value":

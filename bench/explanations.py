@@ -535,6 +535,11 @@ CASES = {
         "queue", ["1 enq 1", "1 = ok", "1 enq 2", "1 = ok", "2 deq", "3 deq", "3 = 2", "4 deq", "4 = 1"]),
     "stack_pop_that_found_nothing": history("stack", ["1 push 1", "1 = ok", "1 push 2", "1 = ok", "2 pop", "2 = null"]),
     "set_member_that_was_not_found": history("set", ["1 add 4", "1 = true", "2 remove 4", "2 = false", "3 add 4", "3 = true"]),
+    "map_key_deleted_twice_with_a_put_that_is_found_later": history(
+        "map",
+        ["1 put 7 5", "1 = ok", "2 put 7 70", "1 delete 7", "1 = true", "3 delete 7", "3 = true", "1 put 7 6", "1 = ok", "1 delete 7", "1 = true"]
+        + ["3 get 7", "3 = 70", "2 = ok"],
+    ),
     "map_key_that_was_not_found": history("map", ["1 put 3 5", "1 = ok", "1 put 4 6", "1 = ok", "2 get 3", "2 = null"]),
     "map_key_that_was_not_there_to_delete": history("map", ["1 put 3 5", "1 = ok", "1 put 3 6", "1 = ok", "2 delete 3", "2 = false"]),
     "queue_run_of_sixteen_calls": history("queue", [e for n in range(16) for e in (f"1 enq {n}", "1 = ok")] + ["2 deq", "2 = 99"]),

@@ -167,6 +167,24 @@ module _ (law : MapLaw after state_eq.it) (key : ℤ) (seen : List ℤ) where
   ]
   any_away_goes x s t u off e n = absurd e
 
+  or_nothing : (b : Bool) → b || false ≡ true → b ≡ true
+  or_nothing true e = refl
+  or_nothing false e = e
+
+  -- of maps that are alike the one has each value of those seen where the other has it
+  pub alike_knows : (v : ℤ) → is_in v seen ≡ true → (s u : ObjState) → HasAlike s u → Knows law key false (v ∷ []) s u
+  alike_knows v h (Map ps) (Map qs) k = λ g. by (value_at key ps) (value_at key qs) k g
+    where
+      by : (o r : Option ℤ) → AreAlike o r → is_known false (v ∷ []) o ≡ true → o ≡ r
+      by None None e g = refl
+      by (Some x) (Some y) e g = elim e [
+        | inl same ↦ ap Some same
+        | inr out ↦ clash (subst (λ (z : ℤ). is_in z seen ≡ true) ((signed_Decides v x).0 (or_nothing (int_eq v x) g)) h) out.0
+      ]
+      by None (Some y) e g = absurd e
+      by (Some x) None e g = absurd e
+  alike_knows v h s u k = absurd k
+
   -- one other value stands for all that no reply gives
   pub alike_from : (other : ℤ) → is_in other seen ≡ false → (s : ObjState) → IsMap s → (u : ObjState) × IsKeyBeginning key (other ∷ seen) u × HasAlike s u
   alike_from other out (Map ps) k = by (value_at key ps) refl

@@ -19,13 +19,14 @@ use Rattle.lin_history.specs.Problems.Problem.{Problem}
 use Rattle.lin_history.specs.Problems.ProblemParts.{ProblemParts}
 use Rattle.lin_history.specs.Problems.AnyProblem.{any_problem}
 use Rattle.lin_history.specs.Problems.Linearizations.{IsLinearization}
+use Rattle.lin_core.specs.declared.selection.Later.{Later}
 use Rattle.lin_core.specs.declared.selection.MapKey.{MapKey}
 use Rattle.lin_core.specs.Windows.{call_in, AreWithin, OthersMayGo, AreEnoughWithin}
 use Rattle.lin_core.specs.Suffixes.{part_from, HasBeginnings, IsBeginning, IsKeyBeginning}
 use Rattle.lin_core.specs.Cores.{HasNone, SuffixCoreLaw}
 use Rattle.lin_core.specs.KeyValues.{IsMap}
 use Rattle.lin_core.specs.SuffixCores.{MayStayIn, MayGoIn, HasBeginningsIn, holding, holding_none, IsRefutedFrom, IsSuffixCore}
-use Rattle.lin_core.proofs.SuffixLemmas.{suffix_values_law, suffix_key_values_law, suffix_key_law}
+use Rattle.lin_core.proofs.SuffixLemmas.{suffix_values_law, suffix_key_values_law, suffix_key_law, suffix_key_later_law}
 
 -- lists that have the same at each index
 same_list : {A : Type 0} (xs ys : List A) → length xs ≡ length ys → ((i : ℕ) → i < length xs → slice_get xs i ≡ slice_get ys i) → xs ≡ ys
@@ -104,21 +105,26 @@ module _ {Object : Type 0} (sets : SetLaw after state_eq.it) (maps : MapLaw afte
       let left = suffix_values_law parts sets maps values from event kept r.0 core.begins r.1 l lin in
       against from event None values kept left.0 r.0 left.2 r.1.within (begun (IsRefutedFrom A from event None values kept) core.other values parts.start left.0 core.begins core.nothing core.each left.1) left.3
 
-  at_key : (nothing : Bool) (from event : ℕ) (key : ℤ) (values : List ℤ) (kept : List ℕ) → IsSuffixCore A from event (Some (record { key = key; nothing = nothing })) values kept → HasNone A
-  at_key true from event key values kept core l lin =
-      let at : MapKey = record { key = key; nothing = true } in
+  at_key : (later : Option Later) (nothing : Bool) (from event : ℕ) (key : ℤ) (values : List ℤ) (kept : List ℕ) → IsSuffixCore A from event (Some (record { key = key; nothing = nothing; later = later })) values kept → HasNone A
+  at_key None true from event key values kept core l lin =
+      let at : MapKey = record { key = key; nothing = true; later = None } in
       let r = core.nothing in
-      let left = suffix_key_law parts maps key core.other values from event kept r.0 core.begins core.fresh r.1 l lin in
-      against from event (Some at) values kept left.0 r.0 left.2 r.1.within (begun_at_key (IsRefutedFrom A from event (Some at) values kept) at core.other values parts.start left.0 core.begins core.nothing core.each left.1) left.3
-  at_key false from event key values kept core l lin =
-      let at : MapKey = record { key = key; nothing = false } in
+      let left = suffix_key_law parts maps key core.other values from event kept r.0 core.begins.0 core.fresh r.1 l lin in
+      against from event (Some at) values kept left.0 r.0 left.2 r.1.within (begun_at_key (IsRefutedFrom A from event (Some at) values kept) at core.other values parts.start left.0 core.begins.0 core.nothing core.each left.1) left.3
+  at_key None false from event key values kept core l lin =
+      let at : MapKey = record { key = key; nothing = false; later = None } in
       let r = core.nothing in
-      let left = suffix_key_values_law parts maps key false values from event kept r.0 core.begins r.1 l lin in
-      against from event (Some at) values kept left.0 r.0 left.2 r.1.within (begun_at_key (IsRefutedFrom A from event (Some at) values kept) at core.other values parts.start left.0 core.begins core.nothing core.each (wider key core.other values left.0 left.1)) left.3
+      let left = suffix_key_values_law parts maps key false values from event kept r.0 core.begins.0 r.1 l lin in
+      against from event (Some at) values kept left.0 r.0 left.2 r.1.within (begun_at_key (IsRefutedFrom A from event (Some at) values kept) at core.other values parts.start left.0 core.begins.0 core.nothing core.each (wider key core.other values left.0 left.1)) left.3
+  at_key (Some later) nothing from event key values kept core l lin =
+      let at : MapKey = record { key = key; nothing = nothing; later = Some later } in
+      let r = core.nothing in
+      let left = suffix_key_later_law parts maps key core.other later.value values later.event from event kept r.0 core.begins.0 core.fresh core.begins.1 r.1 l lin in
+      against from event (Some at) values kept left.0 r.0 left.2 r.1.within (begun_at_key (IsRefutedFrom A from event (Some at) values kept) at core.other values parts.start left.0 core.begins.0 core.nothing core.each left.1) left.3
 
   pub suffix_core_law : SuffixCoreLaw A
   suffix_core_law from event None values kept core l lin = on_values from event values kept core l lin
-  suffix_core_law from event (Some at) values kept core l lin = at_key at.nothing from event at.key values kept core l lin
+  suffix_core_law from event (Some at) values kept core l lin = at_key at.later at.nothing from event at.key values kept core l lin
 
 -- ---- as the check finds it
 

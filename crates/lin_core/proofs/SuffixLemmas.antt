@@ -1,10 +1,10 @@
 -- The laws of windows: of any lawful object, of the calls on some values, and of those on a key of a map.
-use Rattle.std.proofs.Common.{◌≡◌, ℕ, ◌≤◌, ◌==◌, Bool, true, false, cond, Option, Some, None, List, [], ◌∷◌, length, ◌⊎◌, inl, inr, refl, sym, ◌∙◌, ap, subst, arith}
-use Rattle.std.specs.Prelude.{ℤ, pos, ◌||◌, if◌then◌else◌}
+use Rattle.std.proofs.Common.{◌≡◌, ℕ, ◌≤◌, ◌==◌, Bool, true, false, cond, Option, Some, None, List, [], ◌∷◌, length, ◌⊎◌, inl, inr, refl, sym, ◌∙◌, ap, subst, leb-true, arith}
+use Rattle.std.specs.Prelude.{◌<◌, ℤ, pos, not, ◌&&◌, ◌||◌, IsSomeAnd, slice_get, if◌then◌else◌}
 use Rattle.std.specs.Ordering.{int_eq}
 use Rattle.std.specs.Cmp.{signed_Decides}
 use Rattle.lin_object.specs.declared.op.Op.{Op}
-use Rattle.lin_object.specs.declared.op.Op.TheVariants.{Write, Read, Cas, Insert, Remove, Contains, Lock, Unlock, TryLock}
+use Rattle.lin_object.specs.declared.op.Op.TheVariants.{Write, Read, Cas, Insert, Remove, Contains, Lock, Unlock, TryLock, Put, Delete}
 use Rattle.lin_object.specs.declared.reply.Reply.{Reply}
 use Rattle.lin_object.specs.declared.reply.Reply.TheVariants.{Okay, Int, Flag}
 use Rattle.lin_object.specs.declared.state.ObjState.{ObjState}
@@ -19,23 +19,27 @@ use Rattle.lin_object.specs.Kinds.Mutex.{mutex_step}
 use Rattle.lin_object.specs.Kinds.Map.{MapLaw}
 use Rattle.lin_object.specs.Laws.{IsLawful}
 use Rattle.lin_history.specs.declared.problems.problem.ProblemCall.{ProblemCall}
+use Rattle.lin_history.specs.OptionLemmas.{and_some, some_more}
 use Rattle.lin_history.specs.Problems.Lists.{In}
 use Rattle.lin_history.specs.Problems.Problem.{Problem, problem_of}
 use Rattle.lin_history.specs.Problems.ProblemParts.{ProblemParts}
+use Rattle.lin_history.specs.Problems.Precedence.{Before}
 use Rattle.lin_history.specs.Problems.LegalLists.{after_call, fits, state_if_fits}
 use Rattle.lin_history.specs.Problems.AnyProblem.{any_problem}
 use Rattle.lin_search.specs.SameLemmas.{alike_itself}
 use Rattle.lin_core.specs.Laws.{Any, IsIdle, IsOn, IsOff}
 use Rattle.lin_core.specs.OnValues.{holder_among, IsOnValues}
-use Rattle.lin_core.specs.KeyValues.{IsOnKey, IsOffKey, IsMap}
-use Rattle.lin_core.specs.Windows.{is_over, AreEnoughWithin}
-use Rattle.lin_core.specs.Suffixes.{IsLeftFrom, IsAnyState, SuffixLaw, HasBeginnings, IsBeginning, SuffixValuesLaw, IsKeyBeginning, SuffixKeyValuesLaw, IsAtKey, IsBesideKey, SuffixKeyLaw}
-use Rattle.lin_core.proofs.WindowLemmas.{left_from}
+use Rattle.lin_core.specs.KeyValues.{is_off_key, IsOnKey, IsOffKey, IsMap}
+use Rattle.lin_core.specs.Windows.{returned_in, call_in, is_over, AreEnoughWithin}
+use Rattle.lin_core.specs.Suffixes.{IsLeftFrom, IsAnyState, SuffixLaw, HasBeginnings, IsBeginning, SuffixValuesLaw, IsKeyBeginning, SuffixKeyValuesLaw, IsAtKey, is_away, IsBesideKey, SuffixKeyLaw, is_back_by, IsAtKeyUntil, IsBesideKeyAfter, SuffixKeyLaterLaw}
+use Rattle.lin_parts.specs.Parts.{name}
+use Rattle.lin_core.proofs.CheckLemmas.{below}
+use Rattle.lin_core.proofs.WindowLemmas.{by_window, left_from}
 use Rattle.lin_core.proofs.LawLemmas.{fitting, any_stays, any_goes}
 use Rattle.lin_core.proofs.SinceLemmas.{one_in}
 use Rattle.lin_core.proofs.OnValues.{clash}
 use Rattle.lin_core.proofs.KeyValueLemmas.{Knows, any_key_stays, any_key_goes}
-use Rattle.lin_core.proofs.KeyStateLemmas.{map_step, known_from, HasAlike, any_at_stays, any_away_goes, alike_from}
+use Rattle.lin_core.proofs.KeyStateLemmas.{map_step, known_from, HasAlike, any_at_stays, any_away_goes, alike_knows, alike_from}
 
 -- ---- by what each call may
 
@@ -46,14 +50,14 @@ module _ {State Op Reply : Type 0} (p : Problem State Op Reply) (R : State → S
     (covers : (s : State) → Kind s → (u : State) × Start u × R s u)
     (from event : ℕ) (kept : List ℕ) (calls : List (ProblemCall Op Reply)) (enough : AreEnoughWithin p from event kept calls may_stay may_go) where
   pub left_within : IsLeftFrom p Start kept calls
-  left_within = left_from p from event kept calls enough.within R
-      (λ x i s t u is e n. stays x s t u (enough.stay i x is) e n)
-      (λ c x s t u is up out fresh e n. elim (enough.go c x is up) [
+  left_within = left_from p from event kept calls enough.within (λ past. R)
+      (λ past x i s t u is fresh e n. stays x s t u (enough.stay i x is) e n)
+      (λ past c x s t u is up out not_over first e n. elim (enough.go c x is up) [
         | inl there ↦ absurd (out there)
-        | inr (inl over) ↦ absurd (fresh over)
+        | inr (inl over) ↦ absurd (not_over over)
         | inr (inr off) ↦ goes x s t u off e n
       ])
-      Kind Start kind kind_step covers
+      Kind Start kind kind_step (λ past. covers)
 
 -- ---- any lawful object
 
@@ -173,6 +177,90 @@ kind_itself values (Set items) has = tt
 kind_itself values (Mutex holder) has = tt
 kind_itself values z has = absurd has
 
+-- ---- a key of which only one value counts from an event on
+
+not_and : (a b : Bool) → not a ≡ true → not (a && b) ≡ true
+not_and true b e = absurd (cc)
+not_and false b e = refl
+
+-- what changes nothing of the key changes nothing of what is known of one value
+beside_off : (key value : ℤ) (x : ProblemCall Op Reply) → IsBesideKey key x → IsOffKey key false (value ∷ []) x
+beside_off key value x beside = elim beside [ inl away ↦ inl (away_off x.op away) | inr idle ↦ inr idle ]
+  where
+    away_off : (op : Op) → is_away key op ≡ true → is_off_key key false (value ∷ []) op ≡ true
+    away_off (Put k v) e = not_and (int_eq k key) (is_in v (value ∷ [])) e
+    away_off (Delete k) e = not_and (int_eq k key) false e
+    away_off op e = absurd (cc)
+
+back_return : (event : ℕ) (o : Option (ℕ × Reply)) → is_back_by event o ≡ true → IsSomeAnd o (λ r. r.0 ≤ event)
+back_return event None e = absurd (cc)
+back_return event (Some r) e = leb-true r.0 event e
+
+module _ {Object : Type 0} (parts : ProblemParts Object ObjState Op Reply) (law : MapLaw after state_eq.it) (key other value : ℤ) (seen : List ℤ) (late from event : ℕ) (kept : List ℕ) (calls : List (ProblemCall Op Reply)) (out : is_in other seen ≡ false) (seen_it : is_in value seen ≡ true)
+    (enough : AreEnoughWithin (any_problem parts) from event kept calls (IsAtKeyUntil key seen value late) (IsBesideKeyAfter key value late)) where
+  abbrev W : Problem ObjState Op Reply
+  W = any_problem parts
+
+  -- all that returned by the event have come
+  abbrev HaveCome : List ℕ → Type 0
+  HaveCome past = (i : ℕ) (y : ProblemCall Op Reply) → slice_get calls i ≡ Some y → is_back_by late y.returned ≡ true → In (name kept i) past
+
+  -- both maps are alike; or all that returned by the event have come, and the part has the value where the whole has it
+  abbrev R : List ℕ → ObjState → ObjState → Type 0
+  R past s u = HasAlike law key seen s u ⊎ (HaveCome past × Knows law key false (value ∷ []) s u)
+
+  come_more : (past : List ℕ) (c : ℕ) → HaveCome past → HaveCome (c ∷ past)
+  come_more past c come i y is back = inr (come i y is back)
+
+  stays : (past : List ℕ) (x : ProblemCall Op Reply) (i : ℕ) (s t u : ObjState) → slice_get calls i ≡ Some x → (In (name kept i) past → ⊥) → R past s u → after_call W s (Some x) ≡ Some t → ((v : ObjState) × (after_call W u (Some x) ≡ Some v) × R (name kept i ∷ past) t v) ⊎ (R (name kept i ∷ past) t u × (x.returned ≡ None))
+  stays past x i s t u is fresh r n = elim r [
+    | inl alike ↦ (let k = any_at_stays law key seen x s t u (enough.stay i x is).0 alike n in inl (k.0, k.1, inl k.2))
+    | inr known ↦ elim (enough.stay i x is).1 [
+      | inl back ↦ absurd (fresh (known.0 i x is back))
+      | inr on ↦ elim (any_key_stays law key false (value ∷ []) x s t u on known.1 n) [
+        | inl a ↦ inl (a.0, a.1, inr (come_more past (name kept i) known.0, a.2))
+        | inr a ↦ inr (inr (come_more past (name kept i) known.0, a.0), a.1)
+      ]
+    ]
+  ]
+
+  -- a call that was called after the event comes behind all that returned by it
+  have_come : (past : List ℕ) (c : ℕ) (x : ProblemCall Op Reply) → slice_get parts.calls c ≡ Some x → ((a : ℕ) → Before W a c → In a past) → late < x.called → HaveCome past
+  have_come past c x f first less i y is back = first (name kept i) before
+    where
+      within : i < length kept
+      within = (let k = below calls i y is in let e = enough.within.count in omega (arith, k, e))
+
+      one : (a b : ProblemCall Op Reply) → Some a ≡ Some b → a ≡ b
+      one a b e = cc
+
+      before : Before W (name kept i) c
+      before =
+          let k = enough.within.each i within in
+          let same : y ≡ call_in from event k.0 = one y (call_in from event k.0) (sym is ∙ k.3) in
+          let returned = by_window from event k.0.called k.0.returned (λ r. r.0 ≤ late) (back_return late (returned_in from event k.0.called k.0.returned) (subst (λ (z : ProblemCall Op Reply). is_back_by late z.returned ≡ true) same back)) in
+          and_some (slice_get parts.calls (name kept i)) _ k.0 k.1 (some_more k.0.returned _ _ (λ r h. and_some (slice_get parts.calls c) (λ z. r.0 < z.called) x f (let g = h.1 in omega (arith, g, less))) returned.1)
+
+  knows : (past : List ℕ) (s u : ObjState) → R past s u → Knows law key false (value ∷ []) s u
+  knows past s u r = elim r [ inl alike ↦ alike_knows law key seen value seen_it s u alike | inr known ↦ known.1 ]
+
+  goes : (past : List ℕ) (c : ℕ) (x : ProblemCall Op Reply) (s t u : ObjState) → slice_get parts.calls c ≡ Some x → x.called ≤ event → (In c kept → ⊥) → (is_over from x.returned ≡ true → ⊥) → ((a : ℕ) → Before W a c → In a past) → R past s u → after_call W s (Some x) ≡ Some t → R (c ∷ past) t u
+  goes past c x s t u f up not_kept not_over first r n = elim (enough.go c x f up) [
+    | inl there ↦ absurd (not_kept there)
+    | inr (inl over) ↦ absurd (not_over over)
+    | inr (inr (inl beside)) ↦ elim r [
+      | inl alike ↦ inl (any_away_goes law key seen x s t u beside alike n)
+      | inr known ↦ inr (come_more past c known.0, any_key_goes law key false (value ∷ []) x s t u (beside_off key value x beside) known.1 n)
+    ]
+    | inr (inr (inr later)) ↦ inr (come_more past c (have_come past c x f first later.0), any_key_goes law key false (value ∷ []) x s t u later.1 (knows past s u r) n)
+  ]
+
+  covers : (past : List ℕ) (s : ObjState) → IsMap s → (u : ObjState) × IsKeyBeginning key (other ∷ seen) u × R past s u
+  covers past s k = let a = alike_from law key seen other out s k in (a.0, a.1, inl a.2)
+
+  later_left : IsMap parts.start → IsLeftFrom W (IsKeyBeginning key (other ∷ seen)) kept calls
+  later_left is_map = left_from W from event kept calls enough.within R stays goes IsMap (IsKeyBeginning key (other ∷ seen)) is_map map_step covers
+
 -- ---- the laws of the kinds
 
 module _ {Object : Type 0} (parts : ProblemParts Object ObjState Op Reply) where
@@ -199,3 +287,6 @@ module _ {Object : Type 0} (parts : ProblemParts Object ObjState Op Reply) where
       (any_away_goes law key seen)
       IsMap (IsKeyBeginning key (other ∷ seen)) is_map map_step (alike_from law key seen other out)
       from event kept calls enough
+
+  pub suffix_key_later_law : MapLaw after state_eq.it → SuffixKeyLaterLaw A
+  suffix_key_later_law law key other value seen late from event kept calls is_map out seen_it enough = later_left parts law key other value seen late from event kept calls out seen_it enough is_map

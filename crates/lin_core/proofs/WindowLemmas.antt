@@ -30,7 +30,7 @@ not_less : (n m : ℕ) → nat_lt n m ≡ false → m ≤ n
 not_less n m e = elim (cases_lt n m) [ inl less ↦ absurd (let t = lt-ltb n m less in cc) | inr k ↦ omega (arith, k) ]
 
 -- what has returned in the window was called in it
-by_window : {Reply : Type 0} (from event called : ℕ) (o : Option (ℕ × Reply)) (P : ℕ × Reply → Type 0) → IsSomeAnd (returned_in from event called o) P → (from ≤ called) × IsSomeAnd o (λ r. (r.0 ≤ event) × P r)
+pub by_window : {Reply : Type 0} (from event called : ℕ) (o : Option (ℕ × Reply)) (P : ℕ × Reply → Type 0) → IsSomeAnd (returned_in from event called o) P → (from ≤ called) × IsSomeAnd o (λ r. (r.0 ≤ event) × P r)
 by_window {Reply} from event called o P h = go (nat_lt called from) refl h
   where
     go : (b : Bool) → nat_lt called from ≡ b → IsSomeAnd (cond b None (returned_by event o)) P → (from ≤ called) × IsSomeAnd o (λ r. (r.0 ≤ event) × P r)
@@ -101,19 +101,20 @@ module _ {State Op Reply : Type 0} (p : Problem State Op Reply) (from event : �
       let k = some_and (slice_get p.calls (name kept i)) _ (returned_there u i done) in
       some_more (slice_get p.calls z) _ _ (λ x h. some_more x.returned _ _ (λ r less. and_some (slice_get p.calls (name kept i)) (λ y. r.0 < y.called) k.0 k.1 (let up = k.2.0 in omega (arith, less, up))) h) (over_before from (slice_get p.calls z) over)
 
-  module _ (R : State → State → Type 0)
-      (stays : (x : ProblemCall Op Reply) (i : ℕ) (s t u : State) → slice_get calls i ≡ Some x → R s u → after_call p s (Some x) ≡ Some t → ((v : State) × (after_call p u (Some x) ≡ Some v) × R t v) ⊎ (R t u × (x.returned ≡ None)))
-      (goes : (c : ℕ) (x : ProblemCall Op Reply) (s t u : State) → slice_get p.calls c ≡ Some x → x.called ≤ event → (In c kept → ⊥) → (is_over from x.returned ≡ true → ⊥) → R s u → after_call p s (Some x) ≡ Some t → R t u) where
+  -- R relates the calls so far, the last first, the state of the whole and that of the part
+  module _ (R : List ℕ → State → State → Type 0)
+      (stays : (past : List ℕ) (x : ProblemCall Op Reply) (i : ℕ) (s t u : State) → slice_get calls i ≡ Some x → (In (name kept i) past → ⊥) → R past s u → after_call p s (Some x) ≡ Some t → ((v : State) × (after_call p u (Some x) ≡ Some v) × R (name kept i ∷ past) t v) ⊎ (R (name kept i ∷ past) t u × (x.returned ≡ None)))
+      (goes : (past : List ℕ) (c : ℕ) (x : ProblemCall Op Reply) (s t u : State) → slice_get p.calls c ≡ Some x → x.called ≤ event → (In c kept → ⊥) → (is_over from x.returned ≡ true → ⊥) → ((a : ℕ) → Before p a c → In a past) → R past s u → after_call p s (Some x) ≡ Some t → R (c ∷ past) t u) where
     -- all calls that are over came already
     abbrev Since : List ℕ → List ℕ → State → State → Type 0
-    Since early past s u = ((c : ℕ) → In c early → In c past) × R s u
+    Since early past s u = ((c : ℕ) → In c early → In c past) × R past s u
 
     abbrev Step : List ℕ → State → List ℕ → ℕ → State → State → Type 0
     Step early w past c t u = IsFollowed p (Q w) kept (Since early) past c t u ⊎ (IsPassed p (Q w) kept (Since early) past c t u ⊎ IsAtEnd p (Q w) kept (Since early) c)
 
     module _ (early : List ℕ) (w : State) (all : (c : ℕ) → over_at c ≡ true → In c early) where
-      step : (past : List ℕ) (c : ℕ) (s t u : State) → (In c past → ⊥) → Since early past s u → next p s c ≡ Some t → Step early w past c t u
-      step past c s t u fresh r e = from_call (slice_get p.calls c) refl e
+      step : (past : List ℕ) (c : ℕ) (s t u : State) → (In c past → ⊥) → ((a : ℕ) → Before p a c → In a past) → Since early past s u → next p s c ≡ Some t → Step early w past c t u
+      step past c s t u fresh first r e = from_call (slice_get p.calls c) refl e
         where
           came : (d : ℕ) → In d early → In d (c ∷ past)
           came d h = inr (r.0 d h)
@@ -126,9 +127,9 @@ module _ {State Op Reply : Type 0} (p : Problem State Op Reply) (from event : �
                   let k = cut.each i below in
                   let same : k.0 ≡ x = (let g : slice_get p.calls (name kept i) ≡ Some x = rw is f in let g1 = k.1 in cc) in
                   let here : slice_get calls i ≡ Some (call_in from event x) = rw (← same) k.3 in
-                  elim (stays (call_in from event x) i s t u here r.1 (loose p.same_reply from event x.called x.returned (p.after s x.process x.op) t n)) [
-                    | inl a ↦ inl (i, below, is, a.0, ap (after_call p u) here ∙ a.1, (came, a.2))
-                    | inr a ↦ inr (inl ((came, a.0), λ j low e done. none_has_none (returned_in from event x.called x.returned) a.1 (rw here at (subst (λ (y : ℕ). IsCompleted (Q w) y) (one_name kept cut.rises j i low below (e ∙ sym is)) done))))
+                  elim (stays past (call_in from event x) i s t u here (λ h. fresh (subst (λ (y : ℕ). In y past) is h)) r.1 (loose p.same_reply from event x.called x.returned (p.after s x.process x.op) t n)) [
+                    | inl a ↦ inl (i, below, is, a.0, ap (after_call p u) here ∙ a.1, (came, subst (λ (y : ℕ). R (y ∷ past) t a.0) is a.2))
+                    | inr a ↦ inr (inl ((came, subst (λ (y : ℕ). R (y ∷ past) t u) is a.0), λ j low e done. none_has_none (returned_in from event x.called x.returned) a.1 (rw here at (subst (λ (y : ℕ). IsCompleted (Q w) y) (one_name kept cut.rises j i low below (e ∙ sym is)) done))))
                   ]
 
           not_over : (x : ProblemCall Op Reply) → slice_get p.calls c ≡ Some x → is_over from x.returned ≡ true → ⊥
@@ -140,11 +141,11 @@ module _ {State Op Reply : Type 0} (p : Problem State Op Reply) (from event : �
             | inl late ↦ inr (inr (at_end w c x f late))
             | inr up ↦ elim (in_or_not c kept) [
               | inl there ↦ kept_step x f n there
-              | inr out ↦ inr (inl ((came, goes c x s t u f (omega (arith, up)) out (not_over x f) r.1 n), λ j low is done. out (subst (λ (y : ℕ). In y kept) is (name_in kept j low))))
+              | inr out ↦ inr (inl ((came, goes past c x s t u f (omega (arith, up)) out (not_over x f) first r.1 n), λ j low is done. out (subst (λ (y : ℕ). In y kept) is (name_in kept j low))))
             ]
           ]
 
-    module _ (Kind Start : State → Type 0) (kind : Kind p.start) (kind_step : (x : ProblemCall Op Reply) (s t : State) → Kind s → after_call p s (Some x) ≡ Some t → Kind t) (covers : (s : State) → Kind s → (u : State) × Start u × R s u) where
+    module _ (Kind Start : State → Type 0) (kind : Kind p.start) (kind_step : (x : ProblemCall Op Reply) (s t : State) → Kind s → after_call p s (Some x) ≡ Some t → Kind t) (covers : (past : List ℕ) (s : State) → Kind s → (u : State) × Start u × R past s u) where
       kind_after : (l : List ℕ) (s t : State) → Kind s → Legal p s l t → Kind t
       kind_after [] s t k e = subst Kind e k
       kind_after (c ∷ l) s t k e = kind_after l e.0 t (step_at (slice_get p.calls c) e.1) e.2
@@ -175,8 +176,8 @@ module _ {State Op Reply : Type 0} (p : Problem State Op Reply) (from event : �
           states : (s : State) × Legal p p.start early s × Legal p s late lin.continuation.legal.0
           states = legal_split p early late p.start lin.continuation.legal.0 (subst (λ (x : List ℕ). Legal p p.start x lin.continuation.legal.0) cut_at.is lin.continuation.legal.1)
 
-          start : (u : State) × Start u × R states.0 u
-          start = covers states.0 (kind_after early p.start states.0 kind states.1)
+          start : (u : State) × Start u × R early states.0 u
+          start = covers early states.0 (kind_after early p.start states.0 kind states.1)
 
           u : State
           u = start.0
@@ -211,7 +212,7 @@ module _ {State Op Reply : Type 0} (p : Problem State Op Reply) (from event : �
             rises = cut.rises;
             completed = completed u;
             before = before u;
-            step = λ past c s t v fresh first r e. step early u all past c s t v fresh r e;
+            step = λ past c s t v fresh first r e. step early u all past c s t v fresh first r e;
           }) early late states.0 lin.continuation.legal.0 u (distinct_late early late distinct) (λ c h k. apart c early late distinct k h) ordered (keeps_late p early late (subst (KeepsTime p) cut_at.is time)) ((λ c h. h), start.2) states.2
 
           m : List ℕ

@@ -8,11 +8,12 @@ use Rattle.lin_object.specs.Items.{is_in}
 use Rattle.lin_history.specs.declared.problems.problem.ProblemCall.{ProblemCall}
 use Rattle.lin_history.specs.Problems.Problem.{Problem}
 use Rattle.lin_history.specs.Problems.Linearizations.{IsLinearization}
+use Rattle.lin_core.specs.declared.selection.Later.{Later}
 use Rattle.lin_core.specs.declared.selection.MapKey.{MapKey}
 use Rattle.lin_core.specs.Laws.{IsOn, IsOff}
 use Rattle.lin_core.specs.KeyValues.{IsOnKey, IsOffKey, IsMap}
 use Rattle.lin_core.specs.Windows.{AreEnoughWithin}
-use Rattle.lin_core.specs.Suffixes.{part_from, HasBeginnings, IsAtKey, IsBesideKey}
+use Rattle.lin_core.specs.Suffixes.{part_from, HasBeginnings, IsAtKey, IsBesideKey, IsAtKeyUntil, IsBesideKeyAfter}
 
 -- The call on a map may be kept: it is on the key, with no value but these in a reply; or on these values of the key, where 'no
 -- value' is not looked at.
@@ -25,20 +26,34 @@ abbrev pub MayGoAt : Bool → ℤ → List ℤ → ProblemCall Op Reply → Type
 MayGoAt true key values = IsBesideKey key
 MayGoAt false key values = IsOffKey key false values
 
+-- The same where from an event on only one value counts.
+abbrev pub MayStayUntil : Option Later → Bool → ℤ → List ℤ → ProblemCall Op Reply → Type 0
+MayStayUntil None nothing key values = MayStayAt nothing key values
+MayStayUntil (Some later) nothing key values = IsAtKeyUntil key values later.value later.event
+
+abbrev pub MayGoAfter : Option Later → Bool → ℤ → List ℤ → ProblemCall Op Reply → Type 0
+MayGoAfter None nothing key values = MayGoAt nothing key values
+MayGoAfter (Some later) nothing key values = IsBesideKeyAfter key later.value later.event
+
 -- The call may be kept: it is on the values, or may be kept of the key.
 abbrev pub MayStayIn : Option MapKey → List ℤ → ProblemCall Op Reply → Type 0
 MayStayIn None values = IsOn values
-MayStayIn (Some at) values = MayStayAt at.nothing at.key values
+MayStayIn (Some at) values = MayStayUntil at.later at.nothing at.key values
 
 -- It may be left out.
 abbrev pub MayGoIn : Option MapKey → List ℤ → ProblemCall Op Reply → Type 0
 MayGoIn None values = IsOff values
-MayGoIn (Some at) values = MayGoAt at.nothing at.key values
+MayGoIn (Some at) values = MayGoAfter at.later at.nothing at.key values
+
+-- The value that counts alone from an event on, where there is one, is among these.
+abbrev pub IsLaterIn : Option Later → List ℤ → Type 0
+IsLaterIn None values = Unit {0}
+IsLaterIn (Some later) values = is_in later.value values ≡ true
 
 -- The values stand for all that the object may have held.
 abbrev pub HasBeginningsIn : Option MapKey → List ℤ → ObjState → Type 0
 HasBeginningsIn None values start = HasBeginnings values start
-HasBeginningsIn (Some at) values start = IsMap start
+HasBeginningsIn (Some at) values start = IsMap start × IsLaterIn at.later values
 
 -- The state of an object that starts so, where it holds this value alone: a register has it, it is the item of a set, it is the
 -- process that holds a mutex, or the value of this key of a map.

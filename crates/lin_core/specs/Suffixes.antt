@@ -1,6 +1,6 @@
 -- What a linearization of a problem leaves to the calls of a window of its events, whatever the object held before (this project's
 -- own).
-use Rattle.std.specs.Prelude.{◌≡◌, ◌⊎◌, ℕ, ℤ, pos, Bool, true, false, not, ◌&&◌, Option, Some, None, List, [], ◌∷◌, length}
+use Rattle.std.specs.Prelude.{◌≡◌, ◌⊎◌, ℕ, ◌<◌, nat_le, ℤ, pos, Bool, true, false, not, ◌&&◌, Option, Some, None, List, [], ◌∷◌, length}
 use Rattle.std.specs.Ordering.{int_eq}
 use Rattle.lin_object.specs.declared.op.Op.{Op}
 use Rattle.lin_object.specs.declared.op.Op.TheVariants.{Put, Lookup, Delete}
@@ -90,3 +90,21 @@ IsBesideKey key x = (is_away key x.op ≡ true) ⊎ ChangesNothing state_eq.it r
 -- All calls on the key that change anything, where the other value stands for all that no reply gives.
 abbrev pub SuffixKeyLaw : Problem ObjState Op Reply → Type 0
 SuffixKeyLaw p = (key other : ℤ) (seen : List ℤ) (from event : ℕ) (kept : List ℕ) (calls : List (ProblemCall Op Reply)) → IsMap p.start → is_in other seen ≡ false → AreEnoughWithin p from event kept calls (IsAtKey key seen) (IsBesideKey key) → IsLeftFrom p (IsKeyBeginning key (other ∷ seen)) kept calls
+
+-- The call returned by the event.
+abbrev pub is_back_by : ℕ → Option (ℕ × Reply) → Bool
+is_back_by event None = false
+is_back_by event (Some r) = nat_le r.0 event
+
+-- The call on the key counts, and tells of no value but one of those seen: it returned by the event, or puts or finds the value.
+abbrev pub IsAtKeyUntil : ℤ → List ℤ → ℤ → ℕ → ProblemCall Op Reply → Type 0
+IsAtKeyUntil key seen value event x = IsAtKey key seen x × ((is_back_by event x.returned ≡ true) ⊎ IsOnKey key false (value ∷ []) x)
+
+-- It changes nothing of the key; or it was called after the event, and does not put the value.
+abbrev pub IsBesideKeyAfter : ℤ → ℤ → ℕ → ProblemCall Op Reply → Type 0
+IsBesideKeyAfter key value event x = IsBesideKey key x ⊎ ((event < x.called) × IsOffKey key false (value ∷ []) x)
+
+-- The calls on the key that count up to an event, and from there on those on one value alone. Until all that returned by the event have
+-- come both maps are alike; then the part has the value where the whole has it.
+abbrev pub SuffixKeyLaterLaw : Problem ObjState Op Reply → Type 0
+SuffixKeyLaterLaw p = (key other value : ℤ) (seen : List ℤ) (after from event : ℕ) (kept : List ℕ) (calls : List (ProblemCall Op Reply)) → IsMap p.start → is_in other seen ≡ false → is_in value seen ≡ true → AreEnoughWithin p from event kept calls (IsAtKeyUntil key seen value after) (IsBesideKeyAfter key value after) → IsLeftFrom p (IsKeyBeginning key (other ∷ seen)) kept calls

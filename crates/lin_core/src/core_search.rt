@@ -52,6 +52,7 @@ fn faults_of_key(
     let at = MapKey {
         key,
         nothing: false,
+        later: None,
     };
     let index = CallIndex::new(alloc, problem, calls, Some(at))?;
     let mut found = Vec::new(alloc);

@@ -5,7 +5,7 @@ use crate::call_places::{is_idle, source_of};
 use crate::gaps::{Gap, add_gaps};
 use crate::held::{held_calls, values_in};
 use crate::item_times::{NEVER, return_of};
-use crate::selection::{MapKey, Selection};
+use crate::selection::{Later, MapKey, Selection};
 use crate::windows::{Window, may_go_in};
 use lin_history::{Problem, ProblemCall};
 use lin_object::{AnyObject, ObjState, Op, Reply};
@@ -132,6 +132,7 @@ fn map_key_of(problem: &Problem<AnyObject>, calls: &[usize]) -> Option<MapKey> {
     Some(MapKey {
         key: key_of(&first.op)?,
         nothing,
+        later: None,
     })
 }
 
@@ -178,31 +179,28 @@ fn next_source(
     None
 }
 
-// The calls of a group that a window of these values has: those of the gap, and others that may not be left out. `None` where there
-// are too many.
-fn calls_within(
-    alloc: Global,
+// Appends to the window the calls of a group that it has: those that are needed, and others that may not be left out. Whether these
+// are not too many.
+fn add_calls_within(
     problem: &Problem<AnyObject>,
     group: &[usize],
-    gap: &Gap,
-    key: &Option<MapKey>,
-    values: &[i64],
-) -> Result<Option<Vec<usize>>, AllocError> {
-    let needed = calls_of(alloc, gap)?;
-    let mut kept = Vec::new(alloc);
+    needed: &[usize],
+    window: &mut Window,
+) -> Result<bool, AllocError> {
     for index in group {
         let Some(call) = problem.calls().get(*index) else {
             continue;
         };
-        let counts = is_within(gap.from, gap.until, call) && !may_go_in(key, values, call);
+        let counts = is_within(window.from, window.event, call)
+            && !may_go_in(&window.key, window.values.as_slice(), call);
         if counts || needed.contains(index) {
-            kept.push(*index)?;
+            window.calls.push(*index)?;
         }
-        if kept.len() > MOST_CALLS {
-            return Ok(None);
+        if window.calls.len() > MOST_CALLS {
+            return Ok(false);
         }
     }
-    Ok(Some(kept))
+    Ok(true)
 }
 
 // The window around a gap between calls of this group, if it has few calls.
@@ -213,7 +211,6 @@ fn window_around(
     gap: &Gap,
 ) -> Result<Option<Window>, AllocError> {
     let needed = calls_of(alloc, gap)?;
-    let key = map_key_of(problem, needed.as_slice());
     let mut values = values_of(alloc, problem, needed.as_slice())?;
     if let ObjState::Register(_) = problem.start() {
         for _ in 0..MOST_SOURCES {
@@ -223,16 +220,89 @@ fn window_around(
         }
         values.sort_unstable();
     }
-    let Some(calls) = calls_within(alloc, problem, group, gap, &key, values.as_slice())? else {
-        return Ok(None);
-    };
-    Ok(Some(Window {
+    let mut window = Window {
         from: gap.from,
         event: gap.until,
-        key,
+        key: map_key_of(problem, needed.as_slice()),
         values,
-        calls,
-    }))
+        calls: Vec::new(alloc),
+    };
+    if add_calls_within(problem, group, needed.as_slice(), &mut window)? {
+        Ok(Some(window))
+    } else {
+        Ok(None)
+    }
+}
+
+// The value that the call puts at a key of a map, if it is a put.
+fn put_by(problem: &Problem<AnyObject>, call: usize) -> Option<i64> {
+    match problem.calls().get(call)?.op {
+        Op::Put(_, value) => Some(value),
+        _ => None,
+    }
+}
+
+// Whether the call is a get that was called after the event and found the value.
+fn found_after(call: &ProblemCall<Op, Reply>, event: u32, value: i64) -> bool {
+    matches!(call.op, Op::Lookup(_))
+        && call.called > event
+        && matches!(call.returned, Some((_, Reply::Int(found))) if found == value)
+}
+
+// The first get of a group that was called after the event and found the value.
+fn first_get_after(
+    problem: &Problem<AnyObject>,
+    group: &[usize],
+    event: u32,
+    value: i64,
+) -> Option<usize> {
+    let is_the_get = |index: &&usize| match problem.calls().get(**index) {
+        Some(call) => found_after(call, event, value),
+        None => false,
+    };
+    group.iter().find(is_the_get).copied()
+}
+
+// The window around a gap of a key of a map and a get that found later what a put gives that is open meanwhile, if it has few calls. The
+// put comes between the calls of the gap, or else last: after these calls only its value counts.
+fn window_to_get(
+    alloc: Global,
+    problem: &Problem<AnyObject>,
+    group: &[usize],
+    gap: &Gap,
+) -> Result<Option<Window>, AllocError> {
+    let Some(value) = gap.helper.and_then(|helper| put_by(problem, helper)) else {
+        return Ok(None);
+    };
+    let Some(get) = first_get_after(problem, group, gap.until, value) else {
+        return Ok(None);
+    };
+    let Some(call) = problem.calls().get(get) else {
+        return Ok(None);
+    };
+    let mut needed = calls_of(alloc, gap)?;
+    needed.push(get)?;
+    let later = Later {
+        event: gap.until,
+        value,
+    };
+    let key = key_of(&call.op).map(|key| MapKey {
+        key,
+        nothing: true,
+        later: Some(later),
+    });
+    let mut window = Window {
+        from: gap.from,
+        event: return_of(call),
+        key,
+        values: values_of(alloc, problem, needed.as_slice())?,
+        calls: Vec::new(alloc),
+    };
+    if add_calls_within(problem, group, needed.as_slice(), &mut window)? {
+        Ok(Some(window))
+    } else {
+        Ok(None)
+    }
 }
 
 // The last return of these calls up to the event.
@@ -309,6 +379,9 @@ pub(crate) fn windows_around_gaps(
         if let Some(group) = groups.get(one.place) {
             if let Some(window) = window_around(alloc, problem, group.as_slice(), &one.gap)? {
                 add_window(alloc, problem, &mut windows, window)?;
+            }
+            if let Some(window) = window_to_get(alloc, problem, group.as_slice(), &one.gap)? {
+                windows.push(window)?;
             }
         }
     }

@@ -78,7 +78,11 @@ pub(crate) fn forgotten(
             _ => {}
         }
     }
-    let at = MapKey { key, nothing: true };
+    let at = MapKey {
+        key,
+        nothing: true,
+        later: None,
+    };
     let values = Vec::from_slice(alloc, &[value])?;
     Ok(Some(Selection::new(alloc, event, Some(at), values, kept)))
 }

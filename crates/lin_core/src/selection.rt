@@ -4,6 +4,15 @@ ghost use Rattle.std.specs.Prelude.{◌≡◌, []};
 
 use std::alloc::{AllocError, Global};
 
+/// A moment from which on only one value of a key is looked at.
+#[derive(Clone, Copy, PartialEq, Eq, Debug)]
+pub struct Later {
+    /// The number of the event: a call that was called after it counts only where it puts or finds the value.
+    pub event: u32,
+    /// The value.
+    pub value: i64,
+}
+
 /// A key of a map, of which only some values are looked at.
 #[derive(Clone, Copy, PartialEq, Eq, Debug)]
 pub struct MapKey {
@@ -11,6 +20,8 @@ pub struct MapKey {
     pub key: i64,
     /// Whether it is looked at too that the key has no value.
     pub nothing: bool,
+    /// In a window: from when on only one value is looked at, where that is so. All calls on the key count up to then.
+    pub later: Option<Later>,
 }
 
 /// Some calls of a problem, as they stood after one of its events, and on which values they are. That the other calls may be

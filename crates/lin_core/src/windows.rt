@@ -9,8 +9,9 @@ ghost use Rattle.lin_history.specs.declared.problems.problem.ProblemCall.{Proble
 ghost use Rattle.lin_history.specs.Problems.Lists.{In};
 ghost use Rattle.lin_history.specs.Problems.AnyProblem.{any_problem};
 ghost use Rattle.lin_core.specs.Windows.{returned_in, call_in, is_over, OthersMayGo, AreEnoughWithin};
-ghost use Rattle.lin_core.specs.Suffixes.{is_at_key, is_away, IsBesideKey};
-ghost use Rattle.lin_core.specs.SuffixCores.{MayStayAt, MayGoAt, MayStayIn, MayGoIn, HasBeginningsIn, holding, holding_none, IsRefutedFrom, IsSuffixCore};
+ghost use Rattle.lin_core.specs.Suffixes.{is_at_key, is_away, IsBesideKey, is_back_by, IsAtKeyUntil, IsBesideKeyAfter};
+ghost use Rattle.lin_core.specs.KeyValues.{IsOnKey, IsOffKey};
+ghost use Rattle.lin_core.specs.SuffixCores.{MayStayAt, MayGoAt, MayStayUntil, MayGoAfter, IsLaterIn, MayStayIn, MayGoIn, HasBeginningsIn, holding, holding_none, IsRefutedFrom, IsSuffixCore};
 ghost use Rattle.lin_core.specs.Cores.{IsCoreOf, HasNone};
 
 use crate::key_tables::{is_on_key, may_go_by_key, may_tell};
@@ -19,7 +20,7 @@ use crate::part_anew::made_within;
 use crate::part_check::{is_kept, is_return_by, is_rising, same_start, same_state};
 use crate::part_search::{is_refuted, told_within};
 use crate::refuted_part::Core;
-use crate::selection::MapKey;
+use crate::selection::{Later, MapKey};
 use crate::value_tables::{has, is_on, may_go};
 use lin_effort::{Decide, UntilSpent, Work};
 use lin_history::{Problem, ProblemCall};
@@ -143,6 +144,61 @@ fn is_beside_key(key: i64, call: &ProblemCall<Op, Reply>) -> bool
     is_away(key, &call.op) || AnyObject.changes_nothing(&call.op, &call.returned)
 }
 
+// Whether a call with this return returned by the event.
+fn is_back_by(event: u32, returned: &Option<(u32, Reply)>) -> bool
+    ensures { result ≡ is_back_by event returned.now }
+{
+    match returned {
+        Some((number, _)) => *number <= event,
+        None => false,
+    }
+}
+
+// The key, where no more of it is looked at than its values.
+fn by_values(key: i64) -> MapKey
+    ensures { (result.key ≡ key) × (result.nothing ≡ false) }
+{
+    MapKey {
+        key,
+        nothing: false,
+        later: None,
+    }
+}
+
+// Whether the call puts this value at the key, or finds it.
+fn is_on_value(key: i64, value: i64, call: &ProblemCall<Op, Reply>) -> bool
+    ensures { IsTrue result → IsOnKey key false (value ∷ []) call.now }
+{
+    is_on_key(&by_values(key), &[value], call)
+}
+
+// Whether it changes nothing of what is known of the value there.
+fn is_off_value(key: i64, value: i64, call: &ProblemCall<Op, Reply>) -> bool
+    ensures { IsTrue result → IsOffKey key false (value ∷ []) call.now }
+{
+    may_go_by_key(&by_values(key), &[value], call)
+}
+
+// Whether the call is on the key, and returned by the event from which on one value counts alone, or is on that.
+fn is_at_key_until(key: i64, seen: &[i64], later: &Later, call: &ProblemCall<Op, Reply>) -> bool
+    ensures { IsTrue result → IsAtKeyUntil key seen.now later.now.value later.now.event call.now }
+{
+    if !is_at_key(key, seen, call) {
+        return false;
+    }
+    is_back_by(later.event, &call.returned) || is_on_value(key, later.value, call)
+}
+
+// Whether it changes nothing of the key, or was called after that event and does not put the value.
+fn is_beside_key_after(key: i64, later: &Later, call: &ProblemCall<Op, Reply>) -> bool
+    ensures { IsTrue result → IsBesideKeyAfter key later.now.value later.now.event call.now }
+{
+    if is_beside_key(key, call) {
+        return true;
+    }
+    call.called > later.event && is_off_value(key, later.value, call)
+}
+
 // Whether the call on a map may be kept.
 fn may_stay_at(key: &MapKey, values: &[i64], call: &ProblemCall<Op, Reply>) -> bool
     ensures { IsTrue result → MayStayAt key.now.nothing key.now.key values.now call.now }
@@ -165,6 +221,26 @@ fn may_go_at(key: &MapKey, values: &[i64], call: &ProblemCall<Op, Reply>) -> boo
     }
 }
 
+// Whether the call on a map may be kept, where one value may count alone from an event on.
+fn may_stay_until(key: &MapKey, values: &[i64], call: &ProblemCall<Op, Reply>) -> bool
+    ensures { IsTrue result → MayStayUntil key.now.later key.now.nothing key.now.key values.now call.now }
+{
+    match &key.later {
+        Some(later) => is_at_key_until(key.key, values, later, call),
+        None => may_stay_at(key, values, call),
+    }
+}
+
+// Whether it may be left out then.
+fn may_go_after(key: &MapKey, values: &[i64], call: &ProblemCall<Op, Reply>) -> bool
+    ensures { IsTrue result → MayGoAfter key.now.later key.now.nothing key.now.key values.now call.now }
+{
+    match &key.later {
+        Some(later) => is_beside_key_after(key.key, later, call),
+        None => may_go_at(key, values, call),
+    }
+}
+
 /// Whether the call may be kept.
 pub(crate) fn may_stay_in(
     key: &Option<MapKey>,
@@ -174,7 +250,7 @@ pub(crate) fn may_stay_in(
     ensures { IsTrue result → MayStayIn key.now values.now call.now }
 {
     match key {
-        Some(at) => may_stay_at(at, values, call),
+        Some(at) => may_stay_until(at, values, call),
         None => is_on(values, call),
     }
 }
@@ -184,7 +260,7 @@ pub(crate) fn may_go_in(key: &Option<MapKey>, values: &[i64], call: &ProblemCall
     ensures { IsTrue result → MayGoIn key.now values.now call.now }
 {
     match key {
-        Some(at) => may_go_at(at, values, call),
+        Some(at) => may_go_after(at, values, call),
         None => may_go(values, call),
     }
 }
@@ -431,6 +507,16 @@ fn other_than(values: &[i64]) -> Option<i64>
     None
 }
 
+// Whether the value that counts alone from an event on, where there is one, is among these.
+fn is_later_in(later: &Option<Later>, values: &[i64]) -> bool
+    ensures { IsTrue result → IsLaterIn later.now values.now }
+{
+    match later {
+        Some(later) => has(values, later.value),
+        None => true,
+    }
+}
+
 // Whether the values stand for all that the object may have held.
 fn has_beginnings(window: &Window, start: &ObjState) -> bool
     ensures { IsTrue result → HasBeginningsIn window.now.key window.now.values.items start.now }
@@ -439,7 +525,7 @@ fn has_beginnings(window: &Window, start: &ObjState) -> bool
         (None, ObjState::Register(_)) => true,
         (None, ObjState::Mutex(_)) => true,
         (None, ObjState::Set(_)) => window.values.len() == 1,
-        (Some(_), ObjState::Map(_)) => true,
+        (Some(at), ObjState::Map(_)) => is_later_in(&at.later, window.values.as_slice()),
         _ => false,
     }
 }

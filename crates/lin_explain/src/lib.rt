@@ -6,7 +6,7 @@
 //! - `state_text`, `touching_text`: how a state and such calls are shown.
 //! - `explanation_text`: how an explanation is shown.
 //! - `run_explained`: the same of the run of an object of a history.
-//! - `core_text`: how calls are shown that alone have no order; `sums_text`: how a get of a counter is shown for whose reply its
+//! - `core_text`: how calls are shown that alone have no order; `last_line`: the line below them; `sums_text`: how a get of a counter is shown for whose reply its
 //!   adds leave no room; `witness_text`: whichever of both is known.
 //!
 //! What it promises the crates above, by the contracts of `explain`, `write_explanation`, `write_run_explained`, `write_witness`:
@@ -17,7 +17,8 @@
 //!   call since which a mutex is held, and the lines of the input. A pending call of the run counts for what it replies there.
 //! - `write_witness` prints exactly what it is given (`Witness`): calls (`CoreCall`), their lines, and up to which line no other
 //!   call helps; or a `get` of a counter with what must and what may have been added before it. It knows nothing of cores, and
-//!   makes no sums.
+//!   makes no sums. But what the line below the calls says of the others is asked of each of them: where another one between the two lines
+//!   writes such a value, puts or takes such an item, or changes the counter, the line says no more than that none helps.
 //!
 //! Why it is so:
 //!

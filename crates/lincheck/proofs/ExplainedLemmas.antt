@@ -1,5 +1,5 @@
 -- What is printed where it is asked for why, piece by piece.
-use Rattle.std.proofs.Common.{◌≡◌, ℕ, ◌+◌, ℤ, List, [], ◌++◌, map, Option, Some, codes, refl, sym, subst, ap, ◌∙◌, append_assoc, arith}
+use Rattle.std.proofs.Common.{◌≡◌, ℕ, ◌+◌, ◌≤◌, ℤ, List, [], ◌++◌, map, Option, Some, codes, refl, sym, subst, ap, ◌∙◌, append_assoc, arith}
 use Rattle.std.specs.Prelude.{Vec, IfSome}
 use Rattle.std.specs.declared.alloc.Global.{Global}
 use Rattle.std.specs.List.{slice_get}
@@ -19,6 +19,7 @@ use Rattle.lin_core.specs.Cores.{IsCoreOf}
 use Rattle.lin_core.specs.Sums.{IsSumFault}
 use Rattle.lin_explain.specs.declared.core_text.CoreCall.{CoreCall}
 use Rattle.lin_explain.specs.declared.witness_text.Witness.{Witness}
+use Rattle.lin_explain.specs.CoreText.{last_event}
 use Rattle.lin_explain.specs.WitnessText.{witness_text}
 use Rattle.lin_workers.specs.Bounds.{Bounds}
 use Rattle.lincheck.specs.declared.status.Status.{Status}
@@ -29,6 +30,7 @@ use Rattle.lincheck.specs.Explained.{told_in, AreOfCore, IsWitness, IsWitnessIn,
 use Rattle.lincheck.specs.Report.{name_of, name_line}
 use Rattle.lincheck.specs.Stored.{judged_of}
 use Rattle.lincheck.specs.Verdict.{IsVerdict, IsOf}
+use Rattle.lincheck.proofs.LastEventLemmas.{ends_by_event}
 use Rattle.lincheck.proofs.JudgeLemmas.{IsPart, at_part, searched}
 use Rattle.lincheck.proofs.PrintLemmas.{verdict_of}
 
@@ -81,7 +83,16 @@ told_behind h object lines name calls status told old first new named are none i
 pub core_told : (h : RecordedHistory) (object : ℕ) (calls : List (ProblemCall Op Reply)) (start : ObjState) (from : Option ℕ) (event : ℕ) (key : Option MapKey) (values : List ℤ) (kept firsts : List ℕ) (told : List CoreCall) → IsPart h object calls start
     → IsCoreOf (searched calls start) from event key values kept firsts → told ≡ map (told_in (searched calls start) from event) kept → AreOfCore h object from told
 core_told h object calls start from event key values kept firsts told part core are =
-    (event, key, values, kept, firsts, at_part h object calls start part (λ p. IsCoreOf p from event key values kept firsts) core, at_part h object calls start part (λ (p : Problem ObjState Op Reply). told ≡ map (told_in p from event) kept) are)
+    let ends : last_event calls 0 told ≤ event = ends_by_event (searched calls start) from event key values kept firsts told core are in (
+      event,
+      key,
+      values,
+      kept,
+      firsts,
+      at_part h object calls start part (λ p. IsCoreOf p from event key values kept firsts) core,
+      at_part h object calls start part (λ (p : Problem ObjState Op Reply). told ≡ map (told_in p from event) kept) are,
+      at_part h object calls start part (λ (p : Problem ObjState Op Reply). last_event p.calls 0 told ≤ event) ends,
+    )
 
 -- so is a get for whose reply the adds leave no room
 pub sums_told : (h : RecordedHistory) (object : ℕ) (calls : List (ProblemCall Op Reply)) (start : ObjState) (fault : SumFault) → IsPart h object calls start → IsSumFault (searched calls start) fault → IsSumFault (part_of h object) fault

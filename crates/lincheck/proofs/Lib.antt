@@ -9,5 +9,6 @@ pub mod CommandLineLemmas
 pub mod CommandLineFacts
 pub mod RunsLemmas
 pub mod EachLemmas
+pub mod LastEventLemmas
 pub mod ExplainedLemmas
 pub mod SoundLemmas

@@ -1,5 +1,5 @@
 -- What is printed of a history that is not linearizable, where it is asked for why.
-use Rattle.std.specs.Prelude.{◌≡◌, ℕ, ℤ, ◌++◌, IfSome, is_none, false, Option, Some, None, List, map, slice_get}
+use Rattle.std.specs.Prelude.{◌≡◌, ℕ, ◌≤◌, ℤ, ◌++◌, IfSome, is_none, false, Option, Some, None, List, map, slice_get}
 use Rattle.std.specs.Option.{option_map_or}
 use Rattle.lin_object.specs.declared.op.Op.{Op}
 use Rattle.lin_object.specs.declared.reply.Reply.{Reply}
@@ -17,6 +17,7 @@ use Rattle.lin_explain.specs.declared.core_text.CoreCall.{CoreCall}
 use Rattle.lin_explain.specs.declared.sums_text.ShownSums.{ShownSums}
 use Rattle.lin_explain.specs.declared.witness_text.Witness.{Witness}
 use Rattle.lin_explain.specs.declared.witness_text.Witness.TheVariants.{Nothing, Core, Sums}
+use Rattle.lin_explain.specs.CoreText.{last_event}
 use Rattle.lin_explain.specs.WitnessText.{witness_text}
 use Rattle.lin_explain.specs.RunExplained.{IsExplainedBy}
 use Rattle.lincheck.specs.declared.verdict.Verdict.{Verdict}
@@ -28,10 +29,11 @@ abbrev pub told_in : Problem ObjState Op Reply → Option ℕ → ℕ → ℕ �
 told_in p from event number = record { call = number; is_pending = option_map_or (λ x. is_none (returned_of from event x.called x.returned)) (slice_get p.calls number) false }
 
 -- These calls of the object, told as pending or not, are a core: alone they have no linearization, where an event is given from right
--- before it on, whatever the object held then (this project's own).
+-- before it on, whatever the object held then. Their last event, which the line below them names, is no later than the one up to
+-- which they are a core: so each other call that was called by then may be left out, and none helps (this project's own).
 abbrev pub AreOfCore : RecordedHistory → ℕ → Option ℕ → List CoreCall → Type 0
 AreOfCore h object from told =
-    (event : ℕ) × (key : Option MapKey) × (values : List ℤ) × (kept : List ℕ) × (firsts : List ℕ) × IsCoreOf (part_of h object) from event key values kept firsts × (told ≡ map (told_in (part_of h object) from event) kept)
+    (event : ℕ) × (key : Option MapKey) × (values : List ℤ) × (kept : List ℕ) × (firsts : List ℕ) × IsCoreOf (part_of h object) from event key values kept firsts × (told ≡ map (told_in (part_of h object) from event) kept) × (last_event (part_of h object).calls 0 told ≤ event)
 
 -- A get for whose reply the adds leave no room, as it is shown.
 abbrev pub shown_of : SumFault → ShownSums
