@@ -47,8 +47,8 @@
 //! - `lin_prefixes` knows any search through one trait, compares what it makes, replays what it finds, and leaves calls out by
 //!   recursion, so no set of calls is a value. The whole is refuted first and on its own, since a linearization may be shorter than
 //!   a longest run. It never leaves out more than 256 calls, since each is one level of the recursion.
-//! - A part that has no linearization is asked for sums that leave no room, and for a core (`lin_core`), before most of the work of its
-//!   search. The whole is often refuted by a core alone. Without one for each part, no prefix was refuted: the last call was the last
+//! - A part of a counter is asked for sums that leave no room (`lin_core`), and one of a queue or a stack for a core, before most of the
+//!   work of its search. The whole is often refuted by a core alone. Without one for each part, no prefix was refuted: the last call was the last
 //!   of all, and what was left out of the rest was in vain. A queue whose items go round, of 16 processes and 4,000 calls, with one
 //!   pair out of order, had no answer, and a counter of 24 processes whose replicas parted took sixty times as long.
 //! - A bug that shows in several replies at once is found by conflicts. Without them every subset of the open calls would be tried.

@@ -9,7 +9,7 @@ use lin_core::{core_of, sum_fault_of};
 use lin_effort::efforts::{bound, core_work, order};
 use lin_effort::{Decide, Effort, UntilSpent};
 use lin_history::Problem;
-use lin_object::AnyObject;
+use lin_object::{AnyObject, ObjState};
 use lin_search::Told;
 use std::alloc::{AllocError, Global};
 
@@ -25,6 +25,12 @@ fn has_sum_fault<D: Decide>(
     Ok(fault.is_some())
 }
 
+// Whether a core of the part is looked for. Of another object than a queue or a stack what is known ahead, or a search by key, mostly
+// shows as much, and a core of a register has all its writes where a `cas` is kept. That is a hint.
+fn may_have_core(part: &Problem<AnyObject>) -> bool {
+    matches!(part.start(), ObjState::Queue(_) | ObjState::Stack(_))
+}
+
 // Whether a few calls of the part are found that alone have no linearization.
 fn has_core<D: Decide>(
     alloc: Global,
@@ -33,6 +39,9 @@ fn has_core<D: Decide>(
 ) -> Result<bool, AllocError>
     ensures { IfOk result (λ shown. IsTrue shown → HasNone (any_problem part.now)) }
 {
+    if !may_have_core(part) {
+        return Ok(false);
+    }
     let core = core_of(alloc, part, core_work(part.len()), decider)?;
     Ok(core.is_some())
 }
