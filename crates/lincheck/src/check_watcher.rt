@@ -24,7 +24,7 @@ pub(crate) struct CheckWatcher<'a, C, L> {
     clock: &'a C,
     history: &'a History,
     listener: &'a L,
-    notice: Notice<'a>,
+    notice: &'a Notice,
     is_shown: bool,
     is_bounded: bool,
     begun: Option<Instant>,
@@ -46,12 +46,12 @@ pub(crate) struct CheckWatcher<'a, C, L> {
 
 impl<'a, C: Clock, L: Listener> CheckWatcher<'a, C, L> {
     // Of a check that begins now by this clock, which is read only where there is a limit or a time, progress is to be shown, or a run is
-    // sought of an object that has no linearization. Where the lines of the events are given, what explains the answer is wanted.
+    // sought of an object that has no linearization.
     pub(crate) fn new(
         clock: &'a C,
         history: &'a History,
         options: &Options,
-        lines: Option<&'a [u64]>,
+        notice: &'a Notice,
         listener: &'a L,
     ) -> Self
         ensures { result.seconds ≡ options.now.seconds }
@@ -64,7 +64,7 @@ impl<'a, C: Clock, L: Listener> CheckWatcher<'a, C, L> {
             clock,
             history,
             listener,
-            notice: Notice::new(history, lines),
+            notice,
             is_shown,
             is_bounded,
             begun: time_now(clock, is_bounded || is_shown),
@@ -87,8 +87,8 @@ impl<'a, C: Clock, L: Listener> CheckWatcher<'a, C, L> {
     }
 
     // What is said while a run is sought.
-    pub(crate) fn notice(&self) -> &Notice<'a> {
-        &self.notice
+    pub(crate) fn notice(&self) -> &'a Notice {
+        self.notice
     }
 
     // How long the check takes up to now, where the clock says so.
@@ -99,6 +99,15 @@ impl<'a, C: Clock, L: Listener> CheckWatcher<'a, C, L> {
     // The time in microseconds, where the check reads the clock.
     fn micros(&self) -> u64 {
         self.time().map_or(0, micros_of)
+    }
+
+    // Tells what is said while a run is sought, where it has waited for long enough.
+    fn tell_notice(&self) {
+        let object = self.object.load(SeqCst);
+        if object < self.history.object_count() {
+            let name = self.history.object(object).name;
+            self.notice.tell_in_time(self.clock, self.listener, name);
+        }
     }
 
     // Shows how far the search has come where two seconds have gone since that was last shown. One thread of several shows it.
@@ -218,7 +227,9 @@ impl<'a, C: Clock + Sync, L: Listener + Sync> Watcher for CheckWatcher<'a, C, L>
     }
 
     fn is_up(&self) -> bool {
-        self.notice.tell_in_time(self.clock, self.listener);
+        if self.notice.is_waiting() {
+            self.tell_notice();
+        }
         if !self.is_shown && self.seconds.is_none() {
             return false;
         }

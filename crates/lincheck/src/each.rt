@@ -14,6 +14,7 @@ ghost use Rattle.lincheck.specs.Stored.{IsStoredTold};
 use crate::check_watcher::CheckWatcher;
 use crate::judgement::{judge_object, options_here, with_more};
 use crate::listener::{Listener, NoListener};
+use crate::notice::Notice;
 use crate::object_answer::{ObjectAnswer, Question};
 use crate::setting::Setting;
 use crate::status::Status;
@@ -87,7 +88,8 @@ pub fn check_each<R: AllocGlobal + Threads + Clock + Sync, G: Gate>(
     ensures stored { IfOk result (λ checked. IsStoredTold history.now
         (length history.now.objects) checked.stored) }
 {
-    let watcher = CheckWatcher::new(rt, history, options, None, &NoListener);
+    let notice = Notice::new();
+    let watcher = CheckWatcher::new(rt, history, options, &notice, &NoListener);
     let (checked, _witnesses) = check_each_watched(rt, history, options, gate, &watcher)?;
     Ok(checked)
 }
@@ -118,6 +120,7 @@ pub(crate) fn check_each_watched<
         bounds: Bounds::new(options.limit(), watcher),
         gate,
         notice: watcher.notice(),
+        explained: None,
     };
     let (checked, witnesses) = judge_each(&setting, history)?;
     if checked.statuses.as_slice().contains(&Status::Undecided) {

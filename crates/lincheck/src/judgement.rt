@@ -17,6 +17,7 @@ ghost use Rattle.lincheck.specs.Verdict.{AreLeastOf, IsVerdict};
 use crate::check_watcher::CheckWatcher;
 use crate::known::Known;
 use crate::listener::{Listener, NoListener};
+use crate::notice::{Explained, Notice};
 use crate::object_answer::{ObjectAnswer, Question};
 use crate::setting::Setting;
 use crate::turns::answer_object;
@@ -198,18 +199,21 @@ pub fn check<R: AllocGlobal + Threads + Clock + Sync, G: Gate>(
     ensures stored { IfOk result (λ checked. IsStoredTold history.now
         (judged_of history.now checked.verdict) checked.stored) }
 {
-    let watcher = CheckWatcher::new(rt, history, options, None, &NoListener);
-    let (checked, _witness) = check_watched(rt, history, options, gate, &watcher)?;
+    let notice = Notice::new();
+    let watcher = CheckWatcher::new(rt, history, options, &notice, &NoListener);
+    let (checked, _witness) = check_watched(rt, history, options, gate, None, &watcher)?;
     Ok(checked)
 }
 
 /// Checks a history as `check` does, while a watcher is told how far it has come, and knows when the time is up: it began when the
-/// check did. What is known then to let a reader see that the object which the verdict names has no order is told, too.
+/// check did. What is known then to let a reader see that the object which the verdict names has no order is told, too; it is looked for where
+/// the lines of the events are given.
 pub(crate) fn check_watched<R: AllocGlobal + Threads + Clock + Sync, G: Gate, L: Listener + Sync>(
     rt: &R,
     history: &History,
     options: &Options,
     gate: &G,
+    lines: Option<&[u64]>,
     watcher: &CheckWatcher<'_, R, L>,
 ) -> Result<(Checked, Option<Witness>), CheckFault>
     requires { watcher.now.seconds ≡ options.now.seconds }
@@ -225,6 +229,7 @@ pub(crate) fn check_watched<R: AllocGlobal + Threads + Clock + Sync, G: Gate, L:
         bounds: Bounds::new(options.limit(), watcher),
         gate,
         notice: watcher.notice(),
+        explained: Explained::of(history, lines),
     };
     let (checked, witness) = judge(&setting, history)?;
     if let Verdict::Undecided { .. } = checked.verdict {

@@ -16,8 +16,43 @@ use std::time::{Clock, Instant};
 // For how many seconds the run is sought before that is said: most are found in less.
 const SECONDS_BEFORE: u64 = 1;
 
-// What waits to be said: what shows that there is no linearization, as it is told, where that is known; and since when it waits by the
-// clock.
+/// A history whose answer is explained, and the lines of its events.
+#[derive(Clone, Copy)]
+pub(crate) struct Explained<'a> {
+    /// The history.
+    pub(crate) history: &'a History,
+    /// The line of each event.
+    pub(crate) lines: &'a [u64],
+}
+
+impl<'a> Explained<'a> {
+    /// This history, where the lines of its events are given.
+    pub(crate) fn of(history: &'a History, lines: Option<&'a [u64]>) -> Option<Self> {
+        let lines = lines?;
+        Some(Explained { history, lines })
+    }
+}
+
+// The calls of the object of this index that show that it has no linearization, as they are told.
+fn core_told(
+    alloc: Global,
+    explained: Explained<'_>,
+    object: usize,
+    problem: &Problem<AnyObject>,
+    fault: &ObjectFault,
+) -> Result<Option<String>, AllocError> {
+    let Explained { history, lines } = explained;
+    if object >= history.object_count() {
+        return Ok(None);
+    }
+    let witness = shown_fault(alloc, problem, fault)?;
+    let mut core = String::new(alloc);
+    let name = history.object(object).name;
+    write_witness(&mut core, name, problem.calls(), lines, &witness)?;
+    Ok(Some(core))
+}
+
+// What waits to be said: the calls that show it, as they are told, where they are known; and since when it waits by the clock.
 #[derive(Drop)]
 struct Waiting {
     core: Option<String>,
@@ -26,21 +61,17 @@ struct Waiting {
 
 /// What is said once in a check: of the first object that has no linearization.
 #[derive(Drop)]
-pub(crate) struct Notice<'a> {
-    history: &'a History,
-    lines: Option<&'a [u64]>,
+pub(crate) struct Notice {
     object: AtomicUsize,
     was_given: AtomicBool,
     is_waiting: AtomicBool,
     waiting: Mutex<Option<Waiting>>,
 }
 
-impl<'a> Notice<'a> {
-    /// Of a check of this history; where the lines of the events are given, with the calls that show it.
-    pub(crate) fn new(history: &'a History, lines: Option<&'a [u64]>) -> Self {
+impl Notice {
+    /// Nothing waits yet.
+    pub(crate) fn new() -> Self {
         Notice {
-            history,
-            lines,
             object: AtomicUsize::new(0),
             was_given: AtomicBool::new(false),
             is_waiting: AtomicBool::new(false),
@@ -53,46 +84,22 @@ impl<'a> Notice<'a> {
         self.object.store(object, SeqCst);
     }
 
-    /// Whether the calls that show it are to be told.
-    pub(crate) fn tells_why(&self) -> bool {
-        self.lines.is_some()
-    }
-
-    // The calls that show that the object has no linearization, as they are told.
-    fn core_told(
-        &self,
-        alloc: Global,
-        problem: &Problem<AnyObject>,
-        fault: &ObjectFault,
-    ) -> Result<Option<String>, AllocError> {
-        let object = self.object.load(SeqCst);
-        let Some(lines) = self.lines else {
-            return Ok(None);
-        };
-        if object >= self.history.object_count() {
-            return Ok(None);
-        }
-        let witness = shown_fault(alloc, problem, fault)?;
-        let mut core = String::new(alloc);
-        let name = self.history.object(object).name;
-        write_witness(&mut core, name, problem.calls(), lines, &witness)?;
-        Ok(Some(core))
-    }
-
     /// The object has no linearization, which this fault shows, and its longest run is sought from now on. Only the first time counts.
     /// `AllocError` where memory was refused.
     pub(crate) fn wait(
         &self,
         alloc: Global,
+        explained: Option<Explained<'_>>,
         problem: &Problem<AnyObject>,
         fault: Option<&ObjectFault>,
     ) -> Result<(), AllocError> {
         if self.was_given.swap(true, SeqCst) {
             return Ok(());
         }
-        let core = match fault {
-            Some(fault) => self.core_told(alloc, problem, fault)?,
-            None => None,
+        let object = self.object.load(SeqCst);
+        let core = match (explained, fault) {
+            (Some(explained), Some(fault)) => core_told(alloc, explained, object, problem, fault)?,
+            _ => None,
         };
         if let Some(mut waiting) = self.waiting.try_lock() {
             *waiting = Some(Waiting { core, since: None });
@@ -101,22 +108,18 @@ impl<'a> Notice<'a> {
         Ok(())
     }
 
-    // Tells the listener what waits.
-    fn tell<L: Listener>(&self, listener: &L, core: Option<&str>) {
-        let object = self.object.load(SeqCst);
-        if object < self.history.object_count() {
-            listener.seek_run(&RunSought {
-                object: self.history.object(object).name,
-                core,
-            });
-        }
+    /// Whether something waits to be said.
+    pub(crate) fn is_waiting(&self) -> bool {
+        self.is_waiting.load(SeqCst)
     }
 
-    /// Tells the listener what waits, if it has for long enough by this clock.
-    pub(crate) fn tell_in_time<C: Clock, L: Listener>(&self, clock: &C, listener: &L) {
-        if !self.is_waiting.load(SeqCst) {
-            return;
-        }
+    /// Tells the listener what waits of the object of this name, if it has for long enough by this clock.
+    pub(crate) fn tell_in_time<C: Clock, L: Listener>(
+        &self,
+        clock: &C,
+        listener: &L,
+        object: &str,
+    ) {
         let Some(mut guard) = self.waiting.try_lock() else {
             return;
         };
@@ -130,7 +133,8 @@ impl<'a> Notice<'a> {
         match since.elapsed(clock) {
             Ok(time) if time.as_secs() >= SECONDS_BEFORE => {
                 self.is_waiting.store(false, SeqCst);
-                self.tell(listener, waiting.core.as_deref());
+                let core = waiting.core.as_deref();
+                listener.seek_run(&RunSought { object, core });
             }
             _ => {}
         }

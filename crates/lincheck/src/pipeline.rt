@@ -20,6 +20,7 @@ use crate::fault::RunFault;
 use crate::judgement::check_watched;
 use crate::lines::with_stats;
 use crate::listener::{Listener, NoListener};
+use crate::notice::Notice;
 use crate::status::Status;
 use crate::verdict::Verdict;
 use lin_history::{History, locality_law};
@@ -114,8 +115,10 @@ fn verdict_printed<R: AllocGlobal + Threads + Clock + Sync, L: Listener + Sync>(
         → PrintsWith options.now (option_map (λ l. l.now) lines.entry) history.now answer.0
         answer.1.items) }
 {
-    let watcher = CheckWatcher::new(rt, history, options, lines, listener);
-    let Ok((checked, known)) = check_watched(rt, history, options, &FreeGate, &watcher) else {
+    let notice = Notice::new();
+    let watcher = CheckWatcher::new(rt, history, options, &notice, listener);
+    let Ok((checked, known)) = check_watched(rt, history, options, &FreeGate, lines, &watcher)
+    else {
         return Err(AllocError);
     };
     watcher.begin_to_explain();
@@ -178,7 +181,8 @@ fn each_printed<R: AllocGlobal + Threads + Clock + Sync, L: Listener + Sync>(
         → PrintsEach options.now (option_map (λ l. l.now) lines.entry) history.now answer.0
         answer.1.items) }
 {
-    let watcher = CheckWatcher::new(rt, history, options, lines, listener);
+    let notice = Notice::new();
+    let watcher = CheckWatcher::new(rt, history, options, &notice, listener);
     let Ok((checked, witnesses)) = check_each_watched(rt, history, options, &FreeGate, &watcher)
     else {
         return Err(AllocError);

@@ -160,7 +160,7 @@ fn look_for_explanation<R: AllocGlobal, G: Gate, W: Watcher>(
     requires { IsKnownOf (any_problem problem.now) known.old }
     ensures { IsKnownOf (any_problem problem.now) known.new }
 {
-    if !setting.notice.tells_why() || !known.fault.is_not_yet() {
+    if setting.explained.is_none() || !known.fault.is_not_yet() {
         return Ok(());
     }
     setting.bounds.watcher().enter(Way::Core);
@@ -188,9 +188,11 @@ fn announce<R: AllocGlobal, G: Gate, W: Watcher>(
         return Ok(());
     }
     look_for_explanation(setting, problem, known)?;
+    let alloc = setting.rt.alloc();
+    let fault = known.fault.found();
     setting
         .notice
-        .wait(setting.rt.alloc(), problem, known.fault.found())
+        .wait(alloc, setting.explained, problem, fault)
 }
 
 // The first of the longest runs of an object without a linearization, if searches of prefixes find it with so many lifts; where no
