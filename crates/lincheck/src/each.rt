@@ -97,6 +97,7 @@ pub fn check_each<R: AllocGlobal + Threads + Clock + Sync, G: Gate>(
 /// Checks each object as `check_each` does, while a watcher is told how far that has come, and knows when the time is up: it began when
 /// the check did. What is known then to let a reader see of an object that it has no order is told, too.
 pub(crate) fn check_each_watched<
+    'a,
     R: AllocGlobal + Threads + Clock + Sync,
     G: Gate,
     L: Listener + Sync,
@@ -105,7 +106,7 @@ pub(crate) fn check_each_watched<
     history: &History,
     options: &Options,
     gate: &G,
-    watcher: &CheckWatcher<'_, R, L>,
+    watcher: &'a CheckWatcher<'a, R, L>,
 ) -> Result<(CheckedEach, Vec<Option<Witness>>), CheckFault>
     requires { watcher.now.seconds ≡ options.now.seconds }
     ensures statuses { IfOk result (λ judged. AreStatusesOf history.now (bounds_of options.now)

@@ -208,13 +208,18 @@ pub fn check<R: AllocGlobal + Threads + Clock + Sync, G: Gate>(
 /// Checks a history as `check` does, while a watcher is told how far it has come, and knows when the time is up: it began when the
 /// check did. What is known then to let a reader see that the object which the verdict names has no order is told, too; it is looked for where
 /// the lines of the events are given.
-pub(crate) fn check_watched<R: AllocGlobal + Threads + Clock + Sync, G: Gate, L: Listener + Sync>(
+pub(crate) fn check_watched<
+    'a,
+    R: AllocGlobal + Threads + Clock + Sync,
+    G: Gate,
+    L: Listener + Sync,
+>(
     rt: &R,
-    history: &History,
+    history: &'a History,
     options: &Options,
     gate: &G,
-    lines: Option<&[u64]>,
-    watcher: &CheckWatcher<'_, R, L>,
+    lines: Option<&'a [u64]>,
+    watcher: &'a CheckWatcher<'a, R, L>,
 ) -> Result<(Checked, Option<Witness>), CheckFault>
     requires { watcher.now.seconds ≡ options.now.seconds }
     ensures verdict { IfOk result (λ judged. IsVerdict history.now (bounds_of options.now)

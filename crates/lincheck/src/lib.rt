@@ -53,7 +53,7 @@ pub use lin_workers::{
     Options, Way,
 };
 pub use lines::report;
-pub use listener::{Listener, NoListener, RunSought, SoFar, Spent, Undecided};
+pub use listener::{Listener, NoListener, SoFar, Spent, Undecided};
 pub use pipeline::{run, run_each, run_explained, run_with};
 pub use request::{DEFAULT_SHARDS, DEFAULT_WORKERS, Request, options_of};
 pub use status::{Status, status_code};

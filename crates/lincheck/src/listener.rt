@@ -41,15 +41,6 @@ pub struct Undecided<'a> {
     pub longest: Option<Way>,
 }
 
-/// An object that has no linearization, while its longest run is still sought.
-#[derive(Clone, Copy)]
-pub struct RunSought<'a> {
-    /// The object's name.
-    pub object: &'a str,
-    /// The lines that tell which calls show it, each with its end, where that is asked for and known.
-    pub core: Option<&'a str>,
-}
-
 /// What a check took that left something undecided.
 #[derive(Clone, Copy)]
 pub struct Spent<'a> {
@@ -69,9 +60,10 @@ pub trait Listener {
     /// threads that search.
     fn show(&self, _so_far: &SoFar<'_>) {}
 
-    /// It is known for a second that an object has no linearization, and its longest run is still sought. It is called once at most in a
-    /// check, by one of the threads that search.
-    fn seek_run(&self, _sought: &RunSought<'_>) {}
+    /// It is known for a second that the object of this name has no linearization, and its longest run is still sought. `core` are the
+    /// lines that tell which calls show it, each with its end, where that is asked for and known. It is called once at most in a check,
+    /// by one of the threads that search.
+    fn seek_run(&self, _object: &str, _core: Option<&str>) {}
 
     /// The check has ended with something undecided, and took this.
     fn leave_undecided(&self, _spent: &Spent<'_>) {}

@@ -1,7 +1,7 @@
 //! What is said of an object while its longest run is still sought: that it has no linearization, and which calls show that. It is a
 //! hint: nothing is proved of it, and nothing that is proved depends on it.
 
-use crate::listener::{Listener, RunSought};
+use crate::listener::Listener;
 use crate::object_fault::ObjectFault;
 use crate::witness::shown_fault;
 use lin_explain::write_witness;
@@ -133,8 +133,7 @@ impl Notice {
         match since.elapsed(clock) {
             Ok(time) if time.as_secs() >= SECONDS_BEFORE => {
                 self.is_waiting.store(false, SeqCst);
-                let core = waiting.core.as_deref();
-                listener.seek_run(&RunSought { object, core });
+                listener.seek_run(object, waiting.core.as_deref());
             }
             _ => {}
         }

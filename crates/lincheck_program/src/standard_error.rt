@@ -4,7 +4,7 @@
 use crate::advice::{advice_for, way_word};
 use crate::hints::hint_of;
 use lin_text::TextFault;
-use lincheck::{Listener, Options, RunSought, SoFar, Spent, Undecided};
+use lincheck::{Listener, Options, SoFar, Spent, Undecided};
 use std::fmt;
 use std::io::Eprint;
 use std::time::Duration;
@@ -99,12 +99,11 @@ impl<'a, E: AllocGlobal + Eprint + Sync> Listener for OnStandardError<'a, E> {
         );
     }
 
-    fn seek_run(&self, sought: &RunSought<'_>) {
-        let object = sought.object;
+    fn seek_run(&self, object: &str, core: Option<&str>) {
         let _ = eprintln!(self.rt;
             "lincheck: {object}: not linearizable; looking for its longest run"
         );
-        if let Some(core) = sought.core {
+        if let Some(core) = core {
             let _ = eprint!(self.rt; "{core}");
         }
     }
