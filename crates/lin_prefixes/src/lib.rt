@@ -77,6 +77,7 @@
 #![tactic(auto)]
 
 mod anew_search;
+mod asked_groups;
 mod by_prefixes;
 mod call_lists;
 mod candidate;
@@ -86,9 +87,8 @@ mod marks;
 mod only_replies;
 mod open_takers;
 mod part_search;
-mod parts_anew;
+mod question;
 mod told_of_part;
-mod untold_groups;
 mod whole_answer;
 mod whole_search;
 
