@@ -248,8 +248,8 @@ const FEW_CALLS: usize = 12;
 
 const LIFTS_FOR_FEW: u64 = 65_536;
 
-/// How many lifts the search of so many calls of an object may make.
-pub fn core_lifts(calls: usize) -> u64 {
+// How many lifts the search of so many calls of an object may make.
+fn core_lifts(calls: usize) -> u64 {
     if calls <= FEW_CALLS {
         return LIFTS_FOR_FEW;
     }
@@ -258,10 +258,10 @@ pub fn core_lifts(calls: usize) -> u64 {
         .saturating_add(CORE_LIFTS_MORE)
 }
 
-/// Whether a selection of so many of an object's calls has no linearization, with so many lifts.
-pub fn selection(calls: usize, lifts: u64) -> Effort {
+/// Whether a selection of so many of an object's calls has no linearization.
+pub fn selection(calls: usize) -> Effort {
     Effort {
-        lifts,
+        lifts: core_lifts(calls),
         rounds: 1,
         keys: Keys::Never,
         made: Work::of_problem(calls),
