@@ -12,11 +12,10 @@ use crate::part_search::{PartSearch, RunsTold};
 use crate::question::{Question, part_for};
 use crate::told_of_part::{order_of_part, told_of_part};
 use lin_effort::efforts::{bound, group};
-use lin_effort::{Decide, Effort, Work};
+use lin_effort::{Decide, Decision, Effort, Work};
 use lin_history::Problem;
 use lin_object::AnyObject;
 use lin_parts::part_of;
-use lin_search::Told;
 use std::alloc::{AllocError, Global};
 
 // What goes on between two questions counts as so many looks at a call at least: as many as a lift.
@@ -59,12 +58,12 @@ impl<'a, D: Decide> AnewSearch<'a, D> {
         alloc: Global,
         problem: &Problem<AnyObject>,
         kept: &[usize],
-    ) -> Result<Told, AllocError>
+    ) -> Result<Decision, AllocError>
         requires { AreSomeCalls (any_problem problem.now) kept.now }
         ensures { IfOk result (IsPartAnswer (any_problem problem.now) kept.now) }
     {
         if !self.decider.goes_on(Work::NONE) {
-            return Ok(Told::Nothing);
+            return Ok(Decision::Stopped);
         }
         let part = part_of(alloc, problem, kept)?;
         let answer = order_of_part(alloc, &part, self.decider)?;
@@ -93,9 +92,10 @@ impl<'a, D: Decide> AnewSearch<'a, D> {
         let part = part_for(alloc, problem, question)?;
         let effort = effort_for(&part, calls);
         match told_of_part(alloc, &part, &effort, self.decider)? {
-            Told::Refuted => Ok(RunsTold::NoRun),
-            Told::Found(_) => Ok(RunsTold::SomeRun),
-            Told::Nothing => Ok(RunsTold::Nothing),
+            Decision::Refuted => Ok(RunsTold::NoRun),
+            Decision::Found(_) => Ok(RunsTold::SomeRun),
+            Decision::Spent => Ok(RunsTold::Nothing),
+            Decision::Stopped => Ok(RunsTold::Ended),
         }
     }
 }
@@ -106,7 +106,7 @@ impl<'a, D: Decide> PartSearch<AnyObject> for AnewSearch<'a, D> {
         alloc: Global,
         problem: &Problem<AnyObject>,
         kept: &[usize],
-    ) -> Result<Told, AllocError> {
+    ) -> Result<Decision, AllocError> {
         self.answer_to_part(alloc, problem, kept)
     }
 
