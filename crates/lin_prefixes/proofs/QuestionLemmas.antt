@@ -51,10 +51,13 @@ module _ (p : Problem ObjState Op Reply) (k : ℕ) (kept takers : List ℕ) wher
   AreLoosened n calls = (length calls ≡ n) × ((c : ℕ) → c < n → (y : ProblemCall Op Reply) × (slice_get calls c ≡ Some y) × IsLoosened p k kept takers c y)
 
   pub loosened_more : (n : ℕ) (old new : List (ProblemCall Op Reply)) (y : ProblemCall Op Reply) → new ≡ old ++ y ∷ [] → IsLoosened p k kept takers n y → AreLoosened n old → AreLoosened (n + 1) new
-  loosened_more n old new y is one so_far = rw is (count old so_far.0, λ c less. elim (last_or c n less) [
-    | inl early ↦ (let z = so_far.1 c early in (z.0, get_front old y c (let e = so_far.0 in omega (arith, early, e)) ∙ z.1, z.2))
-    | inr same ↦ (y, ap (slice_get (old ++ y ∷ [])) (same ∙ sym so_far.0) ∙ get_last old y, subst (λ (m : ℕ). IsLoosened p k kept takers m y) (sym same) one)
-  ])
+  loosened_more n old new y is one so_far = rw is (
+    count old so_far.0,
+    λ c less. elim (last_or c n less) [
+      | inl early ↦ (let z = so_far.1 c early in (z.0, get_front old y c (let e = so_far.0 in omega (arith, early, e)) ∙ z.1, z.2))
+      | inr same ↦ (y, ap (slice_get (old ++ y ∷ [])) (same ∙ sym so_far.0) ∙ get_last old y, subst (λ (m : ℕ). IsLoosened p k kept takers m y) (sym same) one)
+    ],
+  )
     where
       count : (xs : List (ProblemCall Op Reply)) → length xs ≡ n → length (xs ++ y ∷ []) ≡ n + 1
       count xs e = length-append xs (y ∷ []) ∙ ap (λ (m : ℕ). m + 1) e
