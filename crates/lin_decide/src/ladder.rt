@@ -165,8 +165,8 @@ impl<'a, S: Stop> Ladder<'a, S> {
         Ok(told)
     }
 
-    // What is told of a counter with so many lifts for each search: that by blocks goes first.
-    fn told_of_counter(
+    // What a search tells that goes by the order of the calls, with so many lifts: a first search asks before each call that it tries.
+    fn told_in_order(
         &mut self,
         alloc: Global,
         problem: &Problem<AnyObject>,
@@ -177,15 +177,16 @@ impl<'a, S: Stop> Ladder<'a, S> {
         requires { IfSome known.now (IsRightAhead (any_problem problem.now)) }
         ensures { IfOk result (IsRightOf (any_problem problem.now)) }
     {
-        match self.told_by_blocks(alloc, problem, effort, lifts)? {
-            Told::Nothing => {
-                told_in_order(alloc, problem, known, effort.keys, lifts, &mut self.meter)
-            }
-            told => Ok(told),
+        let keys = effort.keys;
+        if known.is_some() {
+            self.meter.take_each(Work::TRY);
         }
+        let told = told_in_order(alloc, problem, known, keys, lifts, &mut self.meter)?;
+        self.meter.take_each(Work::LIFT);
+        Ok(told)
     }
 
-    // What one round tells, with so many lifts for each search.
+    // What one round tells, with so many lifts for each search. Of a counter that by blocks goes first.
     fn round(
         &mut self,
         alloc: Global,
@@ -198,9 +199,12 @@ impl<'a, S: Stop> Ladder<'a, S> {
         ensures { IfOk result (IsRightOf (any_problem problem.now)) }
     {
         if is_counter(problem) {
-            return self.told_of_counter(alloc, problem, known, effort, lifts);
+            return match self.told_by_blocks(alloc, problem, effort, lifts)? {
+                Told::Nothing => self.told_in_order(alloc, problem, known, effort, lifts),
+                told => Ok(told),
+            };
         }
-        match told_in_order(alloc, problem, known, effort.keys, lifts, &mut self.meter)? {
+        match self.told_in_order(alloc, problem, known, effort, lifts)? {
             Told::Nothing => self.told_by_blocks(alloc, problem, effort, lifts),
             told => Ok(told),
         }

@@ -122,6 +122,12 @@ pub fn prefixes_at_first(
     FIRST_TURN.max(lifts).min(most)
 }
 
+/// The work of searches of prefixes that make so many lifts. Beside a lift they find out what is known ahead of it, and try calls that
+/// they pass over: that takes some three lifts more.
+pub fn work_by_prefixes(lifts: u64) -> Work {
+    Work::of_lifts(lifts.saturating_mul(4))
+}
+
 /// The first turn.
 pub fn first_turn(problem: &Problem<AnyObject>, is_refuted: bool, limit: Option<u64>) -> Turn {
     Turn {

@@ -6,6 +6,9 @@ ghost use Rattle.lin_effort.specs.declared.work.TheConstants.{LIFTS_FOR_A_ROW, L
 // How many looks at a call a lift counts as: about as long does it take.
 const LOOKS_FOR_A_LIFT: u64 = 256;
 
+// How many looks a call counts as that a first search tries: a lift takes four times as long as one that is passed over.
+const LOOKS_FOR_A_TRY: u64 = 64;
+
 // How many looks a step counts as of a search that tries pending calls only between completed ones.
 const LOOKS_FOR_A_STEP: u64 = 8;
 
@@ -37,6 +40,11 @@ impl Work {
     /// That of one lift.
     pub const LIFT: Work = Work {
         looks: LOOKS_FOR_A_LIFT,
+    };
+
+    /// That of one call that a first search tries: most of what it tries it lifts, and the others it passes over.
+    pub const TRY: Work = Work {
+        looks: LOOKS_FOR_A_TRY,
     };
 
     /// That of one step of a search that tries pending calls only between completed ones.
