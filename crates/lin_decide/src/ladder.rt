@@ -8,6 +8,8 @@
 //!   |     |  (of a counter in the other order)
 //!   |  by blocks: pending calls only between completed ones --------------------------------- told ---> that
 //!   |     |
+//!   |  once, where calls are pending: without lost items and the calls that may take them ----- none ---> none
+//!   |     |
 //!   +-----+ nothing: the next round, several times as far, until the effort or the work ends
 //!
 //! How far each goes stands in `lin_effort::efforts`; there is no number here.
@@ -25,6 +27,7 @@ use lin_effort::efforts::may_take_steps;
 use lin_effort::{Decide, Effort, Keys, Work};
 use lin_fewer::{SumRules, has_many_pending, is_refuted_with_any_adds, least_linearization};
 use lin_history::Problem;
+use lin_lost::without_lost;
 use lin_object::{AnyObject, ObjState};
 use lin_search::{AtTimes, Stop, Told, search_for_order};
 use std::alloc::{AllocError, Global};
@@ -42,6 +45,11 @@ fn is_mutex(problem: &Problem<AnyObject>) -> bool {
 // Whether it is a set.
 fn is_set(problem: &Problem<AnyObject>) -> bool {
     matches!(problem.start(), ObjState::Set(_))
+}
+
+// Whether some call is pending.
+fn has_pending(problem: &Problem<AnyObject>) -> bool {
+    problem.calls().iter().any(|call| call.returned.is_none())
 }
 
 // What a search tells of a map or a set that goes key by key.
@@ -125,10 +133,29 @@ fn told_in_order<S: Stop>(
     search_first(alloc, problem, ahead, lifts, &mut AtTimes::new(stop))
 }
 
+// Whether the problem has no linearization, by what shows without a search or by one that goes by the order of the calls.
+fn has_none_in_order<S: Stop>(
+    alloc: Global,
+    problem: &Problem<AnyObject>,
+    lifts: u64,
+    stop: &mut S,
+) -> Result<bool, AllocError>
+    ensures { IfOk result (λ none. IsTrue none
+        → (l : List ℕ) → IsLinearization (any_problem problem.now) l → ⊥) }
+{
+    let known = known_ahead(alloc, problem)?;
+    if shows_none(alloc, problem, &known)? {
+        return Ok(true);
+    }
+    let told = told_in_order(alloc, problem, &known, Keys::Never, lifts, stop)?;
+    Ok(matches!(told, Told::Refuted))
+}
+
 /// Decides parts of one problem, or the problem itself, by every way there is, until the work is done or the stop answers.
 #[derive(Drop)]
 pub struct Ladder<'a, S> {
     left: Work,
+    has_pending: bool,
     has_many_pending: bool,
     stop: &'a mut S,
 }
@@ -138,6 +165,7 @@ impl<'a, S: Stop> Ladder<'a, S> {
     pub fn new(problem: &Problem<AnyObject>, work: Work, stop: &'a mut S) -> Self {
         Ladder {
             left: work,
+            has_pending: has_pending(problem),
             has_many_pending: has_many_pending(problem),
             stop,
         }
@@ -225,6 +253,27 @@ impl<'a, S: Stop> Ladder<'a, S> {
         }
     }
 
+    // Whether a queue or a stack with pending calls has no linearization, since it has none without its lost items, by a search that goes
+    // as far as the first.
+    fn is_refuted_without_lost(
+        &mut self,
+        alloc: Global,
+        problem: &Problem<AnyObject>,
+        effort: &Effort,
+    ) -> Result<bool, AllocError>
+        ensures { IfOk result (λ refuted. IsTrue refuted
+            → (l : List ℕ) → IsLinearization (any_problem problem.now) l → ⊥) }
+    {
+        if !self.has_pending || !self.may_begin(effort) {
+            return Ok(false);
+        }
+        let Some(rest) = without_lost(alloc, problem)? else {
+            return Ok(false);
+        };
+        let lifts = self.lifts(effort, effort.lifts);
+        has_none_in_order(alloc, &rest, lifts, self.stop)
+    }
+
     // What rounds tell, each of which goes several times as far as the one before.
     fn rounds(
         &mut self,
@@ -237,7 +286,7 @@ impl<'a, S: Stop> Ladder<'a, S> {
         ensures { IfOk result (IsRightOf (any_problem problem.now)) }
     {
         let mut wanted = effort.lifts;
-        for _ in 0..effort.rounds_for(known.is_some()) {
+        for round in 0..effort.rounds_for(known.is_some()) {
             if !self.may_begin(effort) {
                 return Ok(Told::Nothing);
             }
@@ -245,6 +294,9 @@ impl<'a, S: Stop> Ladder<'a, S> {
             match self.round(alloc, problem, known, effort, lifts)? {
                 Told::Nothing => wanted = wanted.saturating_mul(effort.growth),
                 told => return Ok(told),
+            }
+            if round == 0 && self.is_refuted_without_lost(alloc, problem, effort)? {
+                return Ok(Told::Refuted);
             }
         }
         Ok(Told::Nothing)

@@ -1,0 +1,4 @@
+pub mod CountLemmas
+pub mod StepLemmas
+pub mod LostLemmas
+pub mod RestLemmas
