@@ -19,11 +19,10 @@ use crate::selection::{MapKey, Selection};
 use crate::smaller::{make_smaller, needs_all, rounds_but_for, without_rounds};
 use crate::value_faults::value_faults;
 use crate::windows::{Window, suffix_core_of_calls};
-use lin_effort::Decide;
+use lin_effort::{Decide, Decision, Work};
 use lin_effort::efforts::core_lifts;
 use lin_history::Problem;
 use lin_object::{AnyObject, ObjState};
-use lin_search::Told;
 use std::alloc::{AllocError, Global};
 
 // An event after every other.
@@ -142,13 +141,13 @@ impl<'a, 's, D: Decide> Finder<'a, 's, D> {
                 .judge
                 .answer(alloc, selection.calls.as_slice(), selection.event)?
             {
-                Told::Refuted => return Ok(Some(selection)),
-                Told::Nothing if values.len() > 1 => {
+                Decision::Refuted => return Ok(Some(selection)),
+                Decision::Spent if values.len() > 1 => {
                     for half in values.as_slice().chunks(values.len() - values.len() / 2) {
                         families.push(list_of(alloc, half)?)?;
                     }
                 }
-                Told::Nothing | Told::Found(_) => {}
+                Decision::Spent | Decision::Found(_) | Decision::Stopped => {}
             }
         }
         Ok(None)
@@ -351,7 +350,7 @@ fn selections_found<D: Decide>(
     alloc: Global,
     problem: &Problem<AnyObject>,
     index: CallIndex,
-    work: u64,
+    work: Work,
     decider: &mut D,
 ) -> Result<Vec<Selection>, AllocError> {
     let next = NextCalls::new(alloc, problem)?;
@@ -450,8 +449,7 @@ fn core_in_gap<D: Decide>(
 }
 
 /// A core of the problem; `None` where none is found: where the problem has a linearization, and else where all that is tried with so
-/// much work finds none, or where what decides does not go on. For each part that is tried one is taken for each of its calls, and one for each lift that a search
-/// makes in vain. `AllocError` where memory was refused.
+/// much work finds none, or where what decides does not go on. `AllocError` where memory was refused.
 ///
 /// It looks first for a call with a reply that its operation never gives, and for two or three calls that have no linearization
 /// whatever the object held before them; then for faults as practice has them. That takes O(n log n) for n calls. Then it looks for any. What
@@ -459,7 +457,7 @@ fn core_in_gap<D: Decide>(
 pub fn core_of<D: Decide>(
     alloc: Global,
     problem: &Problem<AnyObject>,
-    work: u64,
+    work: Work,
     decider: &mut D,
 ) -> Result<Option<Core>, AllocError>
     ensures core { IfOk result (λ answer. IfSome answer (λ core.

@@ -18,7 +18,7 @@ use crate::key_tables::{is_on_key, may_go_by_key, may_tell};
 use crate::laws::suffix_core_law;
 use crate::part_anew::made_within;
 use crate::part_check::{is_kept, is_return_by, is_rising, same_start, same_state};
-use crate::part_search::{is_refuted, told_within};
+use crate::part_search::decided_within;
 use crate::refuted_part::Core;
 use crate::selection::{Later, MapKey};
 use crate::value_tables::{has, is_on, may_go};
@@ -364,8 +364,8 @@ fn is_refuted_from<D: Decide>(
     if !is_part_from(problem, window, start, &part) {
         return Ok(false);
     }
-    let told = told_within(alloc, &part, lifts, decider)?;
-    Ok(is_refuted(&told))
+    let decision = decided_within(alloc, &part, lifts, decider)?;
+    Ok(decision.is_refuted())
 }
 
 // The process of this number, if it is one.

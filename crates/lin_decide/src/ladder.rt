@@ -8,28 +8,30 @@
 //!   |     |  (of a counter in the other order)
 //!   |  by blocks: pending calls only between completed ones --------------------------------- told ---> that
 //!   |     |
-//!   |  once, where calls are pending: without lost items and the calls that may take them ----- none ---> none
+//!   |  once, where calls are pending: a queue or a stack without its lost items ------- there is none ---> none
 //!   |     |
 //!   +-----+ nothing: the next round, several times as far, until the effort or the work ends
 //!
 //! How far each goes stands in `lin_effort::efforts`; there is no number here.
 
 ghost use Rattle.std.specs.Prelude.{◌≡◌, ℕ, List, IfOk, IfSome, IsTrue};
+ghost use Rattle.lin_history.specs.Problems.Problem.{Problem as ProblemOf};
 ghost use Rattle.lin_history.specs.Problems.AnyProblem.{any_problem};
 ghost use Rattle.lin_history.specs.Problems.Linearizations.{IsLinearization};
 ghost use Rattle.lin_ahead.specs.Behind.{IsRightAhead};
+ghost use Rattle.lin_effort.specs.Decision.{IsDecisionOf};
 ghost use Rattle.lin_search.specs.Told.{IsRightOf};
 
 use crate::keys::key_search::search_by_key;
 use crate::shown::shows_none;
 use lin_ahead::{KnownAhead, held_until, known_ahead, search_first};
 use lin_effort::efforts::may_take_steps;
-use lin_effort::{Decide, Effort, Keys, Work};
+use lin_effort::{Decide, Decision, Effort, Keys, Meter, Work};
 use lin_fewer::{SumRules, has_many_pending, is_refuted_with_any_adds, least_linearization};
 use lin_history::Problem;
 use lin_lost::without_lost;
-use lin_object::{AnyObject, ObjState};
-use lin_search::{AtTimes, Stop, Told, search_for_order};
+use lin_object::{AnyObject, ObjState, Op, Reply};
+use lin_search::{Stop, Told, search_for_order};
 use std::alloc::{AllocError, Global};
 
 // Whether the object is a counter.
@@ -74,19 +76,7 @@ fn told_in_steps<S: Stop>(
     ensures { IfOk result (IsRightOf (any_problem problem.now)) }
 {
     let rules = SumRules::of(alloc, problem)?;
-    least_linearization(alloc, problem, &rules, steps, &mut AtTimes::new(stop))
-}
-
-// Whether a counter has no linearization whatever its pending calls add.
-fn has_none_with_any_adds<S: Stop>(
-    alloc: Global,
-    problem: &Problem<AnyObject>,
-    stop: &mut S,
-) -> Result<bool, AllocError>
-    ensures { IfOk result (λ shown. IsTrue shown
-        → (l : List ℕ) → IsLinearization (any_problem problem.now) l → ⊥) }
-{
-    is_refuted_with_any_adds(alloc, problem, &mut AtTimes::new(stop))
+    least_linearization(alloc, problem, &rules, steps, stop)
 }
 
 // What a search tells that keeps what it refuted: key by key before it, where the effort says so.
@@ -105,7 +95,7 @@ fn told_in_full<S: Stop>(
             told => return Ok(told),
         }
     }
-    search_for_order(alloc, problem, lifts, &mut AtTimes::new(stop))
+    search_for_order(alloc, problem, lifts, stop)
 }
 
 // What a search tells that goes by the order of the calls: a first search where something is known ahead. An item of a set has two states
@@ -130,10 +120,10 @@ fn told_in_order<S: Stop>(
             told => return Ok(told),
         }
     }
-    search_first(alloc, problem, ahead, lifts, &mut AtTimes::new(stop))
+    search_first(alloc, problem, ahead, lifts, stop)
 }
 
-// Whether the problem has no linearization, by what shows without a search or by one that goes by the order of the calls.
+// Whether the problem has no linearization, by what shows without a search, or by a search that goes by the order of the calls.
 fn has_none_in_order<S: Stop>(
     alloc: Global,
     problem: &Problem<AnyObject>,
@@ -147,53 +137,42 @@ fn has_none_in_order<S: Stop>(
     if shows_none(alloc, problem, &known)? {
         return Ok(true);
     }
-    let told = told_in_order(alloc, problem, &known, Keys::Never, lifts, stop)?;
-    Ok(matches!(told, Told::Refuted))
+    match told_in_order(alloc, problem, &known, Keys::Never, lifts, stop)? {
+        Told::Refuted => Ok(true),
+        Told::Found(_) | Told::Nothing => Ok(false),
+    }
 }
 
-/// Decides parts of one problem, or the problem itself, by every way there is, until the work is done or the stop answers.
+// What is decided where this is told; where nothing is, nothing will be once all has ended.
+fn decision_of(told: Told, has_ended: bool) -> Decision
+    ensures decided { (p : ProblemOf ObjState Op Reply) → IsRightOf p told → IsDecisionOf p result }
+    ensures stopped { result ≡ Decision.Stopped → IsTrue has_ended }
+{
+    match told {
+        Told::Found(order) => Decision::Found(order),
+        Told::Refuted => Decision::Refuted,
+        Told::Nothing if has_ended => Decision::Stopped,
+        Told::Nothing => Decision::Spent,
+    }
+}
+
+/// Decides parts of one problem, or the problem itself, by every way there is, until the work is done or the stop answers. Each search
+/// takes what it does.
 #[derive(Drop)]
 pub struct Ladder<'a, S> {
-    left: Work,
     has_pending: bool,
     has_many_pending: bool,
-    stop: &'a mut S,
+    meter: Meter<'a, S>,
 }
 
 impl<'a, S: Stop> Ladder<'a, S> {
     /// The ladder for a problem and its parts, with so much work and this stop.
     pub fn new(problem: &Problem<AnyObject>, work: Work, stop: &'a mut S) -> Self {
         Ladder {
-            left: work,
             has_pending: has_pending(problem),
             has_many_pending: has_many_pending(problem),
-            stop,
+            meter: Meter::new(work, stop),
         }
-    }
-
-    // Takes so much work off, where searches are charged.
-    fn take(&mut self, effort: &Effort, work: Work) {
-        if effort.is_charged {
-            self.left = self.left.without(work);
-        }
-    }
-
-    // So many lifts, or as many as there is work for.
-    fn lifts(&mut self, effort: &Effort, wanted: u64) -> u64 {
-        let lifts = wanted.min(self.left.lifts());
-        self.take(effort, Work::of_lifts(lifts));
-        lifts
-    }
-
-    // Whether work is left and the stop does not answer.
-    fn may_search(&mut self) -> bool {
-        self.left.lifts() > 0 && self.stop.ask().is_none()
-    }
-
-    // The same before a search. One that is not charged is made in any case, since it may end before the stop is asked within it: so a
-    // small object is decided when the time is up.
-    fn may_begin(&mut self, effort: &Effort) -> bool {
-        !effort.is_charged || self.may_search()
     }
 
     // What a search tells that tries pending calls only between completed ones, of the parts of a problem with many of them.
@@ -210,8 +189,10 @@ impl<'a, S: Stop> Ladder<'a, S> {
         if !self.has_many_pending || steps == 0 || !may_take_steps(problem, steps) {
             return Ok(Told::Nothing);
         }
-        self.take(effort, Work::of_steps(steps));
-        told_in_steps(alloc, problem, steps, self.stop)
+        self.meter.take_each(Work::STEP);
+        let told = told_in_steps(alloc, problem, steps, &mut self.meter)?;
+        self.meter.take_each(Work::LIFT);
+        Ok(told)
     }
 
     // What is told of a counter with so many lifts for each search: that by blocks goes first.
@@ -227,7 +208,16 @@ impl<'a, S: Stop> Ladder<'a, S> {
         ensures { IfOk result (IsRightOf (any_problem problem.now)) }
     {
         match self.told_by_blocks(alloc, problem, effort, lifts)? {
-            Told::Nothing => { told_in_order(alloc, problem, known, effort.keys, lifts, self.stop) }
+            Told::Nothing => {
+                told_in_order(
+                    alloc,
+                    problem,
+                    known,
+                    effort.keys,
+                    lifts,
+                    &mut self.meter,
+                )
+            }
             told => Ok(told),
         }
     }
@@ -247,31 +237,36 @@ impl<'a, S: Stop> Ladder<'a, S> {
         if is_counter(problem) {
             return self.told_of_counter(alloc, problem, known, effort, lifts);
         }
-        match told_in_order(alloc, problem, known, effort.keys, lifts, self.stop)? {
+        match told_in_order(
+            alloc,
+            problem,
+            known,
+            effort.keys,
+            lifts,
+            &mut self.meter,
+        )? {
             Told::Nothing => self.told_by_blocks(alloc, problem, effort, lifts),
             told => Ok(told),
         }
     }
 
-    // Whether a queue or a stack with pending calls has no linearization, since it has none without its lost items, by a search that goes
-    // as far as the first.
+    // Whether a queue or a stack with pending calls has no linearization, as it has none without its lost items: with so many lifts.
     fn is_refuted_without_lost(
         &mut self,
         alloc: Global,
         problem: &Problem<AnyObject>,
-        effort: &Effort,
+        lifts: u64,
     ) -> Result<bool, AllocError>
         ensures { IfOk result (λ refuted. IsTrue refuted
             → (l : List ℕ) → IsLinearization (any_problem problem.now) l → ⊥) }
     {
-        if !self.has_pending || !self.may_begin(effort) {
+        if !self.has_pending || !self.goes_on(Work::of_rows(problem.len())) {
             return Ok(false);
         }
         let Some(rest) = without_lost(alloc, problem)? else {
             return Ok(false);
         };
-        let lifts = self.lifts(effort, effort.lifts);
-        has_none_in_order(alloc, &rest, lifts, self.stop)
+        has_none_in_order(alloc, &rest, lifts, &mut self.meter)
     }
 
     // What rounds tell, each of which goes several times as far as the one before.
@@ -285,19 +280,19 @@ impl<'a, S: Stop> Ladder<'a, S> {
         requires { IfSome known.now (IsRightAhead (any_problem problem.now)) }
         ensures { IfOk result (IsRightOf (any_problem problem.now)) }
     {
-        let mut wanted = effort.lifts;
+        let mut lifts = effort.lifts;
         for round in 0..effort.rounds_for(known.is_some()) {
-            if !self.may_begin(effort) {
+            if self.meter.has_ended() {
                 return Ok(Told::Nothing);
             }
-            let lifts = self.lifts(effort, wanted);
             match self.round(alloc, problem, known, effort, lifts)? {
-                Told::Nothing => wanted = wanted.saturating_mul(effort.growth),
+                Told::Nothing => {}
                 told => return Ok(told),
             }
-            if round == 0 && self.is_refuted_without_lost(alloc, problem, effort)? {
+            if round == 0 && self.is_refuted_without_lost(alloc, problem, lifts)? {
                 return Ok(Told::Refuted);
             }
+            lifts = lifts.saturating_mul(effort.growth);
         }
         Ok(Told::Nothing)
     }
@@ -315,7 +310,7 @@ impl<'a, S: Stop> Ladder<'a, S> {
         if !effort.with_any_adds || !self.has_many_pending || !is_counter(problem) {
             return Ok(false);
         }
-        has_none_with_any_adds(alloc, problem, self.stop)
+        is_refuted_with_any_adds(alloc, problem, &mut self.meter)
     }
 
     // Whether it shows without a search that there is no linearization, where the effort asks for that.
@@ -351,31 +346,51 @@ impl<'a, S: Stop> Ladder<'a, S> {
         }
         self.rounds(alloc, problem, &known, effort)
     }
+
+    // What is told.
+    fn told(
+        &mut self,
+        alloc: Global,
+        problem: &Problem<AnyObject>,
+        effort: &Effort,
+    ) -> Result<Told, AllocError>
+        ensures { IfOk result (IsRightOf (any_problem problem.now)) }
+    {
+        if let Keys::AtFirst(lifts) = effort.keys {
+            match told_by_key(alloc, problem, lifts, &mut self.meter)? {
+                Told::Nothing => {}
+                told => return Ok(told),
+            }
+        }
+        if !self.goes_on(Work::of_rows(problem.len())) {
+            return Ok(Told::Nothing);
+        }
+        self.told_by_all(alloc, problem, effort)
+    }
 }
 
 impl<'a, S: Stop> Decide for Ladder<'a, S> {
+    ghost has_ended = { λ l. l.meter.left.looks ≡ 0 };
+
     fn decide(
         &mut self,
         alloc: Global,
         problem: &Problem<AnyObject>,
         effort: &Effort,
-    ) -> Result<Told, AllocError> {
-        self.take(effort, effort.made);
-        if !self.may_begin(effort) {
-            return Ok(Told::Nothing);
+    ) -> Result<Decision, AllocError> {
+        if !self.goes_on(effort.made) {
+            return Ok(Decision::Stopped);
         }
-        if effort.keys == Keys::AtFirst {
-            match told_by_key(alloc, problem, self.left.lifts(), self.stop)? {
-                Told::Nothing => {}
-                told => return Ok(told),
-            }
-        }
-        self.told_by_all(alloc, problem, effort)
+        let told = self.told(alloc, problem, effort)?;
+        Ok(decision_of(told, self.meter.has_ended()))
     }
 
     fn goes_on(&mut self, work: Work) -> bool {
-        self.left = self.left.without(work);
-        self.may_search()
+        self.meter.charge(work)
+    }
+
+    fn left(&self) -> Work {
+        self.meter.left()
     }
 
     fn stand_ins(

@@ -1,20 +1,23 @@
 //! What decides a problem.
 
-ghost use Rattle.std.specs.Prelude.{IfOk};
+ghost use Rattle.std.specs.Prelude.{◌≡◌, IfOk, IsFalse};
 ghost use Rattle.lin_history.specs.Problems.AnyProblem.{any_problem};
 ghost use Rattle.lin_laws.specs.StandIns.{AreStandIns};
-ghost use Rattle.lin_search.specs.Told.{IsRightOf};
+ghost use Rattle.lin_effort.specs.Decision.{IsDecisionOf};
 
+use crate::decision::Decision;
 use crate::effort::Effort;
 use crate::work::Work;
 use lin_history::Problem;
 use lin_object::AnyObject;
-use lin_search::Told;
 use std::alloc::{AllocError, Global};
 
 /// What decides problems, with as much work as it was given, until it is stopped. A crate that asks many questions is written over
 /// it, and knows no way to an answer.
 pub trait Decide {
+    // What shows that nothing is decided any more: the work is done, or the stop has answered.
+    ghost has_ended: { Self → Type 0 };
+
     /// The least linearization of the problem; or that it has none; or nothing, where the effort, the work or the stop end it.
     /// `AllocError` where memory was refused.
     fn decide(
@@ -22,12 +25,17 @@ pub trait Decide {
         alloc: Global,
         problem: &Problem<AnyObject>,
         effort: &Effort,
-    ) -> Result<Told, AllocError>
-        ensures { IfOk result (IsRightOf (any_problem problem.now)) };
+    ) -> Result<Decision, AllocError>
+        ensures decided { IfOk result (IsDecisionOf (any_problem problem.now)) }
+        ensures stopped { IfOk result (λ decision. decision ≡ Decision.Stopped → has_ended self.new) };
 
-    /// Whether there is work left, and the stop does not answer, once so much work was done between two questions. Where it does
-    /// not go on, nothing is decided any more.
-    fn goes_on(&mut self, work: Work) -> bool;
+    /// Takes so much work, which was done between two questions: whether there is work left then, and the stop has not answered. Where
+    /// it does not go on, nothing is decided any more.
+    fn goes_on(&mut self, work: Work) -> bool
+        ensures { IsFalse result → has_ended self.new };
+
+    /// How much work there is left.
+    fn left(&self) -> Work;
 
     /// A number for each of the first calls, and 0 for the others: a run with calls up to `k` alone that has an open call whose
     /// number is greater than `k` may have each earlier call whose number is greater in its place, and has none beside it.

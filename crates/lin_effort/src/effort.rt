@@ -7,8 +7,8 @@ use crate::work::Work;
 pub enum Keys {
     /// Never.
     Never,
-    /// Before all else, with as much work as there is.
-    AtFirst,
+    /// Before all else, with so many lifts for each key at most.
+    AtFirst(u64),
     /// In each round, where nothing is known ahead.
     InRounds,
 }
@@ -33,10 +33,8 @@ pub struct Effort {
     pub rounds: usize,
     /// How many steps a search makes, for each lift, that tries pending calls only between completed ones; 0 for no such search.
     pub steps_for_a_lift: u64,
-    /// What making the problem was worth. It is charged, and so is each search.
+    /// What making the problem was worth.
     pub made: Work,
-    /// Whether searches are charged. Where they are not, whoever asks counts them by itself.
-    pub is_charged: bool,
 }
 
 impl Effort {

@@ -32,33 +32,25 @@ pub fn within(lifts: u64, limit: Option<u64>) -> u64
     }
 }
 
-/// As much work as the limit allows.
-pub fn work_within(limit: Option<u64>) -> Work {
-    match limit {
-        Some(most) => Work::of_lifts(most),
-        None => Work::ANY,
-    }
-}
-
 // ---- an object before its full search
 
 // The most lifts of a first search for each call. Where what is known ahead is enough to decide, a queue takes little more than one
 // lift for each call; where it is not, a search that goes before another is to cost little.
 const LIFTS_AHEAD: u64 = 3;
 
-/// An object of so many calls, before its full search: key by key, or a first search where something is known ahead.
-pub fn ahead(calls: usize) -> Effort {
+/// An object of so many calls, before its full search: key by key, or a first search where something is known ahead. No search makes more
+/// lifts than the limit allows.
+pub fn ahead(calls: usize, limit: Option<u64>) -> Effort {
     Effort {
         is_shown: false,
         with_any_adds: false,
-        keys: Keys::AtFirst,
-        lifts: LIFTS_AHEAD.saturating_mul(calls as u64),
+        keys: Keys::AtFirst(within(u64::MAX, limit)),
+        lifts: within(LIFTS_AHEAD.saturating_mul(calls as u64), limit),
         growth: 1,
         rounds_ahead: 1,
         rounds: 0,
         steps_for_a_lift: 0,
         made: Work::NONE,
-        is_charged: false,
     }
 }
 
@@ -192,7 +184,6 @@ pub fn order(calls: usize) -> Effort {
         rounds: ROUNDS,
         steps_for_a_lift: STEPS_FOR_A_LIFT,
         made: Work::of_problem(calls),
-        is_charged: true,
     }
 }
 
@@ -233,17 +224,18 @@ pub fn may_take_steps(problem: &Problem<AnyObject>, steps: u64) -> bool {
 
 // ---- cores
 
-// How much work a core may take, and how much more for each call of its object: enough for each part of the calls to be searched a
+// How many lifts' work a core may take, and how many more for each call of its object: enough for each part of the calls to be searched a
 // few times, and no more than a search takes that stalls.
 const CORE_WORK: u64 = 100_000;
 
 const CORE_WORK_FOR_A_CALL: u64 = 64;
 
 /// How much work is put into looking for a core among so many calls.
-pub fn core_work(calls: usize) -> u64 {
-    (calls as u64)
+pub fn core_work(calls: usize) -> Work {
+    let lifts = (calls as u64)
         .saturating_mul(CORE_WORK_FOR_A_CALL)
-        .saturating_add(CORE_WORK)
+        .saturating_add(CORE_WORK);
+    Work::of_lifts(lifts)
 }
 
 // How many lifts for each call a search of a selection may make, and how many more.
@@ -266,12 +258,13 @@ pub fn core_lifts(calls: usize) -> u64 {
         .saturating_add(CORE_LIFTS_MORE)
 }
 
-/// Whether a selection of an object's calls has no linearization, with so many lifts.
-pub fn selection(lifts: u64) -> Effort {
+/// Whether a selection of so many of an object's calls has no linearization, with so many lifts.
+pub fn selection(calls: usize, lifts: u64) -> Effort {
     Effort {
         lifts,
         rounds: 1,
         keys: Keys::Never,
-        ..ahead(0)
+        made: Work::of_problem(calls),
+        ..ahead(0, None)
     }
 }

@@ -13,12 +13,16 @@
 #![tactic(auto)]
 
 mod decide;
+mod decision;
 mod effort;
 pub mod efforts;
+mod meter;
 mod until_spent;
 mod work;
 
 pub use decide::Decide;
+pub use decision::Decision;
 pub use effort::{Effort, Keys};
+pub use meter::Meter;
 pub use until_spent::UntilSpent;
 pub use work::Work;

@@ -7,7 +7,7 @@ use lin_search::Stop;
 // What the stop answers.
 const SPENT: u64 = 0;
 
-/// A stop that answers once what decides does not go on. Nothing follows from its answer.
+/// A stop that answers once what decides does not go on. Each asking takes a lift's work.
 #[derive(Drop)]
 pub struct UntilSpent<'a, D> {
     decider: &'a mut D,
@@ -21,12 +21,12 @@ impl<'a, D: Decide> UntilSpent<'a, D> {
 }
 
 impl<'a, D: Decide> Stop for UntilSpent<'a, D> {
-    ghost tells = { λ _ _. Unit {0} };
+    ghost tells = { λ s told. D.has_ended s.decider.now };
 
     ghost follows = { λ _ _. Unit {0} };
 
     fn ask(&mut self) -> Option<u64> {
-        if self.decider.goes_on(Work::NONE) {
+        if self.decider.goes_on(Work::LIFT) {
             None
         } else {
             Some(SPENT)

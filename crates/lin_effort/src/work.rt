@@ -1,7 +1,7 @@
 //! Work, in one unit: a look at one call.
 
-ghost use Rattle.std.specs.Prelude.{◌≡◌, ◌+◌, ◌-◌, ◌*◌, ◌/◌, ◌^◌, min};
-ghost use Rattle.lin_effort.specs.declared.work.TheConstants.{LOOKS_FOR_A_LIFT, LOOKS_FOR_A_PLACE, LOOKS_FOR_A_STEP};
+ghost use Rattle.std.specs.Prelude.{◌≡◌, ◌↔◌, ◌<◌, ◌+◌, ◌-◌, ◌*◌, ◌/◌, ◌^◌, IsTrue, min};
+ghost use Rattle.lin_effort.specs.declared.work.TheConstants.{LIFTS_FOR_A_ROW, LOOKS_FOR_A_LIFT, LOOKS_FOR_A_PLACE, LOOKS_FOR_A_STEP};
 
 // How many looks at a call a lift counts as: about as long does it take.
 const LOOKS_FOR_A_LIFT: u64 = 256;
@@ -9,8 +9,17 @@ const LOOKS_FOR_A_LIFT: u64 = 256;
 // How many looks a step counts as of a search that tries pending calls only between completed ones.
 const LOOKS_FOR_A_STEP: u64 = 8;
 
+// How many looks a search makes that goes back, or passes calls over, from one asking of its stop to the next (`lin_search`).
+const LOOKS_BETWEEN_LIFTS: u64 = 4_096;
+
+// How many looks are made until a stop is asked that may read a clock: as many as 256 lifts count as.
+const LOOKS_TO_THE_CLOCK: u64 = 65_536;
+
 // How many looks it counts as to put a call into a problem that is made anew; the problem itself counts as a lift.
 const LOOKS_FOR_A_PLACE: u64 = 4;
+
+// How many lifts it counts as, for each call, to find out what the calls show ahead of a search.
+const LIFTS_FOR_A_ROW: u64 = 2;
 
 /// An amount of work. The unit is one look at one call. Sums and products that are too great for 64 bits are the greatest amount.
 #[derive(Clone, Copy, PartialEq, Eq, Debug)]
@@ -24,6 +33,26 @@ impl Work {
 
     /// More than any search makes.
     pub const ANY: Work = Work { looks: u64::MAX };
+
+    /// That of one lift.
+    pub const LIFT: Work = Work {
+        looks: LOOKS_FOR_A_LIFT,
+    };
+
+    /// That of one step of a search that tries pending calls only between completed ones.
+    pub const STEP: Work = Work {
+        looks: LOOKS_FOR_A_STEP,
+    };
+
+    // What a search does that makes no lift, from one asking of its stop to the next.
+    pub(crate) const BETWEEN_LIFTS: Work = Work {
+        looks: LOOKS_BETWEEN_LIFTS,
+    };
+
+    // What is done until a stop is asked that may read a clock: it takes some tenth of a millisecond.
+    pub(crate) const TO_THE_CLOCK: Work = Work {
+        looks: LOOKS_TO_THE_CLOCK,
+    };
 
     /// So many looks at a call.
     pub fn of_looks(looks: u64) -> Self
@@ -61,11 +90,50 @@ impl Work {
         }
     }
 
+    /// That of what is found out ahead of a search of so many calls.
+    pub fn of_rows(calls: usize) -> Self
+        ensures { result.looks ≡ min (min (calls * LIFTS_FOR_A_ROW) (2 ^ 64 - 1) * LOOKS_FOR_A_LIFT) (2 ^ 64 - 1) }
+    {
+        Work::of_lifts((calls as u64).saturating_mul(LIFTS_FOR_A_ROW))
+    }
+
     /// How many whole lifts it is worth.
     pub fn lifts(self) -> u64
         ensures { result ≡ self.looks / LOOKS_FOR_A_LIFT }
     {
         self.looks / LOOKS_FOR_A_LIFT
+    }
+
+    /// Whether it is none.
+    pub fn is_none(self) -> bool
+        ensures { IsTrue result ↔ self.looks ≡ 0 }
+    {
+        self.looks == 0
+    }
+
+    /// Whether it is less than the other.
+    pub fn is_less_than(self, other: Work) -> bool
+        ensures { IsTrue result ↔ self.looks < other.looks }
+    {
+        self.looks < other.looks
+    }
+
+    /// The lesser of the two.
+    pub fn at_most(self, other: Work) -> Self
+        ensures { result.looks ≡ min self.looks other.looks }
+    {
+        Work {
+            looks: self.looks.min(other.looks),
+        }
+    }
+
+    /// Both together.
+    pub fn and(self, other: Work) -> Self
+        ensures { result.looks ≡ min (self.looks + other.looks) (2 ^ 64 - 1) }
+    {
+        Work {
+            looks: self.looks.saturating_add(other.looks),
+        }
     }
 
     /// What is left of it without the other; none where that is more.

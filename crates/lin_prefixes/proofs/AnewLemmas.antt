@@ -6,9 +6,9 @@ use Rattle.lin_object.specs.declared.reply.Reply.{Reply}
 use Rattle.lin_object.specs.declared.state.ObjState.{ObjState}
 use Rattle.lin_history.specs.Problems.Problem.{Problem}
 use Rattle.lin_history.specs.Problems.ProblemParts.{ProblemParts}
-use Rattle.lin_search.specs.declared.told.Told.{Told}
-use Rattle.lin_search.specs.declared.told.Told.TheVariants.{Found, Refuted, Nothing}
-use Rattle.lin_search.specs.Told.{IsRightOf}
+use Rattle.lin_effort.specs.declared.decision.Decision.{Decision}
+use Rattle.lin_effort.specs.declared.decision.Decision.TheVariants.{Found, Refuted, Spent, Stopped}
+use Rattle.lin_effort.specs.Decision.{IsDecisionOf}
 use Rattle.lin_history.specs.Problems.AnyProblem.{any_problem}
 use Rattle.lin_parts.specs.Parts.{IsRising, part_of, name}
 use Rattle.lin_prefixes.specs.Prefixes.{HasNoRunWith}
@@ -30,10 +30,11 @@ module _ {Object : Type 0} (whole part : ProblemParts Object ObjState Op Reply) 
   at_part P h = subst (λ (s : ObjState). P (record (any_problem part) { start = s })) start h
 
   pub part_answer : (kept : List ℕ) → IsRising kept → length part.calls ≡ length kept → ((i : ℕ) → i < length kept → slice_get part.calls i ≡ slice_get whole.calls (slice_index kept i))
-      → (answer : Told) → IsRightOf (any_problem part) answer → IsPartAnswer (any_problem whole) kept answer
-  part_answer kept rises count same Nothing h = tt
-  part_answer kept rises count same (Found order) h = (part.calls, record { count = count; same = same; rises = rising_at kept rises }, at_part (λ p. IsRightOf p (Found order)) h)
-  part_answer kept rises count same Refuted h = (part.calls, record { count = count; same = same; rises = rising_at kept rises }, at_part (λ p. IsRightOf p Refuted) h)
+      → (answer : Decision) → IsDecisionOf (any_problem part) answer → IsPartAnswer (any_problem whole) kept answer
+  part_answer kept rises count same Spent h = tt
+  part_answer kept rises count same Stopped h = tt
+  part_answer kept rises count same (Found order) h = (part.calls, record { count = count; same = same; rises = rising_at kept rises }, at_part (λ p. IsDecisionOf p (Found order)) h)
+  part_answer kept rises count same Refuted h = (part.calls, record { count = count; same = same; rises = rising_at kept rises }, at_part (λ p. IsDecisionOf p Refuted) h)
 
-  pub loose_answer : (k : ℕ) (kept takers : List ℕ) → k < length whole.calls → IsLoosePrefix (any_problem whole) k kept takers part.calls → IsRightOf (any_problem part) Refuted → HasNoRunWith (any_problem whole) k kept
-  loose_answer k kept takers last loose h = no_run_by_loose (any_problem whole) k kept takers part.calls loose last (record { after_is = λ s process op. refl; exact = reply_same }) (at_part (λ p. IsRightOf p Refuted) h)
+  pub loose_answer : (k : ℕ) (kept takers : List ℕ) → k < length whole.calls → IsLoosePrefix (any_problem whole) k kept takers part.calls → IsDecisionOf (any_problem part) Refuted → HasNoRunWith (any_problem whole) k kept
+  loose_answer k kept takers last loose h = no_run_by_loose (any_problem whole) k kept takers part.calls loose last (record { after_is = λ s process op. refl; exact = reply_same }) (at_part (λ p. IsDecisionOf p Refuted) h)

@@ -13,11 +13,10 @@ use crate::parts_anew::{Loosened, Wanted, is_loose_prefix, made_anew};
 use crate::told_of_part::{order_of_part, told_of_part};
 use crate::untold_groups::UntoldGroups;
 use lin_effort::efforts::{bound, group};
-use lin_effort::{Decide, Effort, Work};
+use lin_effort::{Decide, Decision, Effort, Work};
 use lin_history::{Problem, ProblemEvent};
 use lin_object::AnyObject;
 use lin_parts::is_part;
-use lin_search::Told;
 use std::alloc::{AllocError, Global};
 
 // What goes on between two questions counts as so many looks at a call at least: as many as a lift.
@@ -66,12 +65,12 @@ impl<'a, D: Decide> AnewSearch<'a, D> {
         alloc: Global,
         problem: &Problem<AnyObject>,
         kept: &[usize],
-    ) -> Result<Told, AllocError>
+    ) -> Result<Decision, AllocError>
         requires { IsRising kept.now }
         ensures { IfOk result (IsPartAnswer (any_problem problem.now) kept.now) }
     {
         if !self.decider.goes_on(Work::NONE) {
-            return Ok(Told::Nothing);
+            return Ok(Decision::Stopped);
         }
         let marks = Marks::new(alloc, problem, &[], &[])?;
         let wanted = Wanted {
@@ -80,10 +79,10 @@ impl<'a, D: Decide> AnewSearch<'a, D> {
             marks: &marks,
         };
         let Some(part) = made_anew(alloc, problem, self.events.as_slice(), wanted)? else {
-            return Ok(Told::Nothing);
+            return Ok(Decision::Spent);
         };
         if !is_part(problem, kept, &part) {
-            return Ok(Told::Nothing);
+            return Ok(Decision::Spent);
         }
         let answer = order_of_part(alloc, &part, self.decider)?;
         Ok(answer)
@@ -124,9 +123,8 @@ impl<'a, D: Decide> AnewSearch<'a, D> {
         }
         let effort = effort_for(&part, calls);
         match told_of_part(alloc, &part, &effort, self.decider)? {
-            Told::Refuted => Ok(true),
-            Told::Found(_) => Ok(false),
-            Told::Nothing => Ok(false),
+            Decision::Refuted => Ok(true),
+            Decision::Found(_) | Decision::Spent | Decision::Stopped => Ok(false),
         }
     }
 }
@@ -137,7 +135,7 @@ impl<'a, D: Decide> PartSearch<AnyObject> for AnewSearch<'a, D> {
         alloc: Global,
         problem: &Problem<AnyObject>,
         kept: &[usize],
-    ) -> Result<Told, AllocError> {
+    ) -> Result<Decision, AllocError> {
         self.answer_to_part(alloc, problem, kept)
     }
 

@@ -12,10 +12,11 @@ ghost use Rattle.lin_prefixes.specs.Prefixes.{IsBeaten, IsRunWithout};
 
 use crate::call_lists::{beats, kept_calls};
 use crate::part_search::PartSearch;
+use lin_effort::Decision;
 use lin_history::{Order, Problem};
 use lin_object::{SeqObject, lawful};
 use lin_parts::{fill, with_names};
-use lin_search::{Config, Longest, Path, Told};
+use lin_search::{Config, Longest, Path};
 use std::alloc::{AllocError, Global};
 
 // Whether the call is left, and none that is left precedes it.
@@ -133,9 +134,9 @@ pub(crate) fn try_part<O: SeqObject, S: PartSearch<O>>(
     }
     let kept = kept_calls(alloc, call, dropped)?;
     let order = match search.least_of_part(alloc, problem, kept.as_slice())? {
-        Told::Found(order) => order,
-        Told::Refuted => return Ok(true),
-        Told::Nothing => return Ok(false),
+        Decision::Found(order) => order,
+        Decision::Refuted => return Ok(true),
+        Decision::Spent | Decision::Stopped => return Ok(false),
     };
     let Some(run) = full_order(alloc, kept.as_slice(), order)? else {
         return Ok(false);

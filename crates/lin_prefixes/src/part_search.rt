@@ -7,9 +7,9 @@ ghost use Rattle.lin_parts.specs.Parts.{IsRising};
 ghost use Rattle.lin_prefixes.specs.RunsTold.{IsToldOfRuns};
 ghost use Rattle.lin_prefixes.specs.PartAnswer.{IsPartAnswer};
 
+use lin_effort::Decision;
 use lin_history::Problem;
 use lin_object::SeqObject;
-use lin_search::Told;
 use std::alloc::{AllocError, Global};
 
 /// What a search tells of the runs of a call that have all of some calls.
@@ -35,7 +35,7 @@ pub trait PartSearch<O: SeqObject> {
         alloc: Global,
         problem: &Problem<O>,
         kept: &[usize],
-    ) -> Result<Told, AllocError>
+    ) -> Result<Decision, AllocError>
         requires rises { IsRising kept.now }
         requires within { (c : ℕ) → In c kept.now → c < length problem.now.calls }
         ensures { IfOk result (IsPartAnswer (problem_of O.after O.State.eq O.Reply.eq problem.now)

@@ -3,14 +3,13 @@
 ghost use Rattle.std.specs.Prelude.{IfOk, IsTrue};
 ghost use Rattle.lin_history.specs.Problems.AnyProblem.{any_problem};
 ghost use Rattle.lin_core.specs.Cores.{HasNone};
-ghost use Rattle.lin_search.specs.Told.{IsRightOf};
+ghost use Rattle.lin_effort.specs.Decision.{IsDecisionOf};
 
 use lin_core::{core_of, sum_fault_of};
 use lin_effort::efforts::{bound, core_work, order};
-use lin_effort::{Decide, Effort, UntilSpent};
+use lin_effort::{Decide, Decision, Effort, UntilSpent};
 use lin_history::Problem;
 use lin_object::{AnyObject, ObjState};
-use lin_search::Told;
 use std::alloc::{AllocError, Global};
 
 // Whether the part is one of a counter whose adds leave no room for the reply of some get.
@@ -53,20 +52,20 @@ pub(crate) fn told_of_part<D: Decide>(
     part: &Problem<AnyObject>,
     effort: &Effort,
     decider: &mut D,
-) -> Result<Told, AllocError>
-    ensures { IfOk result (IsRightOf (any_problem part.now)) }
+) -> Result<Decision, AllocError>
+    ensures { IfOk result (IsDecisionOf (any_problem part.now)) }
 {
     if has_sum_fault(alloc, part, decider)? {
-        return Ok(Told::Refuted);
+        return Ok(Decision::Refuted);
     }
     match decider.decide(alloc, part, effort)? {
-        Told::Nothing => {}
-        told => return Ok(told),
+        Decision::Spent => {}
+        decision => return Ok(decision),
     }
     if has_core(alloc, part, decider)? {
-        return Ok(Told::Refuted);
+        return Ok(Decision::Refuted);
     }
-    Ok(Told::Nothing)
+    Ok(Decision::Spent)
 }
 
 /// The same with as much effort as the least linearization is worth. Such calls are looked for before most of it: of a part that has
@@ -75,11 +74,11 @@ pub(crate) fn order_of_part<D: Decide>(
     alloc: Global,
     part: &Problem<AnyObject>,
     decider: &mut D,
-) -> Result<Told, AllocError>
-    ensures { IfOk result (IsRightOf (any_problem part.now)) }
+) -> Result<Decision, AllocError>
+    ensures { IfOk result (IsDecisionOf (any_problem part.now)) }
 {
     match told_of_part(alloc, part, &bound(part.len()), decider)? {
-        Told::Nothing => decider.decide(alloc, part, &order(part.len())),
-        told => Ok(told),
+        Decision::Spent => decider.decide(alloc, part, &order(part.len())),
+        decision => Ok(decision),
     }
 }

@@ -10,11 +10,10 @@ use crate::anew_search::AnewSearch;
 use crate::by_prefixes::longest_by_prefixes;
 use crate::only_replies::with_only_replies;
 use crate::whole_answer::WholeAnswer;
-use lin_effort::Decide;
 use lin_effort::efforts::order;
+use lin_effort::{Decide, Decision};
 use lin_history::{Order, Problem};
 use lin_object::AnyObject;
-use lin_search::Told;
 use std::alloc::{AllocError, Global};
 
 // The first of the longest runs of the problem, by its prefixes.
@@ -64,9 +63,9 @@ pub fn search_by_prefixes<D: Decide>(
     ensures { IfOk result (λ answer. IfSome answer (IsWholeAnswer (any_problem problem.now))) }
 {
     match decider.decide(alloc, problem, &order(problem.len()))? {
-        Told::Found(order) => Ok(Some(WholeAnswer::Found(order))),
-        Told::Nothing => Ok(None),
-        Told::Refuted => {
+        Decision::Found(order) => Ok(Some(WholeAnswer::Found(order))),
+        Decision::Spent | Decision::Stopped => Ok(None),
+        Decision::Refuted => {
             let run = longest_run_by_prefixes(alloc, problem, decider)?;
             Ok(run.map(WholeAnswer::Refuted))
         }

@@ -32,14 +32,14 @@ use crate::setting::Setting;
 use lin_decide::Ladder;
 use lin_effort::efforts::{
     MOST_TURNS, Turn, ahead, first_turn, is_small, makes_unseen_one, order, prefixes_at_first,
-    turn_after, work_within,
+    turn_after,
 };
-use lin_effort::{Decide, Effort, Work};
+use lin_effort::{Decide, Decision, Effort, Work};
 use lin_fewer::has_many_pending;
 use lin_history::{Order, Problem};
 use lin_object::{AnyObject, ObjState};
 use lin_prefixes::longest_run_by_prefixes;
-use lin_search::{OwnMemo, Told};
+use lin_search::OwnMemo;
 use lin_unseen::unseen_made_one;
 use lin_workers::{Gate, Patience, UntilUp, Watcher, Way};
 use std::alloc::{AllocError, AllocGlobal, Global};
@@ -73,12 +73,12 @@ fn decided<R: AllocGlobal, G: Gate, W: Watcher>(
     let mut stop = UntilUp::new(&setting.bounds);
     let mut ladder = Ladder::new(problem, work, &mut stop);
     match ladder.decide(setting.rt.alloc(), problem, effort)? {
-        Told::Found(order) => Ok(Some(order)),
-        Told::Refuted => {
+        Decision::Found(order) => Ok(Some(order)),
+        Decision::Refuted => {
             known.is_refuted = true;
             Ok(None)
         }
-        Told::Nothing => Ok(None),
+        Decision::Spent | Decision::Stopped => Ok(None),
     }
 }
 
@@ -96,8 +96,8 @@ fn order_ahead<R: AllocGlobal, G: Gate, W: Watcher>(
         return Ok(None);
     }
     setting.bounds.watcher().enter(Way::Ahead);
-    let work = work_within(setting.bounds.limit());
-    decided(setting, problem, &ahead(problem.len()), work, known)
+    let effort = ahead(problem.len(), setting.bounds.limit());
+    decided(setting, problem, &effort, Work::ANY, known)
 }
 
 // Looks for a get of a counter for whose reply the adds leave no room: in one pass over the calls, where searches may take long.

@@ -7,6 +7,7 @@ ghost use Rattle.lin_ahead.specs.Behind.{NeedsBehind, AreOtherNeeds};
 
 use crate::first::calls_in_turn::CallsInTurn;
 use crate::items::item_calls::BEYOND;
+use crate::sight::CALLS_IN_SIGHT;
 use lin_history::{NeedRows, Problem};
 use lin_object::SeqObject;
 use lin_search::Config;
@@ -41,9 +42,6 @@ pub(crate) fn needed_in_turn(alloc: Global, rows: &NeedRows) -> Result<CallsInTu
     }
     CallsInTurn::new(alloc, order, rows.by().len())
 }
-
-// How many calls in turn are looked at for another one that is not lifted.
-const CALLS_IN_SIGHT: usize = 64;
 
 /// The first call in turn that the configuration does not have, but this one.
 pub(crate) fn first_other<O: SeqObject>(

@@ -6,14 +6,11 @@ ghost use Rattle.lin_ahead.specs.First.FirstProgress.{BeginsNone};
 ghost use Rattle.lin_ahead.specs.Items.Owed.{IsPendingAnswer, HasReply, IsOwed, AreOwed};
 
 use crate::first::calls_in_turn::CallsInTurn;
+use crate::sight::CALLS_IN_SIGHT;
 use lin_history::Problem;
 use lin_object::{SeqObject, lawful};
 use lin_search::Config;
 use std::alloc::{AllocError, Global};
-
-// How many calls in turn are looked at for one that is owed a reply. Calls are lifted nearly in the order in which they are
-// owed, so it is among the first, unless many processes wait at one moment.
-const CALLS_IN_SIGHT: usize = 64;
 
 // The calls with a flag, in order.
 fn owed_in_turn(alloc: Global, owed: &[bool]) -> Result<CallsInTurn, AllocError> {

@@ -7,17 +7,12 @@ use crate::items::each_item::told_of;
 use crate::items::item_calls::BEYOND;
 use crate::items::rows::ItemsAhead;
 use crate::items::takers::{After, Wanting, is_left};
+use crate::sight::{CALLS_IN_SIGHT, MORE_IN_SIGHT};
 use indexmap::IndexMap;
 use lin_history::ProblemCall;
 use lin_object::{AnyObject, Op, Reply};
 use lin_search::Config;
 use std::alloc::{AllocError, Global};
-
-// With how many takers at most they are counted: each that is tried counts the others.
-const MOST_TAKERS: usize = 256;
-
-// How many calls more than takers are looked at.
-const MORE_CALLS_IN_SIGHT: usize = 64;
 
 /// Calls that put in lost items, those that no completed call returned with.
 #[derive(Drop)]
@@ -244,7 +239,7 @@ fn lost_flags(
 
 // Whether so many takers are counted.
 fn are_counted(takers: &[usize]) -> bool {
-    !takers.is_empty() && takers.len() <= MOST_TAKERS
+    !takers.is_empty() && takers.len() <= MORE_IN_SIGHT
 }
 
 // Whether each of so many calls is one of the takers.
@@ -386,7 +381,7 @@ impl TakerHints {
     ) -> Result<Self, AllocError> {
         Ok(TakerHints {
             alloc,
-            in_sight: takers.len().saturating_add(MORE_CALLS_IN_SIGHT),
+            in_sight: takers.len().saturating_add(CALLS_IN_SIGHT),
             takers: taker_row(alloc, calls)?,
             lost,
             behind,

@@ -5,13 +5,11 @@ use crate::first::calls_in_turn::CallsInTurn;
 use crate::items::calls::item_taken;
 use crate::queues::item_rows::{ItemRow, rows_by_call};
 use crate::queues::slots::SlotHints;
+use crate::sight::CALLS_IN_SIGHT;
 use lin_history::ProblemCall;
 use lin_object::{AnyObject, Op, Reply};
 use lin_search::Config;
 use std::alloc::{AllocError, Global};
-
-// At most so many dequeues that return before an inner one is called are looked at.
-const RETURNS_IN_SIGHT: usize = 64;
 
 // A dequeue that was called and returned within another one of its row.
 #[derive(Clone, Copy)]
@@ -172,7 +170,7 @@ impl InnerHints {
         if last < *self.taken.get(inner.row)? {
             return Some(inner.row);
         }
-        slots.row_out_before(config, inner.slots, RETURNS_IN_SIGHT, *puts.get(last)?)
+        slots.row_out_before(config, inner.slots, CALLS_IN_SIGHT, *puts.get(last)?)
     }
 
     /// What hurries an enqueue of the row, where something does.

@@ -11,14 +11,12 @@ use crate::items::each_item::told_of;
 use crate::items::rows::ItemsAhead;
 use crate::items::taker_hints::{TakerHints, TakerWalk, called_last};
 use crate::items::takers::{After, Deadline, Wanting, are_too_few, is_left};
+use crate::sight::MORE_IN_SIGHT;
 use crate::stacks::hints::StackHints;
 use crate::stacks::rows::StackAhead;
 use lin_history::{Problem, ProblemCall};
 use lin_object::{AnyObject, Items, Op, Reply};
 use std::alloc::{AllocError, Global};
-
-// How many items are looked through at most: each step copies those that are left.
-const MOST_ABOVE: usize = 256;
 
 // The items that lie above this one, where it lies there once.
 fn items_above(alloc: Global, items: &Items, item: i64) -> Result<Option<Items>, AllocError>
@@ -26,7 +24,7 @@ fn items_above(alloc: Global, items: &Items, item: i64) -> Result<Option<Items>,
 {
     let mut above = Items::none(alloc);
     let mut rest = items.copy(alloc)?;
-    for _ in 0..MOST_ABOVE {
+    for _ in 0..MORE_IN_SIGHT {
         let Some(first) = rest.first() else {
             return Ok(None);
         };
@@ -265,7 +263,7 @@ impl StackWalk {
         stack: &StackHints,
         end: Option<usize>,
     ) {
-        for _ in 0..MOST_ABOVE {
+        for _ in 0..MORE_IN_SIGHT {
             if self.push == end {
                 return;
             }

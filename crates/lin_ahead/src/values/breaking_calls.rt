@@ -6,15 +6,13 @@ ghost use Rattle.indexmap.specs.IndexMap.{index_of};
 ghost use Rattle.lin_ahead.specs.Values.PossibleOwners.{breaks};
 ghost use Rattle.lin_ahead.specs.Values.Writers.{low_by, IsFinder, IsSince};
 
+use crate::sight::MORE_IN_SIGHT;
 use crate::values::shown_values::value_found;
 use crate::values::writers::low_of;
 use indexmap::IndexMap;
 use lin_history::ProblemCall;
 use lin_object::{Op, Reply};
 use std::alloc::{AllocError, Global};
-
-// How many calls are looked at for one that breaks a value.
-const CALLS_IN_SIGHT: usize = 256;
 
 /// A completed call that found a value.
 #[derive(Clone, Copy, Debug)]
@@ -168,7 +166,7 @@ fn last_to_ask(
     event: u64,
 ) -> usize {
     let mut next = next;
-    for _ in 0..CALLS_IN_SIGHT {
+    for _ in 0..MORE_IN_SIGHT {
         let call = next.saturating_sub(1);
         match calls.get(call) {
             Some(one) if 0 < call && u64::from(one.called) > event => next = if breaks(

@@ -1,6 +1,7 @@
 //! The calls that one call alone may own, its cluster, and which clusters cross once a call has changed the state. It is a hint.
 
 use crate::items::item_calls::BEYOND;
+use crate::sight::CALLS_IN_SIGHT;
 use crate::values::call_values::CallValues;
 use crate::values::due::Due;
 use crate::values::last_breaks::LastBreaks;
@@ -8,9 +9,6 @@ use crate::values::owners::Owners;
 use crate::values::stranded::{Crossing, Parting, Stranded};
 use crate::values::taken_values::sole_owner;
 use std::alloc::{AllocError, Global};
-
-// How many calls that may write the value which is taken away are looked at.
-const WRITERS_IN_SIGHT: usize = 64;
 
 // How many events behind the first return of a call that is left they may be called.
 const EVENTS_AHEAD: u64 = 400;
@@ -337,7 +335,7 @@ impl Crossings {
         let first = due.first_left()?;
         let event = calls.get(first)?.returned.saturating_add(EVENTS_AHEAD);
         let end = self.end_of(value, event);
-        for place in (end.saturating_sub(WRITERS_IN_SIGHT)..end).rev() {
+        for place in (end.saturating_sub(CALLS_IN_SIGHT)..end).rev() {
             let written = self.written.get(place)?;
             if written.value != value {
                 return None;

@@ -1,6 +1,7 @@
 //! Which calls are due: completed calls that are not lifted, while all calls of which one wrote what they found are. All of it is
 //! a hint.
 
+use crate::sight::CALLS_IN_SIGHT;
 use crate::values::call_values::CallValues;
 use crate::values::calls_left::CallsLeft;
 use crate::values::owners::Owners;
@@ -9,9 +10,6 @@ use std::ops::Range;
 
 // So many owners of a call are never all lifted: those of a call are not known.
 const NEVER: usize = usize::MAX;
-
-// How many calls that became due last are looked at for one that is not lifted.
-const CALLS_IN_SIGHT: usize = 64;
 
 // For each call how many of its owners are not lifted, and the calls that it may own.
 #[derive(Drop)]

@@ -8,6 +8,7 @@ ghost use Rattle.lin_ahead.specs.Values.Writers.{low_by, AreInOrder, AreUnder, A
 ghost use Rattle.lin_ahead.specs.Values.Narrowing.{ShowsFound};
 ghost use Rattle.lin_ahead.specs.Values.Writers.{HasAllRows, HaveAllRows, IsFinder, IsSince, NoOwners, AreListedFrom};
 
+use crate::sight::MORE_IN_SIGHT;
 use crate::values::breaking_calls::{Finder, Sought, finder_of, look_on};
 use crate::values::shown_values::value_found;
 use crate::values::writers::{MOST_OWNERS, Writer, Writers, low_of, writes};
@@ -16,9 +17,6 @@ use lin_history::ProblemCall;
 use lin_object::{Op, Reply};
 use smallvec::SmallVec;
 use std::alloc::{AllocError, Global};
-
-// How many rows are looked at for the owners of a call.
-const MOST_STEPS: usize = 256;
 
 /// The calls of which one wrote the value that a call found, in each linearization.
 #[derive(Drop)]
@@ -143,7 +141,7 @@ fn list_owners(
         return Ok(None);
     }
     let mut sought = nothing_sought(finder);
-    for _ in 0..MOST_STEPS {
+    for _ in 0..MORE_IN_SIGHT {
         let Some(row) = row_before(writers.rows.as_slice(), finder, place) else {
             return Ok(Some(sought));
         };

@@ -9,6 +9,7 @@ ghost use Rattle.lin_ahead.specs.Values.Writers.{IsRun, AreRuns};
 ghost use Rattle.lin_ahead.specs.Values.Writers.{low_at, low_by, returned_or_beyond, HaveAllRows, AreInOrder, NoneLater, AreUnder};
 
 use crate::items::item_calls::BEYOND;
+use crate::sight::CALLS_IN_SIGHT;
 use crate::values::breaking_calls::others_before;
 use crate::values::shown_values::value_written;
 use indexmap::IndexMap;
@@ -21,9 +22,6 @@ pub(crate) const MOST_OWNERS: usize = 64;
 
 // The keys of a value that has rows begin below this.
 const MOST_LOW: u64 = 1 << 63;
-
-// How many rows are passed by links for one link.
-const LINKS_IN_SIGHT: usize = 64;
 
 // With so many rows behind the one that is sought in front of the last row of a value, it is sought by halves.
 const ROWS_AT_HAND: usize = 8;
@@ -171,7 +169,7 @@ fn first_under(rows: &[Writer], under: &[usize], place: usize) -> usize
     ensures { (result ≤ place) × NoneLater rows.now result place }
 {
     let mut first = place;
-    for _ in 0..LINKS_IN_SIGHT {
+    for _ in 0..CALLS_IN_SIGHT {
         if first == 0 || rows[first - 1].returned > rows[place].returned {
             return first;
         }

@@ -17,7 +17,7 @@ use crate::keys::orders_told::OrdersTold;
 use crate::keys::part_orders::orders_of_parts;
 use lin_history::{Order, Problem};
 use lin_object::{AnyObject, map_law, set_law};
-use lin_search::{AtTimes, Stop, Told};
+use lin_search::{Stop, Told};
 use std::alloc::{AllocError, Global};
 
 // The least linearization of the whole: the orders of the keys, merged, up to the last call that has returned.
@@ -72,7 +72,7 @@ fn told_of_orders(
 /// as a problem of its own; or that it has none, where one of them has none. Nothing is told only of a problem that does not go by
 /// key: of another kind, or that does not start empty, or where a call is no operation of the kind; and where the calls of a key
 /// have more runs than a search of them may make lifts, or the stop answered. None of these searches makes more lifts than the limit
-/// allows, where there is one; the stop is asked at each 256th lift or step of them. `AllocError` where memory was refused.
+/// allows, where there is one; the stop is asked before each lift of them. `AllocError` where memory was refused.
 ///
 /// The time is that of the searches, and O(n log n) for n calls, however many keys there are.
 pub fn search_by_key<S: Stop>(
@@ -91,7 +91,6 @@ pub fn search_by_key<S: Stop>(
     };
     let numbers = known.numbers.as_slice();
     let lists = calls_of_keys(alloc, numbers, known.keys.len())?;
-    let mut seldom = AtTimes::new(stop);
-    let orders = orders_of_parts(alloc, problem, lists.as_slice(), limit, &mut seldom)?;
+    let orders = orders_of_parts(alloc, problem, lists.as_slice(), limit, stop)?;
     told_of_orders(alloc, problem, &known, lists.as_slice(), orders)
 }

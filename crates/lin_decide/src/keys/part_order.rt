@@ -14,7 +14,7 @@ use lin_fewer::{NoRules, has_many_pending, least_linearization};
 use lin_history::{Order, Problem};
 use lin_object::{AnyObject, ObjState};
 use lin_parts::{fill, own_names, part_of};
-use lin_search::{Stop, Told, search_for_order};
+use lin_search::{AtTimes, Stop, Told, search_for_order};
 use std::alloc::{AllocError, Global};
 
 // The most lifts for each call of a part of the search that comes before anything is known ahead.
@@ -54,7 +54,7 @@ fn told_at_first<S: Stop>(
     ensures told { IfOk result (IsRightOf (any_problem part.now)) }
     ensures stop { S.follows stop.old stop.new }
 {
-    let lifts = within(ahead(part.len()).lifts, limit);
+    let lifts = ahead(part.len(), limit).lifts;
     match known_ahead(alloc, part)? {
         Some(known) => search_first(alloc, part, &known, lifts, stop),
         None => Ok(Told::Nothing),
@@ -75,7 +75,7 @@ fn told_by_blocks<S: Stop>(
         return Ok(Told::Nothing);
     }
     let steps = STEPS_FOR_A_LIFT.saturating_mul(lifts);
-    least_linearization(alloc, part, &NoRules, steps, stop)
+    least_linearization(alloc, part, &NoRules, steps, &mut AtTimes::new(stop))
 }
 
 // What these two tell: a first search where something is known ahead, and where that tells nothing, one by blocks.

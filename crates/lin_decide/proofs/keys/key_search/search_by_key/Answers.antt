@@ -28,12 +28,7 @@ returns-clause-nothing g c =
       calls = rw (c.as_slice-numbers.ensures.value, c.len.ensures.len) at c.in_ok-lists.ensures.calls;
     }))
     spent.0 spent.1 c.args.limit _ _
-    (λ n h. (
-      h.0.stop.now,
-      subst (λ s. g.S.Stop.follows s h.0.stop.now) c.new-seldom.ensures.stop h.1.1,
-      subst (λ s. g.S.Stop.follows h.0.stop.now s) (search rules) h.2.1,
-      h.3,
-    ))
+    (λ n h. h)
     spent.2)
     ))
     c.told_of_orders.ensures.nothing
