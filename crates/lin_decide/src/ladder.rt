@@ -28,8 +28,8 @@ use lin_ahead::{KnownAhead, held_until, known_ahead, search_first};
 use lin_effort::efforts::may_take_steps;
 use lin_effort::{Decide, Decision, Effort, Keys, Meter, Work};
 use lin_fewer::{SumRules, has_many_pending, is_refuted_with_any_adds, least_linearization};
-use lin_history::Problem;
-use lin_lost::without_lost;
+use lin_history::{Order, Problem};
+use lin_lost::{Remainder, without_lost};
 use lin_object::{AnyObject, ObjState, Op, Reply};
 use lin_search::{Stop, Told, search_for_order};
 use std::alloc::{AllocError, Global};
@@ -140,6 +140,20 @@ fn has_none_in_order<S: Stop>(
     match told_in_order(alloc, problem, &known, Keys::Never, lifts, stop)? {
         Told::Refuted => Ok(true),
         Told::Found(_) | Told::Nothing => Ok(false),
+    }
+}
+
+// An order of the problem, if a search finds one that goes by the order of the calls.
+fn order_of<S: Stop>(
+    alloc: Global,
+    problem: &Problem<AnyObject>,
+    lifts: u64,
+    stop: &mut S,
+) -> Result<Option<Order>, AllocError> {
+    let known = known_ahead(alloc, problem)?;
+    match told_in_order(alloc, problem, &known, Keys::Never, lifts, stop)? {
+        Told::Found(order) => Ok(Some(order)),
+        Told::Refuted | Told::Nothing => Ok(None),
     }
 }
 
@@ -267,6 +281,29 @@ impl<'a, S: Stop> Ladder<'a, S> {
             return Ok(false);
         };
         has_none_in_order(alloc, &rest, lifts, &mut self.meter)
+    }
+
+    /// Whether it shows that a queue or a stack with pending calls has a linearization, though not which is the least: from an order of what
+    /// is left of it without lost items. `AllocError` where memory was refused.
+    pub fn shows_order(
+        &mut self,
+        alloc: Global,
+        problem: &Problem<AnyObject>,
+        effort: &Effort,
+    ) -> Result<bool, AllocError>
+        ensures { IfOk result (λ shown. IsTrue shown
+            → (l : List ℕ) × IsLinearization (any_problem problem.now) l) }
+    {
+        if !self.has_pending || !self.goes_on(Work::of_rows(problem.len())) {
+            return Ok(false);
+        }
+        let Some(left) = Remainder::of(alloc, problem)? else {
+            return Ok(false);
+        };
+        match order_of(alloc, left.rest(), effort.lifts, &mut self.meter)? {
+            Some(order) => left.shows_order(alloc, problem, order.calls()),
+            None => Ok(false),
+        }
     }
 
     // What rounds tell, each of which goes several times as far as the one before.

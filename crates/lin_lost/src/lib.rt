@@ -19,9 +19,14 @@
 //! - A linearization of the rest is not always one of the whole: a lost item in front of another must be taken out first.
 #![tactic(auto)]
 
+mod guess;
+mod insertion;
 mod item_counts;
 mod laws;
+mod remainder;
 mod rest;
+mod walk;
 
 pub use laws::lost_law;
+pub use remainder::Remainder;
 pub use rest::without_lost;

@@ -110,7 +110,10 @@ fn order_or_end(
             let verdict = verdict_no(alloc, history, object, run)?;
             Ok(ControlFlow::Break(verdict))
         }
-        ObjectAnswer::Undecided => Ok(ControlFlow::Break(Verdict::Undecided { object })),
+        // Where a run is asked for, no order without its calls is an answer.
+        ObjectAnswer::Some | ObjectAnswer::Undecided => {
+            Ok(ControlFlow::Break(Verdict::Undecided { object }))
+        }
     }
 }
 
