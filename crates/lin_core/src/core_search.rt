@@ -19,8 +19,7 @@ use crate::selection::{MapKey, Selection};
 use crate::smaller::{make_smaller, needs_all, rounds_but_for, without_rounds};
 use crate::value_faults::value_faults;
 use crate::windows::{Window, suffix_core_of_calls};
-use lin_effort::{Decide, Decision, Work};
-use lin_effort::efforts::core_lifts;
+use lin_effort::{Decide, Decision};
 use lin_history::Problem;
 use lin_object::{AnyObject, ObjState};
 use std::alloc::{AllocError, Global};
@@ -350,11 +349,10 @@ fn selections_found<D: Decide>(
     alloc: Global,
     problem: &Problem<AnyObject>,
     index: CallIndex,
-    work: Work,
     decider: &mut D,
 ) -> Result<Vec<Selection>, AllocError> {
     let next = NextCalls::new(alloc, problem)?;
-    let judge = Judge::new(problem, work, decider);
+    let judge = Judge::new(problem, decider);
     let mut finder = Finder {
         problem,
         next,
@@ -376,8 +374,7 @@ fn core_of_selections<D: Decide>(
     ensures none { IfOk result (λ answer. IfSome answer (λ core. HasNone (any_problem problem.now))) }
 {
     for selection in selections {
-        let lifts = core_lifts(selection.calls.len());
-        if let Some(core) = core_of_calls(alloc, problem, selection, lifts, decider)? {
+        if let Some(core) = core_of_calls(alloc, problem, selection, decider)? {
             return Ok(Some(core));
         }
     }
@@ -400,8 +397,7 @@ fn core_of_windows<D: Decide>(
         if window.from <= first {
             continue;
         }
-        let lifts = core_lifts(window.calls.len());
-        if let Some(core) = suffix_core_of_calls(alloc, problem, window, lifts, decider)? {
+        if let Some(core) = suffix_core_of_calls(alloc, problem, window, decider)? {
             return Ok(Some(core));
         }
     }
@@ -448,8 +444,8 @@ fn core_in_gap<D: Decide>(
     Ok(late)
 }
 
-/// A core of the problem; `None` where none is found: where the problem has a linearization, and else where all that is tried with so
-/// much work finds none, or where what decides does not go on. `AllocError` where memory was refused.
+/// A core of the problem; `None` where none is found: where the problem has a linearization, and else where all that is tried with as much
+/// work as so many calls are worth finds none, or where what decides does not go on. `AllocError` where memory was refused.
 ///
 /// It looks first for a call with a reply that its operation never gives, and for two or three calls that have no linearization
 /// whatever the object held before them; then for faults as practice has them. That takes O(n log n) for n calls. Then it looks for any. What
@@ -457,7 +453,6 @@ fn core_in_gap<D: Decide>(
 pub fn core_of<D: Decide>(
     alloc: Global,
     problem: &Problem<AnyObject>,
-    work: Work,
     decider: &mut D,
 ) -> Result<Option<Core>, AllocError>
     ensures core { IfOk result (λ answer. IfSome answer (λ core.
@@ -465,8 +460,7 @@ pub fn core_of<D: Decide>(
     ensures none { IfOk result (λ answer. IfSome answer (λ core. HasNone (any_problem problem.now))) }
 {
     if let Some(odd) = odd_reply(alloc, problem)? {
-        let lifts = core_lifts(odd.calls.len());
-        return core_of_calls(alloc, problem, odd, lifts, decider);
+        return core_of_calls(alloc, problem, odd, decider);
     }
     let calls: Vec<usize> = (0..problem.len()).collect(alloc)?;
     let index = CallIndex::new(alloc, problem, calls.as_slice(), None)?;
@@ -474,7 +468,7 @@ pub fn core_of<D: Decide>(
     if has_few(&near) {
         return Ok(near);
     }
-    let selections = selections_found(alloc, problem, index, work, decider)?;
+    let selections = selections_found(alloc, problem, index, decider)?;
     let Some(core) = core_of_selections(alloc, problem, selections, decider)? else {
         return Ok(near);
     };

@@ -2,9 +2,9 @@
 //! the whole.
 
 use crate::part_anew::made_anew;
-use crate::part_search::decided_within;
+use crate::part_search::decided;
 use crate::selection::Selection;
-use lin_effort::efforts::core_lifts;
+use lin_effort::efforts::core_work;
 use lin_effort::{Decide, Decision, Work};
 use lin_history::Problem;
 use lin_object::AnyObject;
@@ -19,11 +19,11 @@ pub(crate) struct Judge<'a, 's, D> {
 }
 
 impl<'a, 's, D: Decide> Judge<'a, 's, D> {
-    /// A judge with so much work.
-    pub(crate) fn new(problem: &'a Problem<AnyObject>, work: Work, decider: &'s mut D) -> Self {
+    /// A judge with as much work as so many calls are worth.
+    pub(crate) fn new(problem: &'a Problem<AnyObject>, decider: &'s mut D) -> Self {
         Judge {
             problem,
-            work,
+            work: core_work(problem.len()),
             decider,
         }
     }
@@ -48,7 +48,7 @@ impl<'a, 's, D: Decide> Judge<'a, 's, D> {
             return Ok(Decision::Spent);
         };
         let before = self.decider.left();
-        let decision = decided_within(alloc, &part, core_lifts(calls.len()), self.decider)?;
+        let decision = decided(alloc, &part, self.decider)?;
         self.work = self.work.without(before.without(self.decider.left()));
         Ok(decision)
     }

@@ -10,14 +10,13 @@ use lin_history::Problem;
 use lin_object::AnyObject;
 use std::alloc::{AllocError, Global};
 
-/// What is decided of the part with so many lifts. `AllocError` where memory was refused.
-pub(crate) fn decided_within<D: Decide>(
+/// What is decided of the part, with as many lifts as so many calls are worth. `AllocError` where memory was refused.
+pub(crate) fn decided<D: Decide>(
     alloc: Global,
     part: &Problem<AnyObject>,
-    lifts: u64,
     decider: &mut D,
 ) -> Result<Decision, AllocError>
     ensures { IfOk result (IsDecisionOf (any_problem part.now)) }
 {
-    decider.decide(alloc, part, &selection(part.len(), lifts))
+    decider.decide(alloc, part, &selection(part.len()))
 }

@@ -18,7 +18,7 @@ use crate::key_tables::{is_on_key, may_go_by_key, may_tell};
 use crate::laws::suffix_core_law;
 use crate::part_anew::made_within;
 use crate::part_check::{is_kept, is_return_by, is_rising, same_start, same_state};
-use crate::part_search::decided_within;
+use crate::part_search::decided;
 use crate::refuted_part::Core;
 use crate::selection::{Later, MapKey};
 use crate::value_tables::{has, is_on, may_go};
@@ -349,7 +349,6 @@ fn is_refuted_from<D: Decide>(
     problem: &Problem<AnyObject>,
     window: &Window,
     start: &ObjState,
-    lifts: u64,
     decider: &mut D,
 ) -> Result<bool, AllocError>
     requires { OthersMayGo (any_problem problem.now) window.now.from window.now.event window.now.calls.items
@@ -364,7 +363,7 @@ fn is_refuted_from<D: Decide>(
     if !is_part_from(problem, window, start, &part) {
         return Ok(false);
     }
-    let decision = decided_within(alloc, &part, lifts, decider)?;
+    let decision = decided(alloc, &part, decider)?;
     Ok(decision.is_refuted())
 }
 
@@ -437,7 +436,6 @@ fn is_refuted_holding_none<D: Decide>(
     alloc: Global,
     problem: &Problem<AnyObject>,
     window: &Window,
-    lifts: u64,
     decider: &mut D,
 ) -> Result<bool, AllocError>
     requires { OthersMayGo (any_problem problem.now) window.now.from window.now.event window.now.calls.items
@@ -449,7 +447,7 @@ fn is_refuted_holding_none<D: Decide>(
     let Some(start) = state_holding_none(alloc, problem.start()) else {
         return Ok(false);
     };
-    is_refuted_from(alloc, problem, window, &start, lifts, decider)
+    is_refuted_from(alloc, problem, window, &start, decider)
 }
 
 // Whether they have none where it held this value.
@@ -458,7 +456,6 @@ fn is_refuted_holding<D: Decide>(
     problem: &Problem<AnyObject>,
     window: &Window,
     value: i64,
-    lifts: u64,
     decider: &mut D,
 ) -> Result<bool, AllocError>
     requires { OthersMayGo (any_problem problem.now) window.now.from window.now.event window.now.calls.items
@@ -470,7 +467,7 @@ fn is_refuted_holding<D: Decide>(
     let Some(start) = state_holding(alloc, &window.key, problem.start(), value)? else {
         return Ok(false);
     };
-    is_refuted_from(alloc, problem, window, &start, lifts, decider)
+    is_refuted_from(alloc, problem, window, &start, decider)
 }
 
 // Whether they have none where it held one of the values.
@@ -478,7 +475,6 @@ fn is_refuted_holding_each<D: Decide>(
     alloc: Global,
     problem: &Problem<AnyObject>,
     window: &Window,
-    lifts: u64,
     decider: &mut D,
 ) -> Result<bool, AllocError>
     requires { OthersMayGo (any_problem problem.now) window.now.from window.now.event window.now.calls.items
@@ -488,7 +484,7 @@ fn is_refuted_holding_each<D: Decide>(
         window.now.values.items window.now.calls.items (holding window.now.key problem.now.start v)) }
 {
     for i in 0..window.values.len() {
-        if !is_refuted_holding(alloc, problem, window, window.values[i], lifts, decider)? {
+        if !is_refuted_holding(alloc, problem, window, window.values[i], decider)? {
             return Ok(false);
         }
     }
@@ -536,7 +532,6 @@ fn is_refuted_anyhow<D: Decide>(
     alloc: Global,
     problem: &Problem<AnyObject>,
     window: &Window,
-    lifts: u64,
     decider: &mut D,
 ) -> Result<bool, AllocError>
     requires { OthersMayGo (any_problem problem.now) window.now.from window.now.event window.now.calls.items
@@ -550,13 +545,13 @@ fn is_refuted_anyhow<D: Decide>(
     let Some(other) = other_than(window.values.as_slice()) else {
         return Ok(false);
     };
-    if !is_refuted_holding_none(alloc, problem, window, lifts, decider)? {
+    if !is_refuted_holding_none(alloc, problem, window, decider)? {
         return Ok(false);
     }
-    if !is_refuted_holding(alloc, problem, window, other, lifts, decider)? {
+    if !is_refuted_holding(alloc, problem, window, other, decider)? {
         return Ok(false);
     }
-    is_refuted_holding_each(alloc, problem, window, lifts, decider)
+    is_refuted_holding_each(alloc, problem, window, decider)
 }
 
 // Whether the calls of the window are a core; not where what decides does not go on.
@@ -564,7 +559,6 @@ fn is_suffix_core<D: Decide>(
     alloc: Global,
     problem: &Problem<AnyObject>,
     window: &Window,
-    lifts: u64,
     decider: &mut D,
 ) -> Result<bool, AllocError>
     ensures { IfOk result (λ yes. IsTrue yes → IsSuffixCore (any_problem problem.now) window.now.from
@@ -583,17 +577,16 @@ fn is_suffix_core<D: Decide>(
     ) {
         return Ok(false);
     }
-    is_refuted_anyhow(alloc, problem, window, lifts, decider)
+    is_refuted_anyhow(alloc, problem, window, decider)
 }
 
 /// The core of the calls of this window, if they are one: alone they have no linearization, whatever the object held right before
-/// it. `None` where they are none, or where that is not known: where a search of them would take more lifts, or what decides does not go on.
+/// it. `None` where they are none, or where that is not known: where a search of them ends with nothing, or what decides does not go on.
 /// `AllocError` where memory was refused.
 pub fn suffix_core_of_calls<D: Decide>(
     alloc: Global,
     problem: &Problem<AnyObject>,
     window: Window,
-    lifts: u64,
     decider: &mut D,
 ) -> Result<Option<Core>, AllocError>
     ensures asked { IfOk result (λ answer. IfSome answer (λ core. (core.from ≡ Some window.from)
@@ -604,7 +597,7 @@ pub fn suffix_core_of_calls<D: Decide>(
     ensures none { IfOk result (λ answer. IfSome answer (λ core. HasNone (any_problem problem.now))) }
 {
     suffix_core_law(problem);
-    if !is_suffix_core(alloc, problem, &window, lifts, decider)? {
+    if !is_suffix_core(alloc, problem, &window, decider)? {
         return Ok(None);
     }
     let Window {

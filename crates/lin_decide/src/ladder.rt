@@ -223,14 +223,7 @@ impl<'a, S: Stop> Ladder<'a, S> {
     {
         match self.told_by_blocks(alloc, problem, effort, lifts)? {
             Told::Nothing => {
-                told_in_order(
-                    alloc,
-                    problem,
-                    known,
-                    effort.keys,
-                    lifts,
-                    &mut self.meter,
-                )
+                told_in_order(alloc, problem, known, effort.keys, lifts, &mut self.meter)
             }
             told => Ok(told),
         }
@@ -251,14 +244,7 @@ impl<'a, S: Stop> Ladder<'a, S> {
         if is_counter(problem) {
             return self.told_of_counter(alloc, problem, known, effort, lifts);
         }
-        match told_in_order(
-            alloc,
-            problem,
-            known,
-            effort.keys,
-            lifts,
-            &mut self.meter,
-        )? {
+        match told_in_order(alloc, problem, known, effort.keys, lifts, &mut self.meter)? {
             Told::Nothing => self.told_by_blocks(alloc, problem, effort, lifts),
             told => Ok(told),
         }

@@ -34,18 +34,17 @@ pub fn within(lifts: u64, limit: Option<u64>) -> u64
 
 // ---- an object before its full search
 
-// The most lifts of a first search for each call. Where what is known ahead is enough to decide, a queue takes little more than one
-// lift for each call; where it is not, a search that goes before another is to cost little.
-const LIFTS_AHEAD: u64 = 3;
-
 /// An object of so many calls, before its full search: key by key, or a first search where something is known ahead. No search makes more
 /// lifts than the limit allows.
+///
+/// A first search makes three lifts for each call: where what is known ahead is enough to decide, a queue takes little more than one; where
+/// it is not, a search that goes before another is to cost little.
 pub fn ahead(calls: usize, limit: Option<u64>) -> Effort {
     Effort {
         is_shown: false,
         with_any_adds: false,
         keys: Keys::AtFirst(within(u64::MAX, limit)),
-        lifts: within(LIFTS_AHEAD.saturating_mul(calls as u64), limit),
+        lifts: within((calls as u64).saturating_mul(3), limit),
         growth: 1,
         rounds_ahead: 1,
         rounds: 0,
@@ -81,9 +80,6 @@ const LIFTS_BY_PREFIXES: u64 = 32;
 // known that there is no linearization they make all of them in the first turn: the full search would have every configuration to
 // go through in its next one.
 const MOST_BY_PREFIXES: u64 = 1_000;
-
-/// How many turns there are at most: as often as a number of lifts can be doubled.
-pub const MOST_TURNS: u32 = 64;
 
 /// How far the ways go in one turn: how many lifts the full search makes, and searches of prefixes.
 #[derive(Clone, Copy, Debug)]
@@ -151,57 +147,43 @@ pub fn turn_after(problem: &Problem<AnyObject>, prefixes: u64, limit: Option<u64
 
 // ---- prefixes, and other parts that are made anew
 
-// How many lifts for each call a search may make at first, and how many times as many each time that it says nothing.
-const FIRST_LIFTS: u64 = 2;
-
-const GROWTH: u64 = 4;
-
-// How often it is made at most. Where only a bound is asked for, seldom: without it more parts are searched, but each of those
-// shows more. Of a group of calls, where something is known ahead, once: mostly that alone shows that no run has them all, and
-// the search begins only where it does not.
-const ROUNDS: usize = 16;
-
-const ROUNDS_FOR_A_BOUND: usize = 2;
-
-const ROUNDS_FOR_A_GROUP: usize = 1;
-
 /// How many steps a search makes that tries pending calls only between completed ones (`lin_fewer`), for each lift of another that goes
 /// beside it. A step takes about a quarter of the time of a lift, and such a search mostly takes fewer.
 pub const STEPS_FOR_A_LIFT: u64 = 16;
 
-// How many times as many it makes for a bound or a group: these have few rounds, and what they tell saves many others.
-const TIMES_FOR_A_BOUND: u64 = 4;
-
-/// The least linearization of a problem of so many calls.
+/// The least linearization of a problem of so many calls: a search makes two lifts for each call at first, and four times as many each time
+/// that it says nothing, until the work is done.
 pub fn order(calls: usize) -> Effort {
     Effort {
         is_shown: true,
         with_any_adds: true,
         keys: Keys::InRounds,
-        lifts: FIRST_LIFTS.saturating_mul(calls as u64),
-        growth: GROWTH,
-        rounds_ahead: ROUNDS,
-        rounds: ROUNDS,
+        lifts: (calls as u64).saturating_mul(2),
+        growth: 4,
+        rounds_ahead: usize::MAX,
+        rounds: usize::MAX,
         steps_for_a_lift: STEPS_FOR_A_LIFT,
         made: Work::of_problem(calls),
     }
 }
 
-/// Whether a call has no run with all that precedes it.
+/// Whether a call has no run with all that precedes it. A search is made twice at most: without the answer more parts are searched, but each
+/// of those shows more. For the same reason one by blocks goes four times as far: it has few rounds.
 pub fn bound(calls: usize) -> Effort {
     Effort {
-        rounds_ahead: ROUNDS_FOR_A_BOUND,
-        rounds: ROUNDS_FOR_A_BOUND,
-        steps_for_a_lift: STEPS_FOR_A_LIFT * TIMES_FOR_A_BOUND,
+        rounds_ahead: 2,
+        rounds: 2,
+        steps_for_a_lift: 4 * STEPS_FOR_A_LIFT,
         ..order(calls)
     }
 }
 
-/// Whether it has none that has a group of other calls, too. Mostly it has one, so a counter is not asked about any adds.
+/// Whether it has none that has a group of other calls, too. Mostly it has one, so a counter is not asked about any adds. Where something is
+/// known ahead a search is made once: mostly that alone shows that no run has them all, and the search begins only where it does not.
 pub fn group(calls: usize) -> Effort {
     Effort {
         with_any_adds: false,
-        rounds_ahead: ROUNDS_FOR_A_GROUP,
+        rounds_ahead: 1,
         ..bound(calls)
     }
 }
@@ -224,44 +206,25 @@ pub fn may_take_steps(problem: &Problem<AnyObject>, steps: u64) -> bool {
 
 // ---- cores
 
-// How many lifts' work a core may take, and how many more for each call of its object: enough for each part of the calls to be searched a
-// few times, and no more than a search takes that stalls.
-const CORE_WORK: u64 = 100_000;
-
-const CORE_WORK_FOR_A_CALL: u64 = 64;
-
-/// How much work is put into looking for a core among so many calls.
+/// How much work is put into looking for a core among so many calls: enough for some fifty searches of all calls, each of which takes
+/// three or four lifts for each call, and no more than a search takes that stalls.
 pub fn core_work(calls: usize) -> Work {
-    let lifts = (calls as u64)
-        .saturating_mul(CORE_WORK_FOR_A_CALL)
-        .saturating_add(CORE_WORK);
-    Work::of_lifts(lifts)
+    Work::of_lifts((calls as u64).saturating_mul(192).saturating_add(100_000))
 }
 
-// How many lifts for each call a search of a selection may make, and how many more.
-const CORE_LIFTS_FOR_A_CALL: u64 = 16;
-
-const CORE_LIFTS_MORE: u64 = 256;
-
-// How many lifts a search of a few calls may make: as many as all sets of these calls have, each with a few states.
-const FEW_CALLS: usize = 12;
-
-const LIFTS_FOR_FEW: u64 = 65_536;
-
-/// How many lifts the search of so many calls of an object may make.
-pub fn core_lifts(calls: usize) -> u64 {
-    if calls <= FEW_CALLS {
-        return LIFTS_FOR_FEW;
+// How many lifts the search of a selection of so many calls may make: of a few calls as many as all sets of these calls have, each with a
+// few states; of more a few for each call.
+fn core_lifts(calls: usize) -> u64 {
+    match calls {
+        0..=12 => 65_536,
+        _ => (calls as u64).saturating_mul(16).saturating_add(256),
     }
-    (calls as u64)
-        .saturating_mul(CORE_LIFTS_FOR_A_CALL)
-        .saturating_add(CORE_LIFTS_MORE)
 }
 
-/// Whether a selection of so many of an object's calls has no linearization, with so many lifts.
-pub fn selection(calls: usize, lifts: u64) -> Effort {
+/// Whether a selection of so many of an object's calls has no linearization.
+pub fn selection(calls: usize) -> Effort {
     Effort {
-        lifts,
+        lifts: core_lifts(calls),
         rounds: 1,
         keys: Keys::Never,
         made: Work::of_problem(calls),

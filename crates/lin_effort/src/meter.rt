@@ -5,8 +5,8 @@ ghost use Rattle.std.specs.Prelude.{◌≡◌, ◌⊎◌, ◌↔◌, ◌<◌, �
 use crate::work::Work;
 use lin_search::Stop;
 
-// What the meter answers.
-const ENDED: u64 = 0;
+/// What a stop answers where no work is left.
+pub(crate) const ENDED: u64 = 0;
 
 /// Counts work, and is the stop of all that does it: each time that it is asked it takes the work of a lift, or of what else is done
 /// from one asking to the next. It answers once no work is left, or once the stop below it has answered, which is asked now and then; from

@@ -1,11 +1,9 @@
 //! The stop of what is done between two questions.
 
 use crate::decide::Decide;
+use crate::meter::ENDED;
 use crate::work::Work;
 use lin_search::Stop;
-
-// What the stop answers.
-const SPENT: u64 = 0;
 
 /// A stop that answers once what decides does not go on. Each asking takes a lift's work.
 #[derive(Drop)]
@@ -29,7 +27,7 @@ impl<'a, D: Decide> Stop for UntilSpent<'a, D> {
         if self.decider.goes_on(Work::LIFT) {
             None
         } else {
-            Some(SPENT)
+            Some(ENDED)
         }
     }
 

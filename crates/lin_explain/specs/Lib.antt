@@ -1,3 +1,4 @@
+pub mod CallText
 pub mod Explanation
 pub mod FirstReturn
 pub mod StateText

@@ -5,6 +5,7 @@ ghost use Rattle.std.specs.Option.{option_and_then};
 ghost use Rattle.lin_explain.specs.CoreText.{key_on, key_at, is_key, is_on_key, core_key, on_key_text, core_head, holder_text, whatever_text, unless_pending, core_line, core_line_of, core_lines, event_of, last_event_of, later, last_event};
 ghost use Rattle.lin_explain.specs.WitnessText.{core_text};
 
+use crate::call_text::push_call;
 use crate::explanation_text::key_of;
 use crate::last_line::write_others_since;
 use crate::touching_text::{line_of, write_recorded};
@@ -155,9 +156,8 @@ fn write_call(
     ensures { OnOk result (string_bytes out.new
         ≡ string_bytes out.old ++ core_line name.now lines.now is_pending call.now) }
 {
-    let process = call.process;
-    let op = call.op;
-    write!(out, "  {process} {name} {op}")?;
+    out.push_str("  ")?;
+    push_call(out, call.process, name, &call.op)?;
     let returned = unless_pending(is_pending, &call.returned);
     write_recorded(out, lines, call.called, &returned)?;
     out.push_str("\n")

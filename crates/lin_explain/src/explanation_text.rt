@@ -2,6 +2,7 @@
 ghost use Rattle.std.specs.Prelude.{◌≡◌, ◌++◌, [], slice_get, string_bytes, IfOk, OnOk};
 ghost use Rattle.lin_explain.specs.ExplanationText.{key_of, with_key, with_asked, keys_with, answer_text, state_line, next_line, next_line_of, lines_of, next_lines, explanation_text};
 
+use crate::call_text::push_call;
 use crate::explanation::NextCall;
 use crate::state_text::{items_in, write_state};
 use crate::touching_text::{ShownRun, write_known_of, write_recorded};
@@ -96,9 +97,8 @@ fn write_next(
     ensures { OnOk result (string_bytes out.new
         ≡ string_bytes out.old ++ next_line name.now lines.now call.now answer) }
 {
-    let process = call.process;
-    let op = call.op;
-    write!(out, "next {process} {name} {op}")?;
+    out.push_str("next ")?;
+    push_call(out, call.process, name, &call.op)?;
     write_recorded(out, lines, call.called, &call.returned)?;
     write_answer(out, answer)
 }

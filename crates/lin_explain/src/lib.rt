@@ -6,6 +6,7 @@
 //! - `state_text`, `touching_text`: how a state and such calls are shown.
 //! - `explanation_text`: how an explanation is shown.
 //! - `run_explained`: the same of the run of an object of a history.
+//! - `call_text`: the parts that lines of calls share.
 //! - `core_text`: how calls are shown that alone have no order; `last_line`: the line below them; `sums_text`: how a get of a counter is shown for whose reply its
 //!   adds leave no room; `witness_text`: whichever of both is known.
 //!
@@ -26,6 +27,7 @@
 //!   still there.
 #![tactic(auto)]
 
+mod call_text;
 mod core_text;
 mod explanation;
 mod explanation_text;
@@ -38,6 +40,7 @@ mod touching;
 mod touching_text;
 mod witness_text;
 
+pub use call_text::{push_call, push_number};
 pub use core_text::CoreCall;
 pub use explanation::{Explanation, NextCall, explain};
 pub use explanation_text::write_explanation;

@@ -3,10 +3,11 @@ ghost use Rattle.std.specs.Prelude.{◌≡◌, ◌++◌, slice_get, string_bytes
 ghost use Rattle.std.specs.List.{list_any};
 ghost use Rattle.lin_explain.specs.TouchingText.{line_of, recorded_text, place_text, about_line, about_line_of, did_text, is_in_run, is_put, touch_lines, no_pair_line, no_put_line, no_put_lines, more_line, touches_text, asked_text, held_text, holder_text, known_text, known_text_of};
 
+use crate::call_text::push_number;
 use crate::state_text::front;
 use crate::touching::{Asked, Touch, Touching, asked_in, held_since, touches};
 use lin_history::ProblemCall;
-use lin_object::{ObjState, Op, Reply};
+use lin_object::{ObjState, Op, Reply, push_op, push_reply};
 use std::alloc::{AllocError, Global};
 
 /// The most calls that are shown below one that could come next.
@@ -52,10 +53,19 @@ pub(crate) fn write_recorded(
     let called = line_of(lines, called);
     match returned {
         Some((number, reply)) => {
-            let returned = line_of(lines, *number);
-            write!(out, " = {reply} (lines {called} and {returned})")
+            out.push_str(" = ")?;
+            push_reply(out, reply)?;
+            out.push_str(" (lines ")?;
+            push_number(out, called)?;
+            out.push_str(" and ")?;
+            push_number(out, line_of(lines, *number))?;
+            out.push_str(")")
         }
-        None => write!(out, " (line {called})"),
+        None => {
+            out.push_str(" (line ")?;
+            push_number(out, called)?;
+            out.push_str(")")
+        }
     }
 }
 
@@ -81,9 +91,12 @@ fn write_about(
     ensures { OnOk result (string_bytes out.new
         ≡ string_bytes out.old ++ about_line lines.now did.now in_run call.now) }
 {
-    let process = call.process;
-    let op = call.op;
-    write!(out, "  {did} by {process}: {op}")?;
+    out.push_str("  ")?;
+    out.push_str(did)?;
+    out.push_str(" by ")?;
+    push_number(out, call.process as u64)?;
+    out.push_str(": ")?;
+    push_op(out, &call.op)?;
     write_recorded(out, lines, call.called, &call.returned)?;
     out.push_str(place_text(in_run))
 }

@@ -2,6 +2,7 @@
 pub mod EventLemmas
 pub mod OutcomeLemmas
 pub mod ObjectLemmas
+pub mod NamedAtLemmas
 pub mod NextEventLemmas
 pub mod BuilderLemmas
 pub mod KeptLemmas

@@ -3,7 +3,7 @@
 //! - `object`: the trait `SeqObject`, which the search is generic over, and its laws.
 //! - `any`: `AnyObject`, the object that the checker judges histories by. It lists the kinds.
 //! - `kinds`: a file for each kind, with its operations by name and what each of them does.
-//! - `kind`, `op`, `reply`, `state`: what declarations, calls and returns are made of.
+//! - `kind`, `op`, `reply`, `state`: what declarations, calls and returns are made of; `printed`: how operations and replies are shown.
 //! - `step_tables`: which operations look at the process, and which calls change nothing.
 //! - `step_back`: what takes a step back that was made on a state in place.
 //! - `items`: the items that queues, stacks and sets hold.
@@ -13,8 +13,8 @@
 //! `proofs/kinds` shows that the table keeps the law. Another kind is one file in each of the
 //! three, and a line in each list of the kinds.
 //!
-//! What it promises the crates above, by the contracts of `AnyObject::step`, `read_op`, `write_op`, `write_reply`, `SeqObject`,
-//! `lawful`, `queue_law` and its six sisters:
+//! What it promises the crates above, by the contracts of `AnyObject::step`, `read_op`, `write_op`, `write_reply`, `push_op`,
+//! `push_reply`, `SeqObject`, `lawful`, `queue_law` and its six sisters:
 //!
 //! - A sequential object is a trait, `SeqObject`. A partial function `after` says what `step` answers: the next state and the
 //!   reply, or that there is no step. Its laws: the equalities of objects, states, operations and replies are equivalences; equal
@@ -54,6 +54,7 @@ mod kinds;
 mod object;
 mod op;
 mod pairs;
+mod printed;
 mod reply;
 mod state;
 mod step_back;
@@ -72,6 +73,7 @@ pub use kinds::stack::stack_law;
 pub use object::{SeqObject, SharedObject, lawful};
 pub use op::{Op, OpFault, is_op, read_op, write_op};
 pub use pairs::{Pair, Pairs};
+pub use printed::{push_op, push_reply};
 pub use reply::{Reply, write_reply};
 pub use state::{ObjState, start_state};
 pub use step_back::{Change, StepBack};

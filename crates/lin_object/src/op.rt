@@ -61,7 +61,7 @@ pub enum OpFault {
 
 impl Op {
     // The name by which calls and reports have the operation.
-    fn name(&self) -> &'static str
+    pub(crate) fn name(&self) -> &'static str
         ensures { result.now ≡ op_name self.now }
     {
         match self {

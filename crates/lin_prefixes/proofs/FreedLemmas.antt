@@ -8,21 +8,11 @@ use Rattle.lin_history.specs.Problems.Problem.{Problem}
 use Rattle.lin_history.specs.Problems.Lists.{In, IsDistinct}
 use Rattle.lin_history.specs.Problems.ListLemmas.{in_early, in_late, in_either, in_place}
 use Rattle.lin_history.specs.Problems.LegalLists.{Legal}
+use Rattle.lin_history.specs.Locality.OrderLemmas.{KeepsTime}
 use Rattle.lin_laws.specs.Items.{AddsItem}
 use Rattle.lin_prefixes.proofs.ItemStepLemmas.{HoldsItems}
 use Rattle.lin_prefixes.proofs.LackLemmas.{in_or_not}
-use Rattle.lin_prefixes.specs.Freed.{IsFreed, IsThinned, TookOut}
-
-split_place : (xs ys early : List ℕ) (b : ℕ) (late : List ℕ) → xs ++ ys ≡ early ++ b ∷ late → ((more : List ℕ) × (early ≡ xs ++ more) × (ys ≡ more ++ b ∷ late)) ⊎ ((more : List ℕ) × (xs ≡ early ++ b ∷ more))
-split_place [] ys early b late e = inl (early, refl, e)
-split_place (x ∷ xs) ys [] b late e = inr (xs, (let h : x ≡ b = cc in ap (λ (c : ℕ). c ∷ xs) h))
-split_place (x ∷ xs) ys (z ∷ early) b late e =
-    let h : x ≡ z = cc in
-    let tail : xs ++ ys ≡ early ++ b ∷ late = cc in
-    elim (split_place xs ys early b late tail) [
-      | inl q ↦ (let f = q.1 in inl (q.0, cc, q.2))
-      | inr q ↦ (let f = q.1 in inr (q.0, cc))
-    ]
+use Rattle.lin_prefixes.specs.Freed.{IsFreed, TookOut}
 
 -- what stands in a list stands in it with one call more
 in_with : (a x : ℕ) (xs ys : List ℕ) → In a (xs ++ ys) → In a (xs ++ x ∷ ys)
@@ -38,7 +28,18 @@ distinct_without x (z ∷ xs) ys d =
     let more = distinct_without x xs ys d.1 in
     (((λ h. d.0 (in_with z x xs ys h)), more.0), λ h. elim h [ inl e ↦ d.0 (subst (λ (c : ℕ). In c (xs ++ x ∷ ys)) e (in_late x xs (x ∷ ys) (inl refl))) | inr k ↦ more.1 k ])
 
+-- The list has the calls of the run in their order, but for some that are freed.
+pub record IsThinned (p : Problem ObjState Op Reply) (takers : List ℕ) (r l : List ℕ) : Type 0 where
+  pub distinct : IsDistinct l
+  pub inside : (b : ℕ) → In b l → In b r
+  pub left : (b : ℕ) → In b r → In b l ⊎ IsFreed p takers b
+  pub time : KeepsTime p l
+
 module _ (p : Problem ObjState Op Reply) (takers r : List ℕ) where
+  keeps_without : (xs : List ℕ) (x : ℕ) (ys : List ℕ) → KeepsTime p (xs ++ x ∷ ys) → KeepsTime p (xs ++ ys)
+  keeps_without [] x ys k = k.1
+  keeps_without (z ∷ xs) x ys k = ((λ d h. k.0 d (elim h [ inl e ↦ inl e | inr more ↦ inr (in_with d x xs ys more) ])), keeps_without xs x ys k.1)
+
   -- one freed call less
   thinned_without : (xs : List ℕ) (x : ℕ) (ys : List ℕ) → IsFreed p takers x → IsThinned p takers r (xs ++ x ∷ ys) → IsThinned p takers r (xs ++ ys)
   thinned_without xs x ys freed k = record {
@@ -48,13 +49,7 @@ module _ (p : Problem ObjState Op Reply) (takers r : List ℕ) where
       | inl there ↦ elim (in_without b x xs ys there) [ inl still ↦ inl still | inr e ↦ inr (subst (λ (c : ℕ). IsFreed p takers c) (sym e) freed) ]
       | inr out ↦ inr out
     ];
-    ordered = λ early b late e a before. elim (split_place xs ys early b late e) [
-      | inl q ↦ elim (k.ordered (xs ++ x ∷ q.0) b late (ap (λ (l : List ℕ). xs ++ x ∷ l) q.2 ∙ sym (append_assoc xs (x ∷ q.0) (b ∷ late))) a before) [
-        | inl there ↦ elim (in_without a x xs q.0 there) [ inl still ↦ inl (subst (λ (l : List ℕ). In a l) (sym q.1) still) | inr same ↦ inr (subst (λ (c : ℕ). IsFreed p takers c) (sym same) freed) ]
-        | inr out ↦ inr out
-      ]
-      | inr q ↦ k.ordered early b (q.0 ++ x ∷ ys) (ap (λ (l : List ℕ). l ++ x ∷ ys) q.1 ∙ append_assoc early (b ∷ q.0) (x ∷ ys)) a before
-    ];
+    time = keeps_without xs x ys k.time;
   }
 
 -- ---- legal lists

@@ -130,7 +130,7 @@ module _ {p : Problem ObjState Op Reply} (exact : IsExact p) where
       go (Some x) e = (x, e)
       go None e = absurd (let f = rw e at step in cc)
 
-  answered : (s m : ObjState) (c : ℕ) (x : ProblemCall Op Reply) → slice_get p.calls c ≡ Some x → next p s c ≡ Some m → (r : Reply) × Is (after s x.process x.op) m r × (fits p.same_reply r x.returned ≡ true)
+  pub answered : (s m : ObjState) (c : ℕ) (x : ProblemCall Op Reply) → slice_get p.calls c ≡ Some x → next p s c ≡ Some m → (r : Reply) × Is (after s x.process x.op) m r × (fits p.same_reply r x.returned ≡ true)
   answered s m c x e step =
       let step' : state_if_fits p.same_reply x.returned (p.after s x.process x.op) ≡ Some m = rw e at step in
       let k = fits_some p.same_reply (p.after s x.process x.op) x.returned m step' in

@@ -7,6 +7,6 @@ pub mod LackLemmas
 pub mod WalkLemmas
 pub mod ItemStepLemmas
 pub mod FreedLemmas
-pub mod LooseLemmas
+pub mod QuestionLemmas
 pub mod AnewLemmas
 pub mod OnlyReplyLemmas

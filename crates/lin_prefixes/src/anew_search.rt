@@ -1,22 +1,21 @@
 //! Searches of parts made anew, by whatever decides problems.
-ghost use Rattle.std.specs.Prelude.{◌<◌, ℕ, IfOk, IsTrue, length};
+ghost use Rattle.std.specs.Prelude.{◌<◌, IfOk, length};
 ghost use Rattle.lin_history.specs.Problems.AnyProblem.{any_problem};
-ghost use Rattle.lin_parts.specs.Parts.{IsRising};
-ghost use Rattle.lin_prefixes.specs.Prefixes.{HasNoRunWith};
+ghost use Rattle.lin_parts.specs.Parts.{AreSomeCalls};
+ghost use Rattle.lin_prefixes.specs.RunsTold.{IsToldOfRuns};
 ghost use Rattle.lin_prefixes.specs.PartAnswer.{IsPartAnswer};
 
-use crate::call_lists::kept_calls;
+use crate::asked_groups::AskedGroups;
 use crate::marks::Marks;
 use crate::open_takers::open_takers;
 use crate::part_search::{PartSearch, RunsTold};
-use crate::parts_anew::{Loosened, Wanted, is_loose_prefix, made_anew};
+use crate::question::{Question, part_for};
 use crate::told_of_part::{order_of_part, told_of_part};
-use crate::untold_groups::UntoldGroups;
 use lin_effort::efforts::{bound, group};
 use lin_effort::{Decide, Decision, Effort, Work};
-use lin_history::{Problem, ProblemEvent};
+use lin_history::Problem;
 use lin_object::AnyObject;
-use lin_parts::is_part;
+use lin_parts::part_of;
 use std::alloc::{AllocError, Global};
 
 // What goes on between two questions counts as so many looks at a call at least: as many as a lift.
@@ -32,31 +31,25 @@ fn effort_for(part: &Problem<AnyObject>, calls: &[usize]) -> Effort {
 }
 
 // About how many looks at a call it takes to find a group that has these calls.
-fn looks_at(untold: &UntoldGroups, calls: &[usize]) -> u64 {
-    (untold.len() as u64).saturating_mul(calls.len() as u64)
+fn looks_at(asked: &AskedGroups, calls: &[usize]) -> u64 {
+    (asked.len() as u64).saturating_mul(calls.len() as u64)
 }
 
-/// Searches of parts of a problem of the seven kinds, each made anew and then decided as any problem is. A group of calls of which
-/// nothing was told is not asked of again. Once there is no work left or the stop answers, they say nothing.
+/// Searches of parts of a problem of the seven kinds, each made anew and then decided as any problem is. A group of calls is not
+/// asked of twice. Once there is no work left or the stop answers, they say nothing.
 #[derive(Drop)]
 pub(crate) struct AnewSearch<'a, D> {
-    events: Vec<ProblemEvent>,
-    untold: UntoldGroups,
+    asked: AskedGroups,
     decider: &'a mut D,
 }
 
 impl<'a, D: Decide> AnewSearch<'a, D> {
-    // Searches of parts of this problem. Of another problem they say nothing.
-    pub(crate) fn new(
-        alloc: Global,
-        problem: &Problem<AnyObject>,
-        decider: &'a mut D,
-    ) -> Result<Self, AllocError> {
-        Ok(AnewSearch {
-            events: problem.timeline(alloc)?,
-            untold: UntoldGroups::new(alloc),
+    // Searches of parts of problems.
+    pub(crate) fn new(alloc: Global, decider: &'a mut D) -> Self {
+        AnewSearch {
+            asked: AskedGroups::new(alloc),
             decider,
-        })
+        }
     }
 
     // What is told of the problem of these calls.
@@ -66,65 +59,43 @@ impl<'a, D: Decide> AnewSearch<'a, D> {
         problem: &Problem<AnyObject>,
         kept: &[usize],
     ) -> Result<Decision, AllocError>
-        requires { IsRising kept.now }
+        requires { AreSomeCalls (any_problem problem.now) kept.now }
         ensures { IfOk result (IsPartAnswer (any_problem problem.now) kept.now) }
     {
         if !self.decider.goes_on(Work::NONE) {
             return Ok(Decision::Stopped);
         }
-        let marks = Marks::new(alloc, problem, &[], &[])?;
-        let wanted = Wanted {
-            calls: kept,
-            until: u64::MAX,
-            marks: &marks,
-        };
-        let Some(part) = made_anew(alloc, problem, self.events.as_slice(), wanted)? else {
-            return Ok(Decision::Spent);
-        };
-        if !is_part(problem, kept, &part) {
-            return Ok(Decision::Spent);
-        }
+        let part = part_of(alloc, problem, kept)?;
         let answer = order_of_part(alloc, &part, self.decider)?;
         Ok(answer)
     }
 
-    // Whether it is known that the call has no run with these calls.
-    fn has_none_with(
+    // What the question of the runs of the call that have these calls tells.
+    fn told_of_runs(
         &mut self,
         alloc: Global,
         problem: &Problem<AnyObject>,
         call: usize,
         calls: &[usize],
-    ) -> Result<bool, AllocError>
+    ) -> Result<RunsTold, AllocError>
         requires { call < length problem.now.calls }
-        ensures { IfOk result (λ none. IsTrue none
-            → HasNoRunWith (any_problem problem.now) call calls.now) }
+        ensures { IfOk result (IsToldOfRuns (any_problem problem.now) call calls.now) }
     {
-        let _calls = problem.calls();
-        let kept = kept_calls(alloc, call, &[])?;
         let takers = open_takers(alloc, problem, call, calls)?;
         let marks = Marks::new(alloc, problem, calls, takers.as_slice())?;
-        let wanted = Wanted {
-            calls: kept.as_slice(),
-            until: u64::from(problem.call(call).called),
-            marks: &marks,
-        };
-        let Some(part) = made_anew(alloc, problem, self.events.as_slice(), wanted)? else {
-            return Ok(false);
-        };
-        let loosened = Loosened {
+        let question = Question {
             call,
             kept: calls,
             takers: takers.as_slice(),
             marks: &marks,
         };
-        if !is_loose_prefix(problem, loosened, &part) {
-            return Ok(false);
-        }
+        let part = part_for(alloc, problem, question)?;
         let effort = effort_for(&part, calls);
         match told_of_part(alloc, &part, &effort, self.decider)? {
-            Decision::Refuted => Ok(true),
-            Decision::Found(_) | Decision::Spent | Decision::Stopped => Ok(false),
+            Decision::Refuted => Ok(RunsTold::NoRun),
+            Decision::Found(_) => Ok(RunsTold::SomeRun),
+            Decision::Spent => Ok(RunsTold::Nothing),
+            Decision::Stopped => Ok(RunsTold::Ended),
         }
     }
 }
@@ -146,18 +117,18 @@ impl<'a, D: Decide> PartSearch<AnyObject> for AnewSearch<'a, D> {
         call: usize,
         calls: &[usize],
     ) -> Result<RunsTold, AllocError> {
-        let looks = looks_at(&self.untold, calls);
+        let looks = looks_at(&self.asked, calls);
         if !self.decider.goes_on(Work::of_looks(looks)) {
             return Ok(RunsTold::Ended);
         }
-        if self.untold.has(alloc, call, calls)? {
-            return Ok(RunsTold::Nothing);
+        match self.asked.told_of(alloc, call, calls)? {
+            Some(true) => return Ok(RunsTold::SomeRun),
+            Some(false) => return Ok(RunsTold::Nothing),
+            None => {}
         }
-        if self.has_none_with(alloc, problem, call, calls)? {
-            return Ok(RunsTold::NoRun);
-        }
-        self.untold.add(alloc, call, calls)?;
-        Ok(RunsTold::Nothing)
+        let told = self.told_of_runs(alloc, problem, call, calls)?;
+        self.asked.add(alloc, call, calls, told)?;
+        Ok(told)
     }
 
     fn stand_ins(

@@ -284,7 +284,7 @@ fn calls_with_runs<O: SeqObject, S: PartSearch<O>>(
         let middle = low + (high - low) / 2;
         match search.runs_with(alloc, problem, middle, &[])? {
             RunsTold::NoRun => high = middle,
-            RunsTold::Nothing => low = middle + 1,
+            RunsTold::SomeRun | RunsTold::Nothing => low = middle + 1,
             RunsTold::Ended => return Ok(None),
         }
     }

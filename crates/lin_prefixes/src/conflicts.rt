@@ -91,7 +91,7 @@ fn add_known<O: SeqObject, S: PartSearch<O>>(
     }
     match search.runs_with(alloc, problem, call, calls)? {
         RunsTold::NoRun => {}
-        RunsTold::Nothing => return Ok(true),
+        RunsTold::SomeRun | RunsTold::Nothing => return Ok(true),
         RunsTold::Ended => return Ok(false),
     }
     let conflict = Conflict::new(alloc, calls)?;
@@ -117,7 +117,7 @@ fn fewest_in_conflict<O: SeqObject, S: PartSearch<O>>(
         let middle = low + (high - low) / 2;
         match search.runs_with(alloc, problem, call, &calls[..middle])? {
             RunsTold::NoRun => high = middle,
-            RunsTold::Nothing => low = middle + 1,
+            RunsTold::SomeRun | RunsTold::Nothing => low = middle + 1,
             RunsTold::Ended => return Ok(None),
         }
     }
@@ -174,7 +174,7 @@ pub(crate) fn add_conflict<O: SeqObject, S: PartSearch<O>>(
     }
     match search.runs_with(alloc, problem, call, calls)? {
         RunsTold::NoRun => {}
-        RunsTold::Nothing => return Ok(true),
+        RunsTold::SomeRun | RunsTold::Nothing => return Ok(true),
         RunsTold::Ended => return Ok(false),
     }
     let Some(few) = few_in_conflict(alloc, problem, search, call, calls)? else {
@@ -208,7 +208,7 @@ fn add_single_conflicts<O: SeqObject, S: PartSearch<O>>(
     }
     match search.runs_with(alloc, problem, call, calls)? {
         RunsTold::NoRun => {}
-        RunsTold::Nothing => return Ok(true),
+        RunsTold::SomeRun | RunsTold::Nothing => return Ok(true),
         RunsTold::Ended => return Ok(false),
     }
     let (first, second) = calls.split_at(calls.len() / 2);

@@ -8,11 +8,12 @@
 //! - `call_lists`: lists of calls, by their numbers in a part and in the whole.
 //! - `candidate`: the best run that lacks just these calls.
 //! - `by_prefixes`: the longest run, from the last call that a run may have downwards.
-//! - `parts_anew`: parts of a problem, made anew by their events; `anew_search`: searches of them; `told_of_part`: what is told of
-//!   one, by whatever decides problems or by a few of its calls that alone have no linearization.
+//! - `question`: the part by which it is decided whether a call has a run with some of its open calls; `anew_search`: searches of
+//!   parts; `told_of_part`: what is told of one, by whatever decides problems or by a few of its calls that alone have no
+//!   linearization.
 //! - `conflicts`: groups of calls of which each run lacks one; `choices`: which calls are left out, by conflicts.
-//! - `untold_groups`: groups of calls that are not asked of again.
-//! - `marks`: which calls a part has as they are, and which may stay out.
+//! - `asked_groups`: groups of calls that are not asked of again.
+//! - `marks`: which calls a part has as they are, and which stay out.
 //! - `open_takers`: open dequeues and pops that may stay out of a run of a queue or a stack.
 //! - `only_replies`: pending calls that can have one reply only.
 //! - `whole_search`: the search of a whole problem by its prefixes; `whole_answer`: what it answers.
@@ -28,9 +29,11 @@
 //!   run of k is a run of that call too: then k is passed over.
 //! - A *conflict* of k is a group of open calls that no run of k has all of, so a choice of calls to leave out that misses one is
 //!   passed over. Conflicts are found by halving: first single calls, and then, whenever a choice is tried, whether a run has all
-//!   the other open calls. In such a question the calls outside the group lose their replies and may stay out, so its *no* is
-//!   right. Only a queue's open dequeues and a stack's open pops stay out altogether, and then the calls that put in what they took
-//!   may too: as pending calls they would take what nobody took, and hide what is lost. Which group is asked about is a hint.
+//!   the other open calls. In such a question each call outside the group may stay out, but if it is in a run it has its reply: those
+//!   whose reply is of a step that changes nothing are left out, and the others are pending, since another reply of theirs would
+//!   change nothing. Only a queue's open dequeues and a stack's open pops stay out altogether, and then the calls that put in what they
+//!   took may too: as pending calls they would take what nobody took, and hide what is lost. So a *no* is right for all kinds,
+//!   and a *yes* for all but these two. Which group is asked about is a hint.
 //! - A pending `lock` or `unlock` of a mutex may have no step, but if it has one, its reply is `ok`. For the longest run each of
 //!   them returns with it behind all events (`only_replies`): the runs stay the same lists. So a run need not end with all of them.
 //! - If the processes of several acquires call no unlock after them up to k, a run of k has one of these acquires at most: nobody
@@ -39,8 +42,8 @@
 //!   first: they are in none of the runs that are tried. `PartSearch::stand_ins` says so by a number for each call, which
 //!   `held_until` finds.
 //! - `PartSearch` is the contract of the search of a part. If one does not know, the whole ends with `None`, so `Some` is right for
-//!   any problem. One that has come to its end says so (`RunsTold::Ended`), and nobody asks it again. Here each part is made anew and
-//!   decided by a `Decide` (`lin_effort`), whose work covers what is done between two parts too: this crate knows no way to an order.
+//!   any problem. One that has come to its end says so (`RunsTold::Ended`), and nobody asks it again. Here each part is decided by
+//!   a `Decide` (`lin_effort`), whose work covers what is done between two parts too: this crate knows no way to an order.
 //!
 //! Why it is so:
 //!
@@ -55,9 +58,9 @@
 //!   When a conflict is tested, all other open calls are free, not gone, since a run may need one of them. Each halving takes a
 //!   search, so there are a few for each call that a run lacks. If a group of several calls is a conflict, none of them need be one
 //!   by itself.
-//! - A group of calls that a search could not decide is asked about only once, and so are its parts at the same call: what is not
-//!   decided for many calls is seldom decided for few (`untold_groups`, a hint). If something is known ahead, such a question
-//!   searches for one round only, since what is known mostly shows by itself that no run has the group. Without both, a stack with
+//! - A group of calls is asked about only once, and so are its parts at the same call, unless there is no run with it: a run that has
+//!   many calls has few of them, and what is not decided for many is seldom decided for few (`asked_groups`, a hint). If something is
+//!   known ahead, such a question searches for one round only, since what is known mostly shows by itself that no run has the group. Without both, a stack with
 //!   a backlog of 32 and 4,096 calls made four times as many lifts, most of them in the second round of such questions.
 //! - Pending locks and unlocks return with `ok` behind all events before a mutex's longest run is sought. A pending call that stays
 //!   pending stands at the end of each candidate, and so has to have a step there, which a lock of a held mutex has not. A
@@ -77,6 +80,7 @@
 #![tactic(auto)]
 
 mod anew_search;
+mod asked_groups;
 mod by_prefixes;
 mod call_lists;
 mod candidate;
@@ -86,9 +90,8 @@ mod marks;
 mod only_replies;
 mod open_takers;
 mod part_search;
-mod parts_anew;
+mod question;
 mod told_of_part;
-mod untold_groups;
 mod whole_answer;
 mod whole_search;
 

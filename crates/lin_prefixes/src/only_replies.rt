@@ -9,12 +9,19 @@ ghost use Rattle.lin_history.specs.Problems.AnyProblem.{any_problem};
 ghost use Rattle.lin_prefixes.specs.OnlyReplies.{HasOnlyReply, HasSameRuns, IsBehind, IsReplied};
 
 use crate::call_lists::kept_calls;
-use crate::marks::Marks;
-use crate::parts_anew::{Wanted, made_anew, same_start};
-use lin_history::Problem;
+use lin_history::{Problem, ProblemCall};
 use lin_object::{AnyObject, Op, Reply};
-use lin_parts::same_call;
+use lin_parts::{part_of, same_call};
 use std::alloc::{AllocError, Global};
+
+// Whether both calls are the same but for their returns.
+fn same_start(a: &ProblemCall<Op, Reply>, b: &ProblemCall<Op, Reply>) -> bool
+    ensures process { IsTrue result → a.now.process ≡ b.now.process }
+    ensures op { IsTrue result → a.now.op ≡ b.now.op }
+    ensures called { IsTrue result → a.now.called ≡ b.now.called }
+{
+    a.process == b.process && a.op == b.op && a.called == b.called
+}
 
 // The reply of an operation that may have no step and has one reply only where it has one.
 fn only_reply(op: &Op) -> Option<Reply>
@@ -49,22 +56,20 @@ fn last_number(problem: &Problem<AnyObject>) -> u32 {
     last
 }
 
-// The same problem.
+// The same problem, where it has a call.
 fn copied(
     alloc: Global,
     problem: &Problem<AnyObject>,
 ) -> Result<Option<Problem<AnyObject>>, AllocError>
     ensures { IfOk result (λ answer. IfSome answer (λ copy. copy.start ≡ problem.now.start)) }
 {
-    let events = problem.timeline(alloc)?;
-    let all = kept_calls(alloc, problem.len().saturating_sub(1), &[])?;
-    let marks = Marks::new(alloc, problem, &[], &[])?;
-    let wanted = Wanted {
-        calls: all.as_slice(),
-        until: u64::MAX,
-        marks: &marks,
-    };
-    made_anew(alloc, problem, events.as_slice(), wanted)
+    let count = problem.calls().len();
+    if count == 0 {
+        return Ok(None);
+    }
+    let all = kept_calls(alloc, count - 1, &[])?;
+    let copy = part_of(alloc, problem, all.as_slice())?;
+    Ok(Some(copy))
 }
 
 // Lets the call return at the event, if it has one reply only, and is pending: whether it does.

@@ -45,9 +45,9 @@ fn have_returned(problem: &Problem<AnyObject>, takers: &[usize], op: &Op) -> boo
     true
 }
 
-/// Whether there are no such calls, or each is a dequeue that returned, of a queue that starts empty, or each is a pop that
-/// returned, of a stack that starts empty.
-pub(crate) fn are_takers(problem: &Problem<AnyObject>, takers: &[usize]) -> bool
+// Whether there are no such calls, or each is a dequeue that returned, of a queue that starts empty, or each is a pop that
+// returned, of a stack that starts empty.
+fn are_takers(problem: &Problem<AnyObject>, takers: &[usize]) -> bool
     ensures { IsTrue result → AreTakers (any_problem problem.now) takers.now }
 {
     if takers.is_empty() {
@@ -131,9 +131,8 @@ fn starts_empty(problem: &Problem<AnyObject>) -> bool {
     }
 }
 
-/// The dequeues or pops up to the call that returned after it was called, but for those listed; of a queue or a stack that starts
-/// empty. It is a hint.
-pub(crate) fn open_takers(
+// The dequeues or pops up to the call that returned after it was called, but for those listed.
+fn takers_behind(
     alloc: Global,
     problem: &Problem<AnyObject>,
     call: usize,
@@ -157,4 +156,21 @@ pub(crate) fn open_takers(
         }
     }
     Ok(takers)
+}
+
+/// The dequeues or pops up to the call that returned after it was called, but for those listed; of a queue or a stack that starts
+/// empty. Which ones is a hint.
+pub(crate) fn open_takers(
+    alloc: Global,
+    problem: &Problem<AnyObject>,
+    call: usize,
+    kept: &[usize],
+) -> Result<Vec<usize>, AllocError>
+    ensures { IfOk result (λ takers. AreTakers (any_problem problem.now) takers.items) }
+{
+    let takers = takers_behind(alloc, problem, call, kept)?;
+    if are_takers(problem, takers.as_slice()) {
+        return Ok(takers);
+    }
+    Ok(Vec::new(alloc))
 }

@@ -17,6 +17,8 @@ use std::alloc::{AllocError, Global};
 pub enum RunsTold {
     /// There is none.
     NoRun,
+    /// One was found, as far as the question is exact. It is a hint.
+    SomeRun,
     /// It is not known whether there is one.
     Nothing,
     /// The search has come to its end: it has made as many lifts as it may, or was stopped. There is no use in asking it more.

@@ -6,7 +6,7 @@ ghost use Rattle.lin_core.specs.Cores.{HasNone};
 ghost use Rattle.lin_effort.specs.Decision.{IsDecisionOf};
 
 use lin_core::{core_of, sum_fault_of};
-use lin_effort::efforts::{bound, core_work, order};
+use lin_effort::efforts::{bound, order};
 use lin_effort::{Decide, Decision, Effort, UntilSpent};
 use lin_history::Problem;
 use lin_object::{AnyObject, ObjState};
@@ -41,7 +41,7 @@ fn has_core<D: Decide>(
     if !may_have_core(part) {
         return Ok(false);
     }
-    let core = core_of(alloc, part, core_work(part.len()), decider)?;
+    let core = core_of(alloc, part, decider)?;
     Ok(core.is_some())
 }
 

@@ -25,7 +25,7 @@ fn longest_of<D: Decide>(
     ensures { IfOk result (λ answer. IfSome answer
         (IsFirstLongest (IsRun (any_problem problem.now)))) }
 {
-    let mut search = AnewSearch::new(alloc, problem, decider)?;
+    let mut search = AnewSearch::new(alloc, decider);
     let run = longest_by_prefixes(alloc, problem, &mut search)?;
     Ok(run)
 }

@@ -22,4 +22,5 @@ mod steps_back;
 mod tables;
 mod unseen;
 mod watched;
+mod work;
 mod workers;

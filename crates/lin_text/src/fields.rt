@@ -6,6 +6,7 @@ ghost use Rattle.lin_text.specs.Fields.{is_header, kind_by_word, has_kind, event
 use crate::cause::Cause;
 use crate::line::{EventKind, Format};
 use crate::line_value::LineValue;
+use crate::wholes::Numbers;
 use lin_history::is_name;
 use lin_object::{Kind, Op, OpFault, Reply, is_op, kind_of_name, read_op};
 use std::alloc::{AllocError, Global};
@@ -130,7 +131,7 @@ pub(crate) fn reply_of<V: LineValue>(value: &V) -> Option<Reply>
 
 // The arguments of a call; `None` where they are no whole numbers.
 #[tactic(auto, unfolding(crate::specs::Fields::arguments_in))]
-fn arguments_of<V: LineValue>(alloc: Global, value: &V) -> Result<Option<Vec<i64>>, AllocError>
+fn arguments_of<V: LineValue>(alloc: Global, value: &V) -> Result<Option<Numbers>, AllocError>
     ensures { IfOk result (λ found. option_map (λ v. v.items) found
         ≡ arguments_in (V.json value.now)) }
 {

@@ -11,7 +11,7 @@ ghost use Rattle.lin_text.specs.WholeNumbers.{items_of};
 ghost use Rattle.lin_text.specs.FlatObject.{value_of, members_with, object_of};
 
 use crate::line_value::LineValue;
-use crate::wholes::Wholes;
+use crate::wholes::{Numbers, Wholes};
 use fast_float::Numeral;
 use json::{Reader, Scratch, Token};
 use lin_object::Reply;
@@ -91,7 +91,7 @@ impl Field<'_> {
     }
 
     // The whole numbers of the array that it is, where it is one.
-    fn wholes(&self, alloc: Global) -> Result<Option<Vec<i64>>, AllocError>
+    fn wholes(&self, alloc: Global) -> Result<Option<Numbers>, AllocError>
         ensures { IfOk result (λ found. option_map (λ v. v.items) found
             ≡ arguments_of (Some (value_of self.now))) }
     {
@@ -325,9 +325,9 @@ impl<'l> LineValue for FlatObject<'l> {
         self.find(key)?.reply()
     }
 
-    fn wholes_at(&self, alloc: Global, key: &str) -> Result<Option<Vec<i64>>, AllocError> {
+    fn wholes_at(&self, alloc: Global, key: &str) -> Result<Option<Numbers>, AllocError> {
         match self.find(key) {
-            None => Ok(Some(Vec::new(alloc))),
+            None => Ok(Some(Numbers::new(alloc))),
             Some(field) => field.wholes(alloc),
         }
     }

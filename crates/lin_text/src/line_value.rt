@@ -6,6 +6,7 @@ ghost use Rattle.serde_json.specs.Find.{get, as_object};
 ghost use Rattle.serde_json.specs.View.{view, items_view};
 ghost use Rattle.lin_text.specs.Fields.{text_at, whole, wholes, reply_of, arguments_of};
 
+use crate::wholes::Numbers;
 use lin_object::Reply;
 use serde_json::Value;
 use std::alloc::{AllocError, Global};
@@ -37,17 +38,17 @@ pub(crate) trait LineValue {
 
     /// The whole numbers in the array at the key: none where there is nothing, and `None` where it is no array of them.
     /// `AllocError` where memory was refused.
-    fn wholes_at(&self, alloc: Global, key: &str) -> Result<Option<Vec<i64>>, AllocError>
+    fn wholes_at(&self, alloc: Global, key: &str) -> Result<Option<Numbers>, AllocError>
         ensures { IfOk result (λ found. option_map (λ v. v.items) found
             ≡ arguments_of (get key.now (json self.now))) };
 }
 
 // The whole numbers of a list; `None` where an item is something else.
-fn wholes_of(alloc: Global, list: &[Value]) -> Result<Option<Vec<i64>>, AllocError>
+fn wholes_of(alloc: Global, list: &[Value]) -> Result<Option<Numbers>, AllocError>
     ensures { IfOk result (λ found. option_map (λ v. v.items) found
         ≡ wholes (items_view list.now)) }
 {
-    let mut found = Vec::with_capacity(alloc, list.len())?;
+    let mut found = Numbers::with_capacity(alloc, list.len())?;
     for item in list {
         match item.as_i64() {
             Some(number) => found.push(number)?,
@@ -102,9 +103,9 @@ impl LineValue for Value {
         reply_of(self.get(key)?)
     }
 
-    fn wholes_at(&self, alloc: Global, key: &str) -> Result<Option<Vec<i64>>, AllocError> {
+    fn wholes_at(&self, alloc: Global, key: &str) -> Result<Option<Numbers>, AllocError> {
         match self.get(key) {
-            None => Ok(Some(Vec::new(alloc))),
+            None => Ok(Some(Numbers::new(alloc))),
             Some(args) => match args.as_array() {
                 Some(list) => wholes_of(alloc, list),
                 None => Ok(None),

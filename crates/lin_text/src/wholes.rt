@@ -2,13 +2,17 @@
 
 ghost use Rattle.std.specs.Prelude.{◌≡◌, ◌++◌, ◌∷◌, [], Some, IfOk, OnOk};
 
+use smallvec::SmallVec;
 use std::alloc::{AllocError, Global};
 use std::marker::Model;
+
+/// So many whole numbers, which no operation has more of as arguments, take no memory of their own.
+pub(crate) type Numbers = SmallVec<i64, 2>;
 
 /// The whole numbers of a JSON array, each of 64 bits. Contracts see the list.
 #[derive(Drop)]
 pub(crate) struct Wholes {
-    numbers: Vec<i64>,
+    numbers: Numbers,
 }
 
 impl Model for Wholes {
@@ -33,7 +37,7 @@ impl Wholes {
         ensures { result ≡ [] }
     {
         Wholes {
-            numbers: Vec::new(alloc),
+            numbers: Numbers::new(alloc),
         }
     }
 
@@ -46,9 +50,9 @@ impl Wholes {
     }
 
     /// What is read of the array. `AllocError` where memory was refused.
-    pub(crate) fn copy(&self, alloc: Global) -> Result<Vec<i64>, AllocError>
+    pub(crate) fn copy(&self, alloc: Global) -> Result<Numbers, AllocError>
         ensures { IfOk result (λ numbers. wholes (items_of self.now) ≡ Some numbers.items) }
     {
-        Vec::from_slice(alloc, self.numbers.as_slice())
+        Numbers::from_slice(alloc, self.numbers.as_slice())
     }
 }

@@ -19,10 +19,6 @@ name_of h object = option_map_or (λ o. o.name) (slice_get h.objects object) []
 abbrev pub call_text : RecordedHistory → Call Op Reply → List ℕ
 call_text h c = decimal c.process ++ codes " " ++ name_of h c.object ++ codes " " ++ op_text c.op
 
--- An operation and its reply.
-abbrev pub answer_text : Op → Reply → List ℕ
-answer_text op reply = codes " " ++ op_text op ++ codes " = " ++ reply_text reply
-
 -- What says that a call is pending in the history.
 abbrev pub mark_of : Option (ℕ × Reply) → List ℕ
 mark_of None = codes " completed"

@@ -1,31 +1,24 @@
 //! The lines of an answer.
 
-ghost use Rattle.std.specs.Prelude.{◌≡◌, ℕ, ◌+◌, ◌<◌, ◌++◌, decimal, drop, length, slice_get, slice_index_or, vec_len, string_bytes, false, IfOk, OnOk, Some};
+ghost use Rattle.std.specs.Prelude.{◌≡◌, ℕ, ◌+◌, ◌<◌, ◌++◌, codes, drop, length, slice_get, slice_index_or, vec_len, string_bytes, false, IfOk, OnOk, Some};
 ghost use Rattle.lin_object.specs.declared.op.Op.{Op};
 ghost use Rattle.lin_object.specs.declared.reply.Reply.{Reply};
 ghost use Rattle.lin_history.specs.Recorder.Events.{Call};
 ghost use Rattle.lin_history.specs.Recorder.RecordedHistory.{calls_on};
-ghost use Rattle.lincheck.specs.Report.{answer_text, mark_of, call_line, call_lines, call_word, before_line, last_lines, dropped_line, dropped_lines, is_placed, name_line, length_line, yes_report, not_found_line, no_report, no_report_in_time, undecided_report, stored_line, with_stats};
+ghost use Rattle.lincheck.specs.Report.{mark_of, call_line, call_lines, call_word, before_line, last_lines, dropped_line, dropped_lines, is_placed, name_line, length_line, yes_report, not_found_line, no_report, no_report_in_time, undecided_report, stored_line, with_stats};
 ghost use Rattle.lin_history.specs.Locality.RecordedWhole.{whole_of};
 ghost use Rattle.lin_history.specs.Verifier.Flags.{AreKnown};
 ghost use Rattle.lincheck.specs.Verdict.{IsOf, report_of};
 
 use crate::verdict::Verdict;
-use itoa::Buffer;
+use lin_explain::{push_call, push_number};
 use lin_history::{History, Placed};
-use lin_object::{Op, Reply};
+use lin_object::{Reply, push_reply};
 use std::alloc::{AllocError, Global};
 
 /// The most calls of a longest run that are listed where it is told why it ends: that is in its last calls, and an answer should fit
 /// on a screen.
 pub(crate) const MAX_LISTED: usize = 16;
-
-// What says that a call is pending in the history.
-fn mark_of(returned: &Option<(u32, Reply)>) -> &'static str
-    ensures { result.now ≡ mark_of returned.now }
-{
-    if returned.is_some() { "" } else { " completed" }
-}
 
 // Appends a text.
 fn write_text(out: &mut String, text: &str) -> Result<(), AllocError>
@@ -34,20 +27,22 @@ fn write_text(out: &mut String, text: &str) -> Result<(), AllocError>
     out.push_str(text)
 }
 
-// Appends a whole number.
-fn write_number(out: &mut String, number: usize) -> Result<(), AllocError>
-    ensures { OnOk result (string_bytes out.new ≡ string_bytes out.old ++ decimal number) }
+// Appends a space.
+fn write_space(out: &mut String) -> Result<(), AllocError>
+    ensures { OnOk result (string_bytes out.new ≡ string_bytes out.old ++ codes " ") }
 {
-    let mut buffer = Buffer::new();
-    write_text(out, buffer.format(number))
+    out.push(' ')
 }
 
-// Appends an operation and its reply.
-fn write_answer(out: &mut String, op: &Op, reply: &Reply) -> Result<(), AllocError>
-    ensures { OnOk result (string_bytes out.new
-        ≡ string_bytes out.old ++ answer_text op.now reply.now) }
+// How the line of a call in an order ends: with what says that the call is pending in the history.
+fn end_of(returned: &Option<(u32, Reply)>) -> &'static str
+    ensures { result.now ≡ mark_of returned.now ++ codes "\n" }
 {
-    write!(out, " {op} = {reply}")
+    if returned.is_some() {
+        "\n"
+    } else {
+        " completed\n"
+    }
 }
 
 // Appends the line of a call that is in an order at this place.
@@ -64,14 +59,12 @@ fn write_call(
 {
     let call = history.call(placed.call);
     let object = history.object(call.object);
-    write_number(out, place)?;
-    write_text(out, " ")?;
-    write_number(out, call.process as usize)?;
-    write_text(out, " ")?;
-    write_text(out, object.name)?;
-    write_answer(out, &call.op, &placed.reply)?;
-    write_text(out, mark_of(&call.returned))?;
-    write_text(out, "\n")
+    push_number(out, place as u64)?;
+    write_space(out)?;
+    push_call(out, call.process, object.name, &call.op)?;
+    write_text(out, " = ")?;
+    push_reply(out, &placed.reply)?;
+    write_text(out, end_of(&call.returned))
 }
 
 // Appends the line of a call that is not in the order.
@@ -82,10 +75,9 @@ fn write_dropped(out: &mut String, history: &History, index: usize) -> Result<()
 {
     let call = history.call(index);
     let object = history.object(call.object);
-    let process = call.process;
-    let name = object.name;
-    let op = call.op;
-    write!(out, "dropped {process} {name} {op}\n")
+    write_text(out, "dropped ")?;
+    push_call(out, call.process, object.name, &call.op)?;
+    write_text(out, "\n")
 }
 
 // Appends the lines of the calls of an order, but for so many at its begin.

@@ -6,7 +6,6 @@ ghost use Rattle.lin_core.specs.Cores.{HasNone, IsCoreOf};
 ghost use Rattle.lincheck.specs.ObjectFaults.{IsFaultOf};
 
 use lin_core::{Core, SumFault, core_of, sum_fault_of};
-use lin_effort::efforts::core_work;
 use lin_effort::{Decide, UntilSpent};
 use lin_history::Problem;
 use lin_object::{AnyObject, Op};
@@ -36,7 +35,7 @@ fn core_of_object<D: Decide>(
         core.firsts.items)) }
     ensures none { IfOk result (λ answer. IfSome answer (λ core. HasNone (any_problem problem.now))) }
 {
-    core_of(alloc, problem, core_work(problem.len()), decider)
+    core_of(alloc, problem, decider)
 }
 
 // Whether so few adds were called by the return of the get that a core is plainer than sums.

@@ -33,8 +33,7 @@ use crate::object_fault::{calls_of_object, fault_of_object, sums_of_object};
 use crate::setting::Setting;
 use lin_decide::Ladder;
 use lin_effort::efforts::{
-    MOST_TURNS, Turn, ahead, first_turn, is_small, makes_unseen_one, order, prefixes_at_first,
-    turn_after,
+    Turn, ahead, first_turn, is_small, makes_unseen_one, order, prefixes_at_first, turn_after,
 };
 use lin_effort::{Decide, Decision, Effort, Work};
 use lin_fewer::has_many_pending;
@@ -343,7 +342,7 @@ fn by_turns<R: AllocGlobal, G: Gate, W: Watcher>(
         return Ok(ControlFlow::Continue(limit));
     }
     let mut turn = first_turn(problem, known.is_refuted, setting.bounds.limit());
-    for _ in 0..MOST_TURNS {
+    for _ in 0..u64::BITS {
         let patience = patience_for(problem, turn, known.is_refuted);
         let alone = search_alone(setting, problem, full, memo, patience, limit)?;
         match answer_alone(alone, known.is_refuted) {

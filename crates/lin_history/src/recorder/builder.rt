@@ -33,6 +33,8 @@ pub struct Builder {
     counts: Vec<usize>,
     // the index of the last call of each process: where one has neither returned nor failed, it is this one
     last: IndexMap<u32, usize>,
+    // the object of the last event, where the next one is looked for first
+    recent: usize,
 }
 
 // Contracts see what is recorded so far; the rest says which call of a process is its last, and how many calls were
@@ -59,8 +61,37 @@ fn index_in(objects: &IndexMap<String, Declaration>, name: &str) -> Option<usize
     objects.get_index_of(name)
 }
 
-// The index of the object of this name, or why an event may not name it.
-fn find_object(objects: &IndexMap<String, Declaration>, name: &str) -> Result<usize, BuildFault>
+// Whether the object of this index has this name.
+fn is_named(objects: &IndexMap<String, Declaration>, object: usize, name: &str) -> bool
+    ensures { IsTrue result → index_named (recorded (map object_view objects.now.entries) [] 0)
+        name.now ≡ Some object }
+{
+    if object >= objects.len() {
+        return false;
+    }
+    match objects.get_index(object) {
+        Some((key, _)) => name == key.as_str(),
+        None => false,
+    }
+}
+
+// The same index. The object at `likely` is looked at first, which is quicker than by the name.
+fn index_near(objects: &IndexMap<String, Declaration>, likely: usize, name: &str) -> Option<usize>
+    ensures { result ≡ index_named (recorded (map object_view objects.now.entries) [] 0) name.now }
+{
+    if is_named(objects, likely, name) {
+        Some(likely)
+    } else {
+        index_in(objects, name)
+    }
+}
+
+// The index of the object of this name, or why an event may not name it. The object at `likely` is looked at first.
+fn find_object(
+    objects: &IndexMap<String, Declaration>,
+    likely: usize,
+    name: &str,
+) -> Result<usize, BuildFault>
     ensures named { IfOk result (λ object. index_named
         (recorded (map object_view objects.now.entries) [] 0) name.now ≡ Some object) }
     ensures valid { OnOk result (is_name name.now ≡ true) }
@@ -69,7 +100,7 @@ fn find_object(objects: &IndexMap<String, Declaration>, name: &str) -> Result<us
         ≡ Some fault) }
 {
     if is_name(name) {
-        index_in(objects, name).ok_or(BuildFault::UnknownObject)
+        index_near(objects, likely, name).ok_or(BuildFault::UnknownObject)
     } else {
         Err(BuildFault::BadName)
     }
@@ -93,11 +124,11 @@ fn declaration_fault(objects: &IndexMap<String, Declaration>, name: &str) -> Opt
     }
 }
 
-// The kind of the object of this name.
-fn kind_in(objects: &IndexMap<String, Declaration>, name: &str) -> Option<Kind>
+// The kind of the object of this name. The object at `likely` is looked at first.
+fn kind_in(objects: &IndexMap<String, Declaration>, likely: usize, name: &str) -> Option<Kind>
     ensures { result ≡ kind_named (recorded (map object_view objects.now.entries) [] 0) name.now }
 {
-    match index_in(objects, name) {
+    match index_near(objects, likely, name) {
         Some(object) => match objects.get_index(object) {
             Some((_, declaration)) => Some(declaration.kind()),
             None => None,
@@ -191,6 +222,17 @@ fn process_fault(
     }
 }
 
+// The object that a call is on; the first one where there is no call.
+fn object_of(calls: &[CallInfo], call: Option<usize>) -> usize {
+    match call {
+        Some(call) => match calls.get(call) {
+            Some(call) => call.object,
+            None => 0,
+        },
+        None => 0,
+    }
+}
+
 // The index of the pending call of the process on the object of this name, or why it has none there.
 fn find_pending(
     objects: &IndexMap<String, Declaration>,
@@ -207,11 +249,12 @@ fn find_pending(
         (recorded (map object_view objects.now.entries) calls.now 0) process name.now)
         ≡ Some fault) }
 {
-    let object = match find_object(objects, name) {
+    let last = last_in(calls, last, process);
+    let object = match find_object(objects, object_of(calls, last), name) {
         Ok(object) => object,
         Err(fault) => return Err(fault),
     };
-    let Some(call) = last_in(calls, last, process) else {
+    let Some(call) = last else {
         return Err(BuildFault::NoCall(process));
     };
     if has_ended(&calls[call]) {
@@ -422,6 +465,7 @@ impl Builder {
             events: 0,
             counts: Vec::new(alloc),
             last: IndexMap::new(alloc),
+            recent: 0,
         }
     }
 
@@ -486,7 +530,7 @@ impl Builder {
             → CannotFollow self.old (calls process object op)) }
         ensures same { OnErr result (self.new ≡ self.old) }
     {
-        let object = find_object(&self.objects, name)?;
+        let object = find_object(&self.objects, self.recent, name)?;
         if let Some(fault) = process_fault(self.calls.as_slice(), &self.last, process) {
             return Err(fault);
         }
@@ -505,6 +549,7 @@ impl Builder {
         {
             return Err(BuildFault::OutOfMemory);
         }
+        self.recent = object;
         Ok(())
     }
 
@@ -618,7 +663,7 @@ impl Builder {
     pub fn kind_of(&self, name: &str) -> Option<Kind>
         ensures { result ≡ kind_named self.now name.now }
     {
-        kind_in(&self.objects, name)
+        kind_in(&self.objects, self.recent, name)
     }
 
     /// The history of the events that were accepted. It takes no memory.

@@ -9,9 +9,6 @@ use lin_object::{Kind, Op, Reply};
 use lin_search::NoStop;
 use std::alloc::{AllocError, Global};
 
-// Work that is enough for any of these histories.
-const WORK: u64 = 10_000;
-
 // Two writes one after the other, a third at the same time, and a read of the first.
 const READ_OF_AN_OVERWRITTEN_VALUE: [Event; 8] = [
     Call(3, Op::Write(3)),
@@ -38,7 +35,7 @@ const VALUE_THAT_IS_CHANGED_TWICE: [Event; 6] = [
 fn calls_in_core(alloc: Global, problem: &Part) -> Result<Option<usize>, AllocError> {
     let mut stop = NoStop;
     let mut ladder = Ladder::new(problem, Work::ANY, &mut stop);
-    match core_of(alloc, problem, WORK, &mut ladder)? {
+    match core_of(alloc, problem, &mut ladder)? {
         Some(core) => Ok(Some(core.calls.len())),
         None => Ok(None),
     }
@@ -56,7 +53,7 @@ fn core_has_the_calls_that_alone_have_no_order(rt: HostRuntime) {
 fn event_of_core(alloc: Global, problem: &Part) -> Result<Option<u32>, AllocError> {
     let mut stop = NoStop;
     let mut ladder = Ladder::new(problem, Work::ANY, &mut stop);
-    match core_of(alloc, problem, WORK, &mut ladder)? {
+    match core_of(alloc, problem, &mut ladder)? {
         Some(core) => Ok(core.from),
         None => Ok(None),
     }
@@ -78,7 +75,7 @@ fn are_core_within(
     };
     let mut stop = NoStop;
     let mut ladder = Ladder::new(problem, Work::ANY, &mut stop);
-    let core = suffix_core_of_calls(alloc, problem, window, WORK, &mut ladder)?;
+    let core = suffix_core_of_calls(alloc, problem, window, &mut ladder)?;
     Ok(core.is_some())
 }
 
