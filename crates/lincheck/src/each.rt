@@ -33,7 +33,7 @@ fn status_by(answer: &ObjectAnswer) -> Status
         → IsStatusOf h bounds object result }
 {
     match answer {
-        ObjectAnswer::Yes(_) | ObjectAnswer::Some => Status::Yes,
+        ObjectAnswer::Yes(_) => Status::Yes,
         ObjectAnswer::No(_) => Status::No,
         ObjectAnswer::Undecided => Status::Undecided,
     }

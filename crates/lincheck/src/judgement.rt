@@ -110,10 +110,7 @@ fn order_or_end(
             let verdict = verdict_no(alloc, history, object, run)?;
             Ok(ControlFlow::Break(verdict))
         }
-        // Where a run is asked for, no order without its calls is an answer.
-        ObjectAnswer::Some | ObjectAnswer::Undecided => {
-            Ok(ControlFlow::Break(Verdict::Undecided { object }))
-        }
+        ObjectAnswer::Undecided => Ok(ControlFlow::Break(Verdict::Undecided { object })),
     }
 }
 
