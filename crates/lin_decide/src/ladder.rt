@@ -250,23 +250,27 @@ impl<'a, S: Stop> Ladder<'a, S> {
         }
     }
 
-    // Whether a queue or a stack with pending calls has no linearization, as it has none without its lost items: with so many lifts.
+    // Whether a queue or a stack with pending calls has no linearization, as it has none without its lost items: with as many lifts as the
+    // first round has. A selection of calls, which never goes by key, is judged as it is: a core is to show a fault by few calls.
     fn is_refuted_without_lost(
         &mut self,
         alloc: Global,
         problem: &Problem<AnyObject>,
-        lifts: u64,
+        effort: &Effort,
     ) -> Result<bool, AllocError>
         ensures { IfOk result (λ refuted. IsTrue refuted
             → (l : List ℕ) → IsLinearization (any_problem problem.now) l → ⊥) }
     {
-        if !self.has_pending || !self.goes_on(Work::of_rows(problem.len())) {
+        if !self.has_pending || effort.keys == Keys::Never {
+            return Ok(false);
+        }
+        if !self.goes_on(Work::of_rows(problem.len())) {
             return Ok(false);
         }
         let Some(rest) = without_lost(alloc, problem)? else {
             return Ok(false);
         };
-        has_none_in_order(alloc, &rest, lifts, &mut self.meter)
+        has_none_in_order(alloc, &rest, effort.lifts, &mut self.meter)
     }
 
     /// Whether it shows that a queue or a stack with pending calls has a linearization, though not which is the least: from an order of what
@@ -312,7 +316,7 @@ impl<'a, S: Stop> Ladder<'a, S> {
                 Told::Nothing => {}
                 told => return Ok(told),
             }
-            if round == 0 && self.is_refuted_without_lost(alloc, problem, lifts)? {
+            if round == 0 && self.is_refuted_without_lost(alloc, problem, effort)? {
                 return Ok(Told::Refuted);
             }
             lifts = lifts.saturating_mul(effort.growth);
