@@ -4,19 +4,21 @@
     bench/cores.py [--program PROGRAM] FILE..
     bench/cores.py [--program PROGRAM] --random COUNT [--seed N] [--counters] [--items]
 
-Builds `bench/cores.program` by `bin/build_unproved.py` (two minutes), unless it is given, and runs it on each history. All orders
-of a core's calls are tried: there may be none. The calls left out may not be needed: each is none of the core's values, or
-changes nothing, or precedes the first, which begins anew; or it is one of some that precede them all and put each of the items
-into a queue or a stack as often as they took it out; or the first returned with a reply that its operation never gives. A core can't
-be smaller: cut at an earlier return, without one of its values, without one call that changes nothing or, where it has many, without
-those before a moment at which each of its items was out, its calls have an order. A core that begins at an event
-may have no order from any state that stands for what the object held before: nothing, one of the core's values, or another; what
-returned before that event is over. Of a map's key one value may count alone from a second event on: then the calls that were called after it
-and do not put the value are left out. Of small histories all orders of the whole are tried too: one with an order may have no core. The
-sums of a get for whose reply the adds leave no room are made anew; one has to be found exactly where some get has such a reply,
-counted from the start or from an earlier get. Prints how many cores have how many calls, and each object without an order of
-which no core was found. With --counters all random histories are of counters that add different numbers; with --items they are of
-queues and stacks of a few items that are emptied time and again.
+Builds `bench/cores.program` by `bin/build_unproved.py` (two minutes), unless it is given, and runs it on each history. All
+orders of a core's calls are tried: there may be none. The calls left out may not be needed: each is none of the core's values,
+or changes nothing, or precedes the first, which begins anew; or it is one of some that precede them all and put each of the
+items into a queue or a stack as often as they took it out; or the first returned with a reply that its operation never gives;
+or a queue's or a stack's calls on one item all put it in or returned with it, and no other call puts it in. A core can't be
+smaller: cut at an earlier return, without one of its values, without one call that changes nothing, without pending calls that
+may take its one item or, where it has many, without those before a moment at which each of its items was out, its calls have an
+order. A core that begins at an event may have no order from any state that stands for what the object held before: nothing, one
+of the core's values, or another; what returned before that event is over. Of a map's key one value may count alone from a
+second event on: then the calls that were called after it and do not put the value are left out. Of small histories all orders
+of the whole are tried too: one with an order may have no core. The sums of a get for whose reply the adds leave no room are
+made anew; one has to be found exactly where some get has such a reply, counted from the start or from an earlier get. Prints
+how many cores have how many calls, and each object without an order of which no core was found. With --counters all random
+histories are of counters that add different numbers; with --items they are of queues and stacks of a few items that are emptied
+time and again.
 """
 import argparse
 import collections
@@ -149,6 +151,15 @@ def once_out(kind, start, calls, kept, values, before):
     return are_even and all(precedes(call, calls[k]) for call in before for k in kept)
 
 
+def is_of_one_item(kind, start, calls, kept, event, values):
+    """Whether these are calls of a queue or a stack that put one item in or had returned with it, and no other call puts it in."""
+    if kind not in ("queue", "stack") or start or len(values) != 1:
+        return False
+    (item,) = values
+    puts = {k for k, c in enumerate(calls) if c["called"] <= event and item_count(c, item) > 0}
+    return puts <= set(kept) and all(item_count(cut(calls[k], event), item) for k in kept)
+
+
 def smaller(kind, calls, kept, event, values, at):
     """The selections next smaller than this one: calls, an event and values."""
     returns = sorted(c["returned"][0] for c in (calls[k] for k in kept) if c["returned"] is not PENDING)
@@ -162,6 +173,10 @@ def smaller(kind, calls, kept, event, values, at):
     for place in range(1, len(kept)) if len(kept) > FEW else []:
         if once_out(kind, (), calls, kept[place:], values, [calls[k] for k in kept[:place]]):
             yield kept[place:], event, values
+    for item in values if len(values) == 1 and kind in ("queue", "stack") else []:
+        known = [k for k in kept if item_count(cut(calls[k], event), item)]
+        if len(known) < len(kept):
+            yield known, event, values
     for k in kept:
         if is_idle(kind, calls[k]):
             yield [other for other in kept if other != k], event, values
@@ -172,7 +187,7 @@ def is_enough(kind, start, calls, kept, event, values, at):
     others = [c for k, c in enumerate(calls) if k not in kept and c["called"] <= event]
     needs_all = kind == "register" and any(is_refused_cas(calls[k]) for k in kept)
     needed = [c for c in others if not (is_idle(kind, c) if needs_all else may_go(kind, c, values, at))]
-    if kind == "mutex" or not needed:
+    if kind == "mutex" or not needed or is_of_one_item(kind, start, calls, kept, event, values):
         return True
     return bool(kept) and begins_anew(kind, start, calls, kept, values, needed) or once_out(kind, start, calls, kept, values, needed)
 

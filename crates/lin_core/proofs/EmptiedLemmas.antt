@@ -91,7 +91,7 @@ without c (d ∷ l) distinct h = elim h [
 
 -- ---- how often an item is in a list
 
-abbrev times : ℤ → List ℤ → ℕ
+abbrev pub times : ℤ → List ℤ → ℕ
 times v [] = 0
 times v (x ∷ xs) = counted (int_eq x v) (times v xs)
 
@@ -119,7 +119,7 @@ plus : (b : Bool) (n m k : ℕ) → n ≡ m + k → counted b n ≡ counted b m 
 plus true n m k e = omega (arith, e)
 plus false n m k e = e
 
-times_more : (v : ℤ) (xs ys : List ℤ) → times v (xs ++ ys) ≡ times v xs + times v ys
+pub times_more : (v : ℤ) (xs ys : List ℤ) → times v (xs ++ ys) ≡ times v xs + times v ys
 times_more v [] ys = omega arith
 times_more v (x ∷ xs) ys = plus (int_eq x v) (times v (xs ++ ys)) (times v xs) (times v ys) (times_more v xs ys)
 
@@ -246,7 +246,7 @@ pushed true n = omega arith
 pushed false n = refl
 
 module _ (v : ℤ) (r : ℕ × Reply) where
-  gave_item : (w : ℤ) → fits reply_eq.it (Int w) (Some r) ≡ true → is_item v r.1 ≡ int_eq w v
+  pub gave_item : (w : ℤ) → fits reply_eq.it (Int w) (Some r) ≡ true → is_item v r.1 ≡ int_eq w v
   gave_item w f = ap (is_item v) (sym (reply_same (Int w) r.1 f))
 
   gave_none : fits reply_eq.it Empty (Some r) ≡ true → 0 + counted (is_item v r.1) 0 ≡ 0 + 0

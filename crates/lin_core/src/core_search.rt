@@ -13,6 +13,7 @@ use crate::judge::Judge;
 use crate::key_faults::forgotten;
 use crate::lock_faults::{around_try, tries_in_vain, two_holders};
 use crate::next_calls::NextCalls;
+use crate::one_item::taken_too_often;
 use crate::refuted_part::{Core, core_of_calls};
 use crate::replies::odd_reply;
 use crate::selection::{MapKey, Selection};
@@ -444,6 +445,31 @@ fn core_in_gap<D: Decide>(
     Ok(late)
 }
 
+// A core of few calls that are looked up: around a gap, or on an item that was taken more often than it was put.
+fn core_nearby<D: Decide>(
+    alloc: Global,
+    problem: &Problem<AnyObject>,
+    index: &CallIndex,
+    decider: &mut D,
+) -> Result<Option<Core>, AllocError>
+    ensures core { IfOk result (λ answer. IfSome answer (λ core.
+        IsCoreOf (any_problem problem.now) core.from core.event core.key core.values.items core.calls.items core.firsts.items)) }
+    ensures none { IfOk result (λ answer. IfSome answer (λ core. HasNone (any_problem problem.now))) }
+{
+    let near = core_in_gap(alloc, problem, index, decider)?;
+    if has_few(&near) {
+        return Ok(near);
+    }
+    let selections = taken_too_often(alloc, problem, index)?;
+    let Some(taken) = core_of_selections(alloc, problem, selections, decider)? else {
+        return Ok(near);
+    };
+    if has_no_more_calls(&taken, &near) {
+        return Ok(Some(taken));
+    }
+    Ok(near)
+}
+
 /// A core of the problem; `None` where none is found: where the problem has a linearization, and else where all that is tried with as much
 /// work as so many calls are worth finds none, or where what decides does not go on. `AllocError` where memory was refused.
 ///
@@ -464,7 +490,7 @@ pub fn core_of<D: Decide>(
     }
     let calls: Vec<usize> = (0..problem.len()).collect(alloc)?;
     let index = CallIndex::new(alloc, problem, calls.as_slice(), None)?;
-    let near = core_in_gap(alloc, problem, &index, decider)?;
+    let near = core_nearby(alloc, problem, &index, decider)?;
     if has_few(&near) {
         return Ok(near);
     }

@@ -19,8 +19,8 @@ use lin_parts::has_flag;
 use lin_search::Stop;
 use std::alloc::{AllocError, Global};
 
-// Whether the operation puts the item in.
-fn puts(item: i64, op: &Op) -> bool
+/// Whether the operation puts the item in.
+pub(crate) fn puts(item: i64, op: &Op) -> bool
     ensures { result ≡ puts item op.now }
 {
     match op {
@@ -49,8 +49,8 @@ fn gave(item: i64, returned: &Option<(u32, Reply)>) -> bool
     }
 }
 
-// Whether the call took the item out.
-fn took(item: i64, call: &ProblemCall<Op, Reply>) -> bool
+/// Whether the call took the item out.
+pub(crate) fn took(item: i64, call: &ProblemCall<Op, Reply>) -> bool
     ensures { result ≡ took item call.now.op call.now.returned }
 {
     match &call.op {

@@ -15,14 +15,14 @@ use Rattle.lin_prefixes.proofs.LackLemmas.{in_or_not}
 use Rattle.lin_prefixes.specs.Freed.{IsFreed, TookOut}
 
 -- what stands in a list stands in it with one call more
-in_with : (a x : ℕ) (xs ys : List ℕ) → In a (xs ++ ys) → In a (xs ++ x ∷ ys)
+pub in_with : (a x : ℕ) (xs ys : List ℕ) → In a (xs ++ ys) → In a (xs ++ x ∷ ys)
 in_with a x xs ys h = elim (in_either a xs ys h) [ inl k ↦ in_early a xs (x ∷ ys) k | inr k ↦ in_late a xs (x ∷ ys) (inr k) ]
 
 -- and without it, or is it
-in_without : (a x : ℕ) (xs ys : List ℕ) → In a (xs ++ x ∷ ys) → In a (xs ++ ys) ⊎ (a ≡ x)
+pub in_without : (a x : ℕ) (xs ys : List ℕ) → In a (xs ++ x ∷ ys) → In a (xs ++ ys) ⊎ (a ≡ x)
 in_without a x xs ys h = elim (in_either a xs (x ∷ ys) h) [ inl k ↦ inl (in_early a xs ys k) | inr (inl e) ↦ inr e | inr (inr k) ↦ inl (in_late a xs ys k) ]
 
-distinct_without : (x : ℕ) (xs ys : List ℕ) → IsDistinct (xs ++ x ∷ ys) → IsDistinct (xs ++ ys) × (In x (xs ++ ys) → ⊥)
+pub distinct_without : (x : ℕ) (xs ys : List ℕ) → IsDistinct (xs ++ x ∷ ys) → IsDistinct (xs ++ ys) × (In x (xs ++ ys) → ⊥)
 distinct_without x [] ys d = (d.1, d.0)
 distinct_without x (z ∷ xs) ys d =
     let more = distinct_without x xs ys d.1 in
@@ -59,11 +59,11 @@ empty_not [] w rest e = cc
 empty_not (x ∷ front) w rest e = cc
 
 module _ (p : Problem ObjState Op Reply) where
-  split : (xs ys : List ℕ) (s t : ObjState) → Legal p s (xs ++ ys) t → (m : ObjState) × Legal p s xs m × Legal p m ys t
+  pub split : (xs ys : List ℕ) (s t : ObjState) → Legal p s (xs ++ ys) t → (m : ObjState) × Legal p s xs m × Legal p m ys t
   split [] ys s t h = (s, refl, h)
   split (x ∷ xs) ys s t h = let k = split xs ys h.0 t h.2 in (k.0, (h.0, h.1, k.1), k.2)
 
-  join : (xs ys : List ℕ) (s m t : ObjState) → Legal p s xs m → Legal p m ys t → Legal p s (xs ++ ys) t
+  pub join : (xs ys : List ℕ) (s m t : ObjState) → Legal p s xs m → Legal p m ys t → Legal p s (xs ++ ys) t
   join [] ys s m t h k = subst (λ (u : ObjState). Legal p u ys t) (sym h) k
   join (x ∷ xs) ys s m t h k = (h.0, h.1, join xs ys h.0 m t h.2 k)
 

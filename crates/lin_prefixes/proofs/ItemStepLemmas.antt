@@ -136,7 +136,7 @@ module _ {p : Problem ObjState Op Reply} (exact : IsExact p) where
       let k = fits_some p.same_reply (p.after s x.process x.op) x.returned m step' in
       (k.0, sym (exact.after_is s x.process x.op) ∙ k.1, k.2)
 
-  again : (s m : ObjState) (c : ℕ) (x : ProblemCall Op Reply) (r : Reply) → slice_get p.calls c ≡ Some x → Is (after s x.process x.op) m r → fits p.same_reply r x.returned ≡ true → next p s c ≡ Some m
+  pub again : (s m : ObjState) (c : ℕ) (x : ProblemCall Op Reply) (r : Reply) → slice_get p.calls c ≡ Some x → Is (after s x.process x.op) m r → fits p.same_reply r x.returned ≡ true → next p s c ≡ Some m
   again s m c x r there is fit = ap (after_call p s) there ∙ ap (state_if_fits p.same_reply x.returned) (exact.after_is s x.process x.op ∙ is) ∙ if_fits (fits p.same_reply r x.returned) m fit
 
   -- the reply that was recorded is the one answered

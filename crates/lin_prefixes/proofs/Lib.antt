@@ -8,5 +8,7 @@ pub mod WalkLemmas
 pub mod ItemStepLemmas
 pub mod FreedLemmas
 pub mod QuestionLemmas
+pub mod TwinLemmas
+pub mod PartedLemmas
 pub mod AnewLemmas
 pub mod OnlyReplyLemmas

@@ -102,7 +102,7 @@ module _ {Object : Type 0} (whole : ProblemParts Object ObjState Op Reply) where
   abbrev A : Problem ObjState Op Reply
   A = any_problem whole
 
-  exact : IsExact A
+  pub exact : IsExact A
   exact = record { after_is = λ s process op. refl; exact = reply_same }
 
   pub idle_call : (c : ℕ) (x : ProblemCall Op Reply) → slice_get whole.calls c ≡ Some x → ChangesNothing state_eq.it reply_eq.it after x.op x.returned → IsIdle A c

@@ -1,5 +1,5 @@
 -- Spared calls, for which an earlier one may stand in.
-use Rattle.std.specs.Prelude.{slice_index_or, filter, nat_lt, not, ◌&&◌}
+use Rattle.std.specs.Prelude.{All, slice_index_or, filter, nat_lt, not, ◌&&◌}
 use Rattle.std.proofs.Common.{◌≡◌, ◌≢◌, ℕ, ◌+◌, ◌<◌, ◌≤◌, Bool, true, false, true≢false, List, [], ◌∷◌, ◌++◌, length, length-append, ◌⊎◌, inl, inr, refl, sym, ◌∙◌, ap, subst, arith}
 use Rattle.std.proofs.lemmas.Bool.{cases_lt, ltb-true}
 use Rattle.lin_history.specs.Problems.Lists.{In}
@@ -8,10 +8,12 @@ use Rattle.lin_history.specs.Problems.Problem.{Problem}
 use Rattle.lin_history.specs.Problems.Precedence.{Before}
 use Rattle.lin_history.specs.Problems.Linearizations.{IsRun}
 use Rattle.lin_laws.specs.StandIns.{AreStandIns}
-use Rattle.lin_prefixes.specs.Prefixes.{IsBeaten, IsRunOf, IsRunLacking, AreOpen, AreSpared, AreSplit, is_spared}
+use Rattle.lin_prefixes.specs.declared.conflicts.OpenCalls.{OpenCalls}
+use Rattle.lin_prefixes.specs.Prefixes.{AreParted, IsConflict, IsBeaten, IsRunOf, IsRunLacking, AreOpen, AreSpared, AreSplit, is_spared}
+use Rattle.lin_parts.specs.ListLemmas.{rising_distinct}
 use Rattle.lin_prefixes.proofs.BeatenLemmas.{beaten_itself, beaten_chain}
 use Rattle.lin_prefixes.proofs.FullLemmas.{up_to_behind}
-use Rattle.lin_prefixes.proofs.LackLemmas.{in_or_not, lacking_of, room}
+use Rattle.lin_prefixes.proofs.LackLemmas.{distinct_join, in_no_run, in_or_not, lacking_of, room}
 use Rattle.lin_prefixes.proofs.ListLemmas.{filter_in, in_filter, rising_filter, true_or_not, not_both}
 
 -- a list has some of the calls, or none
@@ -95,17 +97,28 @@ module _ {State Op Reply : Type 0} (p : Problem State Op Reply) (k : ℕ) where
         let t : ℕ → Bool = is_spared k until first in
         let s : ℕ → Bool = λ c. not (is_spared k until first c) in
         rw (e, f) (record {
-          spared_rise = rising_filter t open_calls are.rises;
-          others_rise = rising_filter s open_calls are.rises;
+          distinct = distinct_join (filter t open_calls) (filter s open_calls) (rising_distinct (filter t open_calls) (rising_filter t open_calls are.rises)) (rising_distinct (filter s open_calls) (rising_filter s open_calls are.rises))
+              (λ c l h. not_both (is_spared k until first c) (filter_in t open_calls c h).1 (filter_in s open_calls c l).1);
           there = λ c h done. elim (are.there c (omega (arith, h)) done) [
             | inl before ↦ inl before
             | inr inside ↦ elim (true_or_not (is_spared k until first c)) [ inl x ↦ inr (inl (in_filter t open_calls c inside x)) | inr x ↦ inr (inr (in_filter s open_calls c inside x)) ]
           ];
           spared_below = λ c h. (let less = are.below c (filter_in t open_calls c h).0 in omega (arith, less));
           others_below = λ c h. (let less = are.below c (filter_in s open_calls c h).0 in omega (arith, less));
-          apart = λ c h l. not_both (is_spared k until first c) (filter_in t open_calls c h).1 (filter_in s open_calls c l).1;
           without = spared_by (filter t open_calls) (λ c h. (pair_of k until first c (filter_in t open_calls c h).1, are.apart c (filter_in t open_calls c h).0));
         })
+
+  -- The calls that are conflicts of their own are in no run, and so they are spared too.
+  pub split_again : (conflicts : List (List ℕ)) (spared others : List ℕ) (parted : OpenCalls) → All (IsConflict p k) conflicts → AreSplit p k spared others → AreParted conflicts spared others parted → AreSplit p k parted.gone.items parted.left.items
+  split_again conflicts spared others parted are s m = record {
+    distinct = m.distinct;
+    there = λ c h done. elim (s.there c h done) [ inl before ↦ inl before | inr open_call ↦ inr (m.there c open_call) ];
+    spared_below = λ c h. elim (m.gone c h) [ inl a ↦ s.spared_below c a | inr a ↦ s.others_below c a.0 ];
+    others_below = λ c h. s.others_below c (m.left c h);
+    without = λ r w.
+        let l = s.without r w in
+        (l.0, l.1, l.2, λ c h there. elim (m.gone c h) [ inl a ↦ l.3 c a there | inr a ↦ in_no_run p k conflicts c are a.1 l.0 l.1 there ]);
+  }
 
   module _ (spared others best : List ℕ) (s : AreSplit p k spared others) where
     -- The runs of k are beaten where those that lack few of the open calls are, and the others are too short.

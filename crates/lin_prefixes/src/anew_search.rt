@@ -11,6 +11,7 @@ use crate::open_takers::open_takers;
 use crate::part_search::{PartSearch, RunsTold};
 use crate::question::{Question, part_for};
 use crate::told_of_part::{order_of_part, told_of_part};
+use crate::twins::is_repeated;
 use lin_effort::efforts::{bound, group};
 use lin_effort::{Decide, Decision, Effort, Work};
 use lin_history::Problem;
@@ -129,6 +130,10 @@ impl<'a, D: Decide> PartSearch<AnyObject> for AnewSearch<'a, D> {
         let told = self.told_of_runs(alloc, problem, call, calls)?;
         self.asked.add(alloc, call, calls, told)?;
         Ok(told)
+    }
+
+    fn is_repeated(&self, problem: &Problem<AnyObject>, earlier: usize, later: usize) -> bool {
+        is_repeated(problem, earlier, later)
     }
 
     fn stand_ins(

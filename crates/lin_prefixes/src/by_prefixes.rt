@@ -10,7 +10,7 @@ ghost use Rattle.lin_search.specs.LongestRun.{IsFirstLongest};
 ghost use Rattle.lin_prefixes.specs.Prefixes.{IsBeaten, IsConflict, IsRunOf, AreOpen, AreSplit, HasNoRunOf, is_spared};
 
 use crate::choices::{Choice, try_open};
-use crate::conflicts::{Conflict, Cut, first_conflicts, least_lacking};
+use crate::conflicts::{Conflict, Cut, first_conflicts, parted};
 use crate::part_search::{PartSearch, RunsTold};
 use lin_history::{Order, Problem};
 use lin_object::SeqObject;
@@ -183,8 +183,7 @@ fn try_levels<O: SeqObject, S: PartSearch<O>>(
         → IsRunOf (problem_of O.after O.State.eq O.Reply.eq problem.now) cut.entry.call r
         → IsBeaten best.new r) }
 {
-    let least = least_lacking(problem, cut, conflicts.as_slice());
-    for lacking in least..cut.others.len() + 1 {
+    for lacking in 0..cut.others.len() + 1 {
         if !may_be_best(best, cut.call, cut.spared.len() + lacking) {
             return Ok(true);
         }
@@ -231,7 +230,13 @@ fn try_cut<O: SeqObject, S: PartSearch<O>>(
     let Some(mut conflicts) = first_conflicts(alloc, problem, search, cut, hints.as_slice())? else {
         return Ok(false);
     };
-    let known = try_levels(alloc, problem, search, cut, &mut conflicts, best)?;
+    let parted = parted(alloc, cut, conflicts.as_slice())?;
+    let rest = Cut {
+        call: cut.call,
+        spared: parted.gone.as_slice(),
+        others: parted.left.as_slice(),
+    };
+    let known = try_levels(alloc, problem, search, rest, &mut conflicts, best)?;
     *hints = conflicts;
     Ok(known)
 }

@@ -1,10 +1,10 @@
 //! Conflicts of a call: completed calls up to it of which each of its runs lacks one.
 //!
 //! Which calls are asked of is a hint. A conflict is made only of calls for which the search tells that no run has all of them.
-ghost use Rattle.std.specs.Prelude.{◌≡◌, ◌<◌, ◌≤◌, ◌^◌, ◌+◌, ◌∷◌, [], ℕ, List, All, IfOk, IfSome, IsTrue, length};
-ghost use Rattle.lin_history.specs.Problems.Lists.{In};
+ghost use Rattle.std.specs.Prelude.{◌≡◌, ◌<◌, ◌≤◌, ◌++◌, ◌∷◌, [], ℕ, List, All, IfOk, IfSome, IsTrue, length};
+ghost use Rattle.lin_history.specs.Problems.Lists.{In, IsDistinct};
 ghost use Rattle.lin_history.specs.Problems.Problem.{problem_of};
-ghost use Rattle.lin_prefixes.specs.Prefixes.{AreCompletedUpTo, IsConflict, IsRunOf, IsSingle, IsUnset, Lacks, SomeMissed};
+ghost use Rattle.lin_prefixes.specs.Prefixes.{AreCompletedUpTo, AreParted, HasNoRunWith, IsConflict, IsSingle, IsUnset, SomeMissed};
 
 use crate::call_lists::is_unset;
 use crate::part_search::{PartSearch, RunsTold};
@@ -46,6 +46,15 @@ impl Conflict {
         Ok(Conflict {
             calls: Vec::from_slice(alloc, calls)?,
         })
+    }
+
+    // The conflict of one call.
+    fn of_one(alloc: Global, call: usize) -> Result<Self, AllocError>
+        ensures { IfOk result (λ made. made ≡ call ∷ []) }
+    {
+        let mut calls = Vec::new(alloc);
+        calls.push(call)?;
+        Ok(Conflict { calls })
     }
 
     // The calls.
@@ -183,68 +192,14 @@ pub(crate) fn add_conflict<O: SeqObject, S: PartSearch<O>>(
     add_known(alloc, problem, search, call, few.as_slice(), conflicts)
 }
 
-// Adds those of the calls that no run has, as far as that is known, each as a conflict of its own: the calls are halved where no
-// run has all of them. `false` where the search has come to its end.
-fn add_single_conflicts<O: SeqObject, S: PartSearch<O>>(
-    alloc: Global,
-    problem: &Problem<O>,
-    search: &mut S,
-    call: usize,
-    calls: &[usize],
-    conflicts: &mut Vec<Conflict>,
-) -> Result<bool, AllocError>
-    requires call { call < length problem.now.calls }
-    requires conflicts { All (IsConflict (problem_of O.after O.State.eq O.Reply.eq problem.now) call)
-        conflicts.old.items }
-    ensures { IfOk result (λ goes_on. All
-        (IsConflict (problem_of O.after O.State.eq O.Reply.eq problem.now) call)
-        conflicts.new.items) }
-{
-    if calls.is_empty() {
-        return Ok(true);
-    }
-    if calls.len() == 1 {
-        return add_known(alloc, problem, search, call, calls, conflicts);
-    }
-    match search.runs_with(alloc, problem, call, calls)? {
-        RunsTold::NoRun => {}
-        RunsTold::SomeRun | RunsTold::Nothing => return Ok(true),
-        RunsTold::Ended => return Ok(false),
-    }
-    let (first, second) = calls.split_at(calls.len() / 2);
-    if !add_single_conflicts(alloc, problem, search, call, first, conflicts)? {
-        return Ok(false);
-    }
-    add_single_conflicts(alloc, problem, search, call, second, conflicts)
-}
-
-// Those of the conflicts that are conflicts of this call too. `None` where the search has come to its end.
-fn conflicts_again<O: SeqObject, S: PartSearch<O>>(
-    alloc: Global,
-    problem: &Problem<O>,
-    search: &mut S,
-    call: usize,
-    hints: &[Conflict],
-) -> Result<Option<Vec<Conflict>>, AllocError>
-    requires { call < length problem.now.calls }
-    ensures { IfOk result (λ answer. IfSome answer (λ conflicts. All
-        (IsConflict (problem_of O.after O.State.eq O.Reply.eq problem.now) call) conflicts.items)) }
-{
-    let mut conflicts = Vec::new(alloc);
-    for hint in hints {
-        if !add_known(alloc, problem, search, call, hint.calls(), &mut conflicts)? {
-            return Ok(None);
-        }
-    }
-    Ok(Some(conflicts))
-}
-
 // The calls of the list that are no conflicts of their own.
 fn not_single(
     alloc: Global,
     calls: &[usize],
     conflicts: &[Conflict],
-) -> Result<Vec<usize>, AllocError> {
+) -> Result<Vec<usize>, AllocError>
+    ensures { IfOk result (λ left. length left.items ≤ length calls.now) }
+{
     let mut left = Vec::new(alloc);
     for c in calls {
         if !is_in_no_run(conflicts, *c) {
@@ -252,6 +207,119 @@ fn not_single(
         }
     }
     Ok(left)
+}
+
+// Adds the call, which no run has, and those of the others that repeat it, each as a conflict of its own.
+fn add_repeated<O: SeqObject, S: PartSearch<O>>(
+    alloc: Global,
+    problem: &Problem<O>,
+    search: &S,
+    cut: Cut<'_>,
+    single: usize,
+    conflicts: &mut Vec<Conflict>,
+) -> Result<(), AllocError>
+    requires call { cut.call < length problem.now.calls }
+    requires conflicts { All (IsConflict (problem_of O.after O.State.eq O.Reply.eq problem.now) cut.call)
+        conflicts.old.items }
+    requires single { HasNoRunWith (problem_of O.after O.State.eq O.Reply.eq problem.now) cut.call
+        (single ∷ []) }
+    ensures { IfOk result (λ added. All
+        (IsConflict (problem_of O.after O.State.eq O.Reply.eq problem.now) cut.entry.call)
+        conflicts.new.items) }
+{
+    for c in cut.others {
+        if *c != single && !search.is_repeated(problem, single, *c) {
+            continue;
+        }
+        let conflict = Conflict::of_one(alloc, *c)?;
+        if are_completed_up_to(problem, conflict.calls(), cut.call) {
+            conflicts.push(conflict)?;
+        }
+    }
+    Ok(())
+}
+
+// Adds those of the calls that no run has, as far as that is known, each as a conflict of its own: the calls are halved where no
+// run has all of them. `false` where the search has come to its end.
+fn add_single_conflicts<O: SeqObject, S: PartSearch<O>>(
+    alloc: Global,
+    problem: &Problem<O>,
+    search: &mut S,
+    cut: Cut<'_>,
+    calls: &[usize],
+    conflicts: &mut Vec<Conflict>,
+) -> Result<bool, AllocError>
+    requires call { cut.call < length problem.now.calls }
+    requires conflicts { All (IsConflict (problem_of O.after O.State.eq O.Reply.eq problem.now) cut.call)
+        conflicts.old.items }
+    ensures { IfOk result (λ goes_on. All
+        (IsConflict (problem_of O.after O.State.eq O.Reply.eq problem.now) cut.entry.call)
+        conflicts.new.items) }
+{
+    let left = not_single(alloc, calls, conflicts.as_slice())?;
+    if left.is_empty() {
+        return Ok(true);
+    }
+    match search.runs_with(alloc, problem, cut.call, left.as_slice())? {
+        RunsTold::NoRun => {}
+        RunsTold::SomeRun | RunsTold::Nothing => return Ok(true),
+        RunsTold::Ended => return Ok(false),
+    }
+    if left.len() == 1 {
+        add_repeated(alloc, problem, search, cut, left[0], conflicts)?;
+        return Ok(true);
+    }
+    let (first, second) = left.as_slice().split_at(left.len() / 2);
+    if !add_single_conflicts(alloc, problem, search, cut, first, conflicts)? {
+        return Ok(false);
+    }
+    add_single_conflicts(alloc, problem, search, cut, second, conflicts)
+}
+
+// Adds the conflict of another call, where it is one of this call too: whether the search goes on.
+fn add_again<O: SeqObject, S: PartSearch<O>>(
+    alloc: Global,
+    problem: &Problem<O>,
+    search: &mut S,
+    cut: Cut<'_>,
+    hint: &Conflict,
+    conflicts: &mut Vec<Conflict>,
+) -> Result<bool, AllocError>
+    requires call { cut.call < length problem.now.calls }
+    requires conflicts { All (IsConflict (problem_of O.after O.State.eq O.Reply.eq problem.now) cut.call)
+        conflicts.old.items }
+    ensures { IfOk result (λ goes_on. All
+        (IsConflict (problem_of O.after O.State.eq O.Reply.eq problem.now) cut.entry.call)
+        conflicts.new.items) }
+{
+    if hint.calls().len() != 1 {
+        return add_known(alloc, problem, search, cut.call, hint.calls(), conflicts);
+    }
+    if !are_completed_up_to(problem, hint.calls(), cut.call) {
+        return Ok(true);
+    }
+    add_single_conflicts(alloc, problem, search, cut, hint.calls(), conflicts)
+}
+
+// Those of the conflicts that are conflicts of this call too. `None` where the search has come to its end.
+fn conflicts_again<O: SeqObject, S: PartSearch<O>>(
+    alloc: Global,
+    problem: &Problem<O>,
+    search: &mut S,
+    cut: Cut<'_>,
+    hints: &[Conflict],
+) -> Result<Option<Vec<Conflict>>, AllocError>
+    requires { cut.call < length problem.now.calls }
+    ensures { IfOk result (λ answer. IfSome answer (λ conflicts. All
+        (IsConflict (problem_of O.after O.State.eq O.Reply.eq problem.now) cut.entry.call) conflicts.items)) }
+{
+    let mut conflicts = Vec::new(alloc);
+    for hint in hints {
+        if !add_again(alloc, problem, search, cut, hint, &mut conflicts)? {
+            return Ok(None);
+        }
+    }
+    Ok(Some(conflicts))
 }
 
 /// The conflicts of the cut to begin with: those that are given as hints, of another one, and are conflicts here too; and those of the
@@ -268,18 +336,10 @@ pub(crate) fn first_conflicts<O: SeqObject, S: PartSearch<O>>(
         (IsConflict (problem_of O.after O.State.eq O.Reply.eq problem.now) cut.entry.call)
         conflicts.items)) }
 {
-    let Some(mut conflicts) = conflicts_again(alloc, problem, search, cut.call, hints)? else {
+    let Some(mut conflicts) = conflicts_again(alloc, problem, search, cut, hints)? else {
         return Ok(None);
     };
-    let left = not_single(alloc, cut.others, conflicts.as_slice())?;
-    let goes_on = add_single_conflicts(
-        alloc,
-        problem,
-        search,
-        cut.call,
-        left.as_slice(),
-        &mut conflicts,
-    )?;
+    let goes_on = add_single_conflicts(alloc, problem, search, cut, cut.others, &mut conflicts)?;
     if !goes_on {
         return Ok(None);
     }
@@ -311,25 +371,32 @@ fn is_in_no_run(conflicts: &[Conflict], call: usize) -> bool
     false
 }
 
-/// How many of the open calls that are not spared each run lacks at least: those that are conflicts of their own.
-pub(crate) fn least_lacking<O: SeqObject>(
-    problem: &Problem<O>,
+/// The open calls of a cut that are no conflicts of their own, and those that are, behind those that are spared.
+#[derive(Drop)]
+pub(crate) struct OpenCalls {
+    pub(crate) gone: Vec<usize>,
+    pub(crate) left: Vec<usize>,
+}
+
+/// The open calls of the cut, parted so.
+pub(crate) fn parted(
+    alloc: Global,
     cut: Cut<'_>,
     conflicts: &[Conflict],
-) -> usize
-    requires { All (IsConflict (problem_of O.after O.State.eq O.Reply.eq problem.now) cut.call)
-        conflicts.now }
-    ensures { (r : List ℕ) (d : ℕ)
-        → IsRunOf (problem_of O.after O.State.eq O.Reply.eq problem.now) cut.entry.call r
-        → Lacks r cut.entry.others.now d → result ≤ d }
+) -> Result<OpenCalls, AllocError>
+    requires { IsDistinct (cut.spared.now ++ cut.others.now) }
+    ensures { IfOk result (AreParted conflicts.now cut.entry.spared.now cut.entry.others.now) }
 {
-    let mut least = 0;
+    let mut gone = Vec::from_slice(alloc, cut.spared)?;
+    let mut left = Vec::new(alloc);
     for c in cut.others {
         if is_in_no_run(conflicts, *c) {
-            least += 1;
+            gone.push(*c)?;
+        } else {
+            left.push(*c)?;
         }
     }
-    least
+    Ok(OpenCalls { gone, left })
 }
 
 // Whether no call of the conflict has a flag in either list.

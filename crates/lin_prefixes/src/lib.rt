@@ -12,6 +12,7 @@
 //!   parts; `told_of_part`: what is told of one, by whatever decides problems or by a few of its calls that alone have no
 //!   linearization.
 //! - `conflicts`: groups of calls of which each run lacks one; `choices`: which calls are left out, by conflicts.
+//! - `twins`: calls that do what an earlier one did.
 //! - `asked_groups`: groups of calls that are not asked of again.
 //! - `marks`: which calls a part has as they are, and which stay out.
 //! - `open_takers`: open dequeues and pops that may stay out of a run of a queue or a stack.
@@ -34,6 +35,9 @@
 //!   change nothing. Only a queue's open dequeues and a stack's open pops stay out altogether, and then the calls that put in what they
 //!   took may too: as pending calls they would take what nobody took, and hide what is lost. So a *no* is right for all kinds,
 //!   and a *yes* for all but these two. Which group is asked about is a hint.
+//! - If no run has an open call, none has a later one of the same operation and reply, which changes nothing: the first would fit right
+//!   before it. So for each of these *twins* no search is made (`PartSearch::is_repeated`). All calls that are in no run are left out at
+//!   once, however many there are.
 //! - A pending `lock` or `unlock` of a mutex may have no step, but if it has one, its reply is `ok`. For the longest run each of
 //!   them returns with it behind all events (`only_replies`): the runs stay the same lists. So a run need not end with all of them.
 //! - If the processes of several acquires call no unlock after them up to k, a run of k has one of these acquires at most: nobody
@@ -49,7 +53,7 @@
 //!
 //! - `lin_prefixes` knows any search through one trait, compares what it makes, replays what it finds, and leaves calls out by
 //!   recursion, so no set of calls is a value. The whole is refuted first and on its own, since a linearization may be shorter than
-//!   a longest run. It never leaves out more than 256 calls, since each is one level of the recursion.
+//!   a longest run. Beside those that are in no run it never leaves out more than 256 calls, since each is one level of the recursion.
 //! - A part of a counter is asked for sums that leave no room (`lin_core`), and one of a queue or a stack for a core, before most of the
 //!   work of its search. The whole is often refuted by a core alone. Without one for each part, no prefix was refuted: the last call was the last
 //!   of all, and what was left out of the rest was in vain. A queue whose items go round, of 16 processes and 4,000 calls, with one
@@ -60,8 +64,9 @@
 //!   by itself.
 //! - A group of calls is asked about only once, and so are its parts at the same call, unless there is no run with it: a run that has
 //!   many calls has few of them, and what is not decided for many is seldom decided for few (`asked_groups`, a hint). If something is
-//!   known ahead, such a question searches for one round only, since what is known mostly shows by itself that no run has the group. Without both, a stack with
-//!   a backlog of 32 and 4,096 calls made four times as many lifts, most of them in the second round of such questions.
+//!   known ahead, such a question searches for one round only, since what is known mostly shows by itself that no run has the group.
+//!   Without both, a stack with a backlog of 32 and 4,096 calls made four times as many lifts, most of them in the second round of such
+//!   questions.
 //! - Pending locks and unlocks return with `ok` behind all events before a mutex's longest run is sought. A pending call that stays
 //!   pending stands at the end of each candidate, and so has to have a step there, which a lock of a held mutex has not. A
 //!   completed one may be left out like any other open call. How the problem is made is not proved: it is compared with the
@@ -92,6 +97,7 @@ mod open_takers;
 mod part_search;
 mod question;
 mod told_of_part;
+mod twins;
 mod whole_answer;
 mod whole_search;
 

@@ -1,9 +1,10 @@
 //! A search of the problem of some of a problem's calls.
-ghost use Rattle.std.specs.Prelude.{◌≡◌, ◌<◌, ◌≤◌, ℕ, length, IfOk};
+ghost use Rattle.std.specs.Prelude.{◌≡◌, ◌<◌, ◌≤◌, ℕ, length, IfOk, IsTrue};
 ghost use Rattle.lin_history.specs.Problems.Lists.{In};
 ghost use Rattle.lin_history.specs.Problems.Problem.{problem_of};
 ghost use Rattle.lin_laws.specs.StandIns.{AreStandIns};
 ghost use Rattle.lin_parts.specs.Parts.{IsRising};
+ghost use Rattle.lin_prefixes.specs.Prefixes.{StandsBefore};
 ghost use Rattle.lin_prefixes.specs.RunsTold.{IsToldOfRuns};
 ghost use Rattle.lin_prefixes.specs.PartAnswer.{IsPartAnswer};
 
@@ -57,6 +58,11 @@ pub trait PartSearch<O: SeqObject> {
         requires { call < length problem.now.calls }
         ensures { IfOk result (IsToldOfRuns
             (problem_of O.after O.State.eq O.Reply.eq problem.now) call calls.now) };
+
+    /// Whether the later call does what the earlier one did, so that a call of whose runs one has the later has a run with the earlier.
+    fn is_repeated(&self, problem: &Problem<O>, earlier: usize, later: usize) -> bool
+        ensures { IsTrue result → (k : ℕ) → StandsBefore
+            (problem_of O.after O.State.eq O.Reply.eq problem.now) k earlier later };
 
     /// A number for each of the first calls, and 0 for the others: a run with calls up to `k` alone that has an open call whose number
     /// is greater than `k` may have each earlier call whose number is greater in its place, and has none beside it. `AllocError` where

@@ -56,7 +56,8 @@ alone_by p event kept calls values firsts (inr (inl enough)) = cut_by p event ke
 alone_by p event kept calls values firsts (inr (inr (inl (inl enough)))) = cut_by p event kept calls enough.cut
 alone_by p event kept calls values firsts (inr (inr (inl (inr enough)))) = cut_by p event kept calls enough.cut
 alone_by p event kept calls values firsts (inr (inr (inr (inl enough)))) = cut_by p event kept calls enough.cut
-alone_by p event kept calls values firsts (inr (inr (inr (inr odd)))) = cut_by p event kept calls odd.0
+alone_by p event kept calls values firsts (inr (inr (inr (inr (inl odd))))) = cut_by p event kept calls odd.0
+alone_by p event kept calls values firsts (inr (inr (inr (inr (inr of_item))))) = cut_by p event kept calls of_item.enough.cut
 
 core_by : (p : Problem ObjState Op Reply) (from : Option ℕ) (event : ℕ) (key : Option MapKey) (values : List ℤ) (kept firsts : List ℕ) → IsCoreOf p from event key values kept firsts → AreCalledBy p event kept
 core_by p None event None values kept firsts core = alone_by p event kept core.calls values firsts core.enough

@@ -11,7 +11,7 @@ loop-lacking-init g c = record {
   run = c.requires.run;
   better = beaten_itself c.args.best.now;
   conflicts = c.requires.conflicts;
-  tried = λ d h r w. absurd (let least = c.least_lacking-least.ensures r d w.run w.lacks in omega (arith, h, least));
+  tried = λ d h r w. absurd (omega (arith, h));
 }
 
 pub returns-then-lacking-gt-MOST_LACKING-clause-better : goal.returns-then-lacking-gt-MOST_LACKING-clause-better

@@ -4,4 +4,4 @@ use Rattle.lin_prefixes.specs.Prefixes.{IsConflict}
 use Rattle.lin_prefixes.proofs.conflicts.conflicts_again.Given as goal
 
 abbrev pub invariant-loop-hint : goal.invariant-loop-hint
-invariant-loop-hint g l = All (IsConflict (problem_of g.O.SeqObject.after g.O.State.PartialEq.eq g.O.Reply.PartialEq.eq l.problem) l.call) l.conflicts.items
+invariant-loop-hint g l = All (IsConflict (problem_of g.O.SeqObject.after g.O.State.PartialEq.eq g.O.Reply.PartialEq.eq l.problem) l.cut.call) l.conflicts.items
