@@ -825,6 +825,21 @@ def forgotten_add(processes, share):
     return lambda calls: lines("c", "counter", timing_out(ForgetfulCounter(calls), processes, calls, share))
 
 
+def unknown_items(model, processes, unknown):
+    """A queue or a stack, about so many of whose calls never return."""
+    return lambda calls: lines("b", model.kind, timing_out(model(), processes, calls, 100 * unknown / calls))
+
+
+def unknown_items_swapped(model, processes, unknown):
+    """The same, two results in each other's place."""
+    return lambda calls: lines("b", model.kind, with_swapped_results(timing_out(model(), processes, calls, 100 * unknown / calls), model.take))
+
+
+def unknown_repeated(values, processes, unknown):
+    """A queue of items that repeat, about so many of whose calls never return."""
+    return lambda calls: lines("j", "queue", timing_out(RepeatedQueue(values), processes, calls, 100 * unknown / calls))
+
+
 def unknown_objects(number):
     """So many registers in turn, of 150 to 190 calls by 5 clients, 5 to 30 % of them of unknown outcome."""
     chance = random.Random(SEED)
@@ -1288,6 +1303,29 @@ FAMILIES = {
             "the same, with stale reads that pending calls explain", "calls", [200], 0, unknown(processes, share, STALE_READS[processes])
         )
         for processes, share in ((5, 30), (10, 15), (10, 30), (20, 5), (20, 15), (20, 30))
+    },
+    **{
+        f"unknown_{model.kind}_{processes}_{count}": Family(
+            f"a {model.kind}, {processes} clients, about {count} of the calls never return", "calls", [2000, 4000, 16000], 0, unknown_items(model, processes, count)
+        )
+        for model in (Queue, Stack)
+        for processes in (32, 64)
+        for count in (14, 100, 300)
+    },
+    **{
+        f"unknown_{model.kind}_{processes}_{count}_no": Family(
+            "the same, two results swapped", "calls", [2000, 4000, 16000], 1, unknown_items_swapped(model, processes, count)
+        )
+        for model in (Queue, Stack)
+        for processes in (32, 64)
+        for count in (14, 100, 300)
+    },
+    **{
+        f"unknown_repeated_{values}_{count}": Family(
+            f"a queue of {values} items that repeat, filled to 20 and emptied, 8 clients, about {count} of the calls never return", "calls", [4000], 0, unknown_repeated(values, 8, count)
+        )
+        for values in (16, 100)
+        for count in (10, 30, 100)
     },
     "unknown_objects": Family("registers of 150 to 190 calls, 5 clients, values 0 to 4, 5 to 30 % of the calls never return", "objects", [100], 0, unknown_objects),
     **{

@@ -8,6 +8,8 @@
 //!   |     |  (of a counter in the other order)
 //!   |  by blocks: pending calls only between completed ones --------------------------------- told ---> that
 //!   |     |
+//!   |  once, where calls are pending: a queue or a stack without its lost items ------- there is none ---> none
+//!   |     |
 //!   +-----+ nothing: the next round, several times as far, until the effort or the work ends
 //!
 //! How far each goes stands in `lin_effort::efforts`; there is no number here.
@@ -26,7 +28,8 @@ use lin_ahead::{KnownAhead, held_until, known_ahead, search_first};
 use lin_effort::efforts::may_take_steps;
 use lin_effort::{Decide, Decision, Effort, Keys, Meter, Work};
 use lin_fewer::{SumRules, has_many_pending, is_refuted_with_any_adds, least_linearization};
-use lin_history::Problem;
+use lin_history::{Order, Problem};
+use lin_lost::{Remainder, without_lost};
 use lin_object::{AnyObject, ObjState, Op, Reply};
 use lin_search::{Stop, Told, search_for_order};
 use std::alloc::{AllocError, Global};
@@ -44,6 +47,11 @@ fn is_mutex(problem: &Problem<AnyObject>) -> bool {
 // Whether it is a set.
 fn is_set(problem: &Problem<AnyObject>) -> bool {
     matches!(problem.start(), ObjState::Set(_))
+}
+
+// Whether some call is pending.
+fn has_pending(problem: &Problem<AnyObject>) -> bool {
+    problem.calls().iter().any(|call| call.returned.is_none())
 }
 
 // What a search tells of a map or a set that goes key by key.
@@ -115,6 +123,40 @@ fn told_in_order<S: Stop>(
     search_first(alloc, problem, ahead, lifts, stop)
 }
 
+// Whether the problem has no linearization, by what shows without a search, or by a search that goes by the order of the calls.
+fn has_none_in_order<S: Stop>(
+    alloc: Global,
+    problem: &Problem<AnyObject>,
+    lifts: u64,
+    stop: &mut S,
+) -> Result<bool, AllocError>
+    ensures { IfOk result (λ none. IsTrue none
+        → (l : List ℕ) → IsLinearization (any_problem problem.now) l → ⊥) }
+{
+    let known = known_ahead(alloc, problem)?;
+    if shows_none(alloc, problem, &known)? {
+        return Ok(true);
+    }
+    match told_in_order(alloc, problem, &known, Keys::Never, lifts, stop)? {
+        Told::Refuted => Ok(true),
+        Told::Found(_) | Told::Nothing => Ok(false),
+    }
+}
+
+// An order of the problem, if a search finds one that goes by the order of the calls.
+fn order_of<S: Stop>(
+    alloc: Global,
+    problem: &Problem<AnyObject>,
+    lifts: u64,
+    stop: &mut S,
+) -> Result<Option<Order>, AllocError> {
+    let known = known_ahead(alloc, problem)?;
+    match told_in_order(alloc, problem, &known, Keys::Never, lifts, stop)? {
+        Told::Found(order) => Ok(Some(order)),
+        Told::Refuted | Told::Nothing => Ok(None),
+    }
+}
+
 // What is decided where this is told; where nothing is, nothing will be once all has ended.
 fn decision_of(told: Told, has_ended: bool) -> Decision
     ensures decided { (p : ProblemOf ObjState Op Reply) → IsRightOf p told → IsDecisionOf p result }
@@ -132,6 +174,7 @@ fn decision_of(told: Told, has_ended: bool) -> Decision
 /// takes what it does.
 #[derive(Drop)]
 pub struct Ladder<'a, S> {
+    has_pending: bool,
     has_many_pending: bool,
     meter: Meter<'a, S>,
 }
@@ -140,6 +183,7 @@ impl<'a, S: Stop> Ladder<'a, S> {
     /// The ladder for a problem and its parts, with so much work and this stop.
     pub fn new(problem: &Problem<AnyObject>, work: Work, stop: &'a mut S) -> Self {
         Ladder {
+            has_pending: has_pending(problem),
             has_many_pending: has_many_pending(problem),
             meter: Meter::new(work, stop),
         }
@@ -210,6 +254,52 @@ impl<'a, S: Stop> Ladder<'a, S> {
         }
     }
 
+    // Whether a queue or a stack with pending calls has no linearization, as it has none without its lost items: with as many lifts as the
+    // first round has. A selection of calls, which never goes by key, is judged as it is: a core is to show a fault by few calls.
+    fn is_refuted_without_lost(
+        &mut self,
+        alloc: Global,
+        problem: &Problem<AnyObject>,
+        effort: &Effort,
+    ) -> Result<bool, AllocError>
+        ensures { IfOk result (λ refuted. IsTrue refuted
+            → (l : List ℕ) → IsLinearization (any_problem problem.now) l → ⊥) }
+    {
+        if !self.has_pending || effort.keys == Keys::Never {
+            return Ok(false);
+        }
+        if !self.goes_on(Work::of_rows(problem.len())) {
+            return Ok(false);
+        }
+        let Some(rest) = without_lost(alloc, problem)? else {
+            return Ok(false);
+        };
+        has_none_in_order(alloc, &rest, effort.lifts, &mut self.meter)
+    }
+
+    /// Whether it shows that a queue or a stack with pending calls has a linearization, though not which is the least: from an order of what
+    /// is left of it without lost items. `AllocError` where memory was refused.
+    pub fn shows_order(
+        &mut self,
+        alloc: Global,
+        problem: &Problem<AnyObject>,
+        effort: &Effort,
+    ) -> Result<bool, AllocError>
+        ensures { IfOk result (λ shown. IsTrue shown
+            → (l : List ℕ) × IsLinearization (any_problem problem.now) l) }
+    {
+        if !self.has_pending || !self.goes_on(Work::of_rows(problem.len())) {
+            return Ok(false);
+        }
+        let Some(left) = Remainder::of(alloc, problem)? else {
+            return Ok(false);
+        };
+        match order_of(alloc, left.rest(), effort.lifts, &mut self.meter)? {
+            Some(order) => left.shows_order(alloc, problem, order.calls()),
+            None => Ok(false),
+        }
+    }
+
     // What rounds tell, each of which goes several times as far as the one before.
     fn rounds(
         &mut self,
@@ -222,14 +312,18 @@ impl<'a, S: Stop> Ladder<'a, S> {
         ensures { IfOk result (IsRightOf (any_problem problem.now)) }
     {
         let mut lifts = effort.lifts;
-        for _ in 0..effort.rounds_for(known.is_some()) {
+        for round in 0..effort.rounds_for(known.is_some()) {
             if self.meter.has_ended() {
                 return Ok(Told::Nothing);
             }
             match self.round(alloc, problem, known, effort, lifts)? {
-                Told::Nothing => lifts = lifts.saturating_mul(effort.growth),
+                Told::Nothing => {}
                 told => return Ok(told),
             }
+            if round == 0 && self.is_refuted_without_lost(alloc, problem, effort)? {
+                return Ok(Told::Refuted);
+            }
+            lifts = lifts.saturating_mul(effort.growth);
         }
         Ok(Told::Nothing)
     }
