@@ -25,7 +25,7 @@ ghost use Rattle.lin_search.specs.Told.{IsRightOf};
 use crate::keys::key_search::search_by_key;
 use crate::shown::shows_none;
 use lin_ahead::{KnownAhead, held_until, known_ahead, search_first};
-use lin_effort::efforts::may_take_steps;
+use lin_effort::efforts::{lifts_within, may_take_steps};
 use lin_effort::{Decide, Decision, Effort, Keys, Meter, Work};
 use lin_fewer::{SumRules, has_many_pending, is_refuted_with_any_adds, least_linearization};
 use lin_history::{Order, Problem};
@@ -311,11 +311,12 @@ impl<'a, S: Stop> Ladder<'a, S> {
         requires { IfSome known.now (IsRightAhead (any_problem problem.now)) }
         ensures { IfOk result (IsRightOf (any_problem problem.now)) }
     {
-        let mut lifts = effort.lifts;
+        let mut wanted = effort.lifts;
         for round in 0..effort.rounds_for(known.is_some()) {
             if self.meter.has_ended() {
                 return Ok(Told::Nothing);
             }
+            let lifts = wanted.min(lifts_within(self.meter.left()));
             match self.round(alloc, problem, known, effort, lifts)? {
                 Told::Nothing => {}
                 told => return Ok(told),
@@ -323,7 +324,7 @@ impl<'a, S: Stop> Ladder<'a, S> {
             if round == 0 && self.is_refuted_without_lost(alloc, problem, effort)? {
                 return Ok(Told::Refuted);
             }
-            lifts = lifts.saturating_mul(effort.growth);
+            wanted = wanted.saturating_mul(effort.growth);
         }
         Ok(Told::Nothing)
     }

@@ -122,10 +122,18 @@ pub fn prefixes_at_first(
     FIRST_TURN.max(lifts).min(most)
 }
 
-/// The work of searches of prefixes that make so many lifts. Beside a lift they find out what is known ahead of it, and try calls that
-/// they pass over: that takes some three lifts more.
-pub fn work_by_prefixes(lifts: u64) -> Work {
-    Work::of_lifts(lifts.saturating_mul(4))
+// How many lifts' work a search takes for each lift that it makes, with what it does beside: it finds out what is known ahead, and tries
+// calls that it passes over.
+const WORK_FOR_A_LIFT: u64 = 4;
+
+/// The work of searches that make so many lifts.
+pub fn work_of_searches(lifts: u64) -> Work {
+    Work::of_lifts(lifts.saturating_mul(WORK_FOR_A_LIFT))
+}
+
+/// How many lifts searches make with so much work.
+pub fn lifts_within(work: Work) -> u64 {
+    work.lifts() / WORK_FOR_A_LIFT
 }
 
 /// The first turn.

@@ -32,7 +32,7 @@ use crate::setting::Setting;
 use lin_decide::Ladder;
 use lin_effort::efforts::{
     Turn, ahead, first_turn, is_small, makes_unseen_one, order, prefixes_at_first, turn_after,
-    work_by_prefixes,
+    work_of_searches,
 };
 use lin_effort::{Decide, Decision, Effort, Work};
 use lin_fewer::has_many_pending;
@@ -211,7 +211,7 @@ fn answer_refuted<R: AllocGlobal, G: Gate, W: Watcher>(
         return Ok(Some(ObjectAnswer::No(None)));
     }
     let mut stop = UntilUp::new(&setting.bounds);
-    let mut ladder = Ladder::new(problem, work_by_prefixes(lifts), &mut stop);
+    let mut ladder = Ladder::new(problem, work_of_searches(lifts), &mut stop);
     match longest_run_by_prefixes(setting.rt.alloc(), problem, &mut ladder)? {
         Some(run) => Ok(Some(ObjectAnswer::No(Some(run)))),
         None => Ok(None),
@@ -233,7 +233,7 @@ fn answer_by_prefixes<R: AllocGlobal, G: Gate, W: Watcher>(
 {
     setting.bounds.watcher().enter(Way::Prefixes);
     if !known.is_refuted {
-        let work = work_by_prefixes(lifts);
+        let work = work_of_searches(lifts);
         if let Some(order) = decided(setting, problem, &order(problem.len()), work, known)? {
             return Ok(Some(ObjectAnswer::Yes(order)));
         }
