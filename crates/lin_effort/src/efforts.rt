@@ -124,7 +124,7 @@ pub fn prefixes_at_first(
 
 // How many lifts' work a search takes for each lift that it makes, with what it does beside: it finds out what is known ahead, and tries
 // calls that it passes over.
-const WORK_FOR_A_LIFT: u64 = 4;
+const WORK_FOR_A_LIFT: u64 = 3;
 
 /// The work of searches that make so many lifts.
 pub fn work_of_searches(lifts: u64) -> Work {

@@ -34,6 +34,7 @@ fn status_by(answer: &ObjectAnswer) -> Status
 {
     match answer {
         ObjectAnswer::Yes(_) => Status::Yes,
+        ObjectAnswer::HasOrder => Status::Yes,
         ObjectAnswer::No(_) => Status::No,
         ObjectAnswer::Undecided => Status::Undecided,
     }

@@ -110,6 +110,8 @@ fn order_or_end(
             let verdict = verdict_no(alloc, history, object, run)?;
             Ok(ControlFlow::Break(verdict))
         }
+        // That is told only where no order and no run is asked for.
+        ObjectAnswer::HasOrder => Ok(ControlFlow::Break(Verdict::Undecided { object })),
         ObjectAnswer::Undecided => Ok(ControlFlow::Break(Verdict::Undecided { object })),
     }
 }

@@ -16,6 +16,8 @@ pub(crate) enum Question {
 pub(crate) enum ObjectAnswer {
     /// Its least linearization.
     Yes(Order),
+    /// It has a linearization: no more was asked for.
+    HasOrder,
     /// It has none. The first of its longest runs, where that was asked for and was found in time.
     No(Option<Order>),
     /// The bounds ended its search.

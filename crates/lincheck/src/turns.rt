@@ -4,6 +4,8 @@
 //!      | nothing, or that there is none
 //!   sums of a counter: they may leave no room for a reply
 //!      |
+//!   without lost items, where no run is asked for ----> yes
+//!      |
 //!   +> full search --- its end -----------------------> yes, or no with its longest run
 //!   |     | no progress
 //!   |  a fault, once --- found -----------------------> there is none: only the run is sought
@@ -15,7 +17,7 @@
 //! Where it is known that there is none and no run is asked for, that is the answer. How far each way goes stands in
 //! `lin_effort::efforts`; there is no number here. The full search keeps what it refuted, and goes on from there in its next turn.
 
-ghost use Rattle.std.specs.Prelude.{◌≡◌, IfOk, IfSome, IsTrue};
+ghost use Rattle.std.specs.Prelude.{◌≡◌, ℕ, List, IfOk, IfSome, IsTrue};
 ghost use Rattle.std.specs.ControlFlow.{ForBreak};
 ghost use Rattle.lin_history.specs.Problems.AnyProblem.{any_problem};
 ghost use Rattle.lin_history.specs.Problems.Linearizations.{IsLinearization};
@@ -121,6 +123,28 @@ fn look_for_sums<R: AllocGlobal, G: Gate, W: Watcher>(
         };
     }
     Ok(())
+}
+
+// Whether it shows that there is an order, where that is not known to be wrong and no more is asked for.
+fn has_order<R: AllocGlobal, G: Gate, W: Watcher>(
+    setting: &Setting<'_, '_, R, G, W>,
+    problem: &Problem<AnyObject>,
+    question: Question,
+    known: &Known,
+) -> Result<bool, AllocError>
+    ensures { IfOk result (λ yes. IsTrue yes → (question ≡ Question.Verdict)
+        × ((l : List ℕ) × IsLinearization (any_problem problem.now) l)) }
+{
+    let limit = setting.bounds.limit();
+    if known.is_refuted || !asks_no_run(question) {
+        return Ok(false);
+    }
+    if is_small(limit) || setting.gate.wants_workers() {
+        return Ok(false);
+    }
+    let mut stop = UntilUp::new(&setting.bounds);
+    let mut ladder = Ladder::new(problem, Work::ANY, &mut stop);
+    ladder.shows_order(setting.rt.alloc(), problem, &ahead(problem.len(), limit))
 }
 
 // Looks once for calls that let a reader see that there is no order, while that is not known.
@@ -423,6 +447,9 @@ pub(crate) fn answer_object<R: AllocGlobal + Threads + Sync, G: Gate, W: Watcher
     look_for_sums(setting, problem, known)?;
     if known.is_refuted && asks_no_run(question) && !is_small(setting.bounds.limit()) {
         return Ok((ObjectAnswer::No(None), 0));
+    }
+    if has_order(setting, problem, question, known)? {
+        return Ok((ObjectAnswer::HasOrder, 0));
     }
     announce(setting, problem, question, known)?;
     by_searches(setting, problem, question, known)

@@ -19,46 +19,79 @@ fn one_after_the_other(first: Op, reply: Reply, second: Op, other: Reply) -> [Ev
     ]
 }
 
-// What is decided with so much work of an object before its full search, and how many lifts' work that takes.
+// What is decided with so much work of an object before its full search, and how much of it is taken.
 fn decided_with(
     alloc: Global,
     kind: Kind,
     events: &[Event],
     work: Work,
-) -> Result<(Decision, u64), AllocError> {
+) -> Result<(Decision, Work), AllocError> {
     let problem = posed_by(alloc, kind, events);
     let mut stop = NoStop;
     let mut ladder = Ladder::new(&problem, work, &mut stop);
     let decision = ladder.decide(alloc, &problem, &ahead(problem.len(), None))?;
-    Ok((decision, work.without(ladder.left()).lifts()))
+    Ok((decision, work.without(ladder.left())))
 }
 
-// Whether the order of these two calls takes so many lifts' work, and is not found where there is no more.
-fn takes(alloc: Global, kind: Kind, events: &[Event], lifts: u64) -> Result<bool, AllocError> {
+// Whether the order of these calls takes so much work, and is not found where there is no more.
+fn takes(alloc: Global, kind: Kind, events: &[Event], work: Work) -> Result<bool, AllocError> {
     let (decision, taken) = decided_with(alloc, kind, events, Work::ANY)?;
     let Decision::Found(_) = decision else {
         return Ok(false);
     };
-    let (decision, _) = decided_with(alloc, kind, events, Work::of_lifts(lifts))?;
-    Ok(taken == lifts && matches!(decision, Decision::Stopped))
+    let (decision, _) = decided_with(alloc, kind, events, work)?;
+    Ok(taken == work && matches!(decision, Decision::Stopped))
 }
 
-// Two lifts for each call to find out what is known ahead of it, and one to try it. A map and a set are searched key by key, where
-// nothing need be known ahead of an item.
+// Whether the order of these two calls is found with two lifts' work for each beside that of what is known ahead, and nothing is decided
+// with no more than that.
+fn takes_a_search(alloc: Global, kind: Kind, events: &[Event]) -> Result<bool, AllocError> {
+    let ahead = Work::of_rows(2);
+    let (before, _) = decided_with(alloc, kind, events, ahead)?;
+    let (decision, _) = decided_with(alloc, kind, events, ahead.and(Work::of_lifts(4)))?;
+    Ok(matches!(before, Decision::Stopped) && matches!(decision, Decision::Found(_)))
+}
+
 #[test]
-fn each_kind_takes_the_work_of_its_search(rt: HostRuntime) {
+fn a_first_search_takes_work(rt: HostRuntime) {
     let register = one_after_the_other(Op::Write(1), Reply::Okay, Op::Read, Reply::Int(1));
-    assert!(rt; matches!(takes(rt.alloc(), Kind::Register, &register, 6), Ok(true)));
+    assert!(rt;
+        matches!(
+            takes_a_search(rt.alloc(), Kind::Register, &register),
+            Ok(true)
+        )
+    );
     let counter = one_after_the_other(Op::Add(1), Reply::Okay, Op::Get, Reply::Int(1));
-    assert!(rt; matches!(takes(rt.alloc(), Kind::Counter, &counter, 6), Ok(true)));
+    assert!(rt;
+        matches!(
+            takes_a_search(rt.alloc(), Kind::Counter, &counter),
+            Ok(true)
+        )
+    );
     let queue = one_after_the_other(Op::Enqueue(1), Reply::Okay, Op::Dequeue, Reply::Int(1));
-    assert!(rt; matches!(takes(rt.alloc(), Kind::Queue, &queue, 6), Ok(true)));
+    assert!(rt; matches!(takes_a_search(rt.alloc(), Kind::Queue, &queue), Ok(true)));
     let stack = one_after_the_other(Op::Push(1), Reply::Okay, Op::Pop, Reply::Int(1));
-    assert!(rt; matches!(takes(rt.alloc(), Kind::Stack, &stack, 6), Ok(true)));
+    assert!(rt; matches!(takes_a_search(rt.alloc(), Kind::Stack, &stack), Ok(true)));
     let mutex = one_after_the_other(Op::Lock, Reply::Okay, Op::Unlock, Reply::Okay);
-    assert!(rt; matches!(takes(rt.alloc(), Kind::Mutex, &mutex, 6), Ok(true)));
+    assert!(rt; matches!(takes_a_search(rt.alloc(), Kind::Mutex, &mutex), Ok(true)));
+}
+
+// A map and a set are searched key by key: two calls on one key take two lifts.
+#[test]
+fn a_search_by_key_takes_its_lifts(rt: HostRuntime) {
     let map = one_after_the_other(Op::Put(1, 1), Reply::Okay, Op::Lookup(1), Reply::Int(1));
-    assert!(rt; matches!(takes(rt.alloc(), Kind::Map, &map, 2), Ok(true)));
-    let set = one_after_the_other(Op::Insert(1), Reply::Flag(true), Op::Contains(1), Reply::Flag(true));
-    assert!(rt; matches!(takes(rt.alloc(), Kind::Set, &set, 2), Ok(true)));
+    assert!(rt;
+        matches!(
+            takes(rt.alloc(), Kind::Map, &map, Work::of_lifts(2)),
+            Ok(true)
+        )
+    );
+    let yes = Reply::Flag(true);
+    let set = one_after_the_other(Op::Insert(1), yes, Op::Contains(1), yes);
+    assert!(rt;
+        matches!(
+            takes(rt.alloc(), Kind::Set, &set, Work::of_lifts(2)),
+            Ok(true)
+        )
+    );
 }
