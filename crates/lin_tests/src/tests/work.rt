@@ -43,12 +43,12 @@ fn takes(alloc: Global, kind: Kind, events: &[Event], work: Work) -> Result<bool
     Ok(taken == work && matches!(decision, Decision::Stopped))
 }
 
-// Whether the order of these two calls is found with two lifts' work for each beside that of what is known ahead, and nothing is decided
+// Whether the order of these two calls is found with three lifts' work for each beside that of what is known ahead, and nothing is decided
 // with no more than that.
 fn takes_a_search(alloc: Global, kind: Kind, events: &[Event]) -> Result<bool, AllocError> {
     let ahead = Work::of_rows(2);
     let (before, _) = decided_with(alloc, kind, events, ahead)?;
-    let (decision, _) = decided_with(alloc, kind, events, ahead.and(Work::of_lifts(4)))?;
+    let (decision, _) = decided_with(alloc, kind, events, ahead.and(Work::of_lifts(6)))?;
     Ok(matches!(before, Decision::Stopped) && matches!(decision, Decision::Found(_)))
 }
 
