@@ -519,6 +519,36 @@ def with_swapped_results(events, op):
     return events
 
 
+def spans(events):
+    """Of each call that returned its operation and value, the places of its call and its return, and its reply, in the order of the returns."""
+    called, of_calls = {}, []
+    for place, event in enumerate(events):
+        if event.reply is None:
+            called[event.process] = place
+        else:
+            of_calls.append((event.op, event.value, called[event.process], place, event.reply))
+    return of_calls
+
+
+def with_wrong_turn(events, model):
+    """Two results in each other's place, such that there is no order whatever calls that never returned did: one item was put in before
+    the other, and then a queue gives out the other one first, or a stack the one that lies below it. The first of the two returned behind
+    nine tenths of the history, or as late before as there are such; where there are none, one item comes out twice."""
+    put = {value: (called, returned) for op, value, called, returned, _ in spans(events) if op == model.put}
+    takes = [call for call in spans(events) if call[0] == model.take and call[4] in put]
+    late = len(takes) * 9 // 10
+    for number in [*range(late, len(takes)), *reversed(range(late))]:
+        _, _, called, returned, first = takes[number]
+        for _, _, later_called, later_returned, second in takes[number + 1 :]:
+            low, high = (first, second) if model.kind == "queue" else (second, first)
+            is_put_in_turn = put[low][1] < put[high][0] and (model.kind == "queue" or put[high][1] < called)
+            if returned < later_called and is_put_in_turn:
+                changed = list(events)
+                changed[returned], changed[later_returned] = events[returned]._replace(reply=second), events[later_returned]._replace(reply=first)
+                return changed
+    return with_item_taken_twice(events, model.take)
+
+
 def with_item_taken_twice(events, op):
     """A result of the operation, at nine tenths of the history, in the place of one 5 later."""
     places = [place for place, event in enumerate(events) if event.op == op and isinstance(event.reply, int)]
@@ -554,6 +584,14 @@ def with_impossible_reply(events, op, tenths):
     places = [place for place, event in enumerate(events) if event.op == op and event.reply is not None]
     place = places[min(len(places) * tenths // 10, len(places) - 1)]
     events[place] = events[place]._replace(reply=NEVER)
+    return events
+
+
+def with_old_reply(events, op):
+    """A result of the operation, at nine tenths of the history, replaced by that of one 20 before."""
+    places = [place for place, event in enumerate(events) if event.op == op and isinstance(event.reply, int)]
+    late = len(places) * 9 // 10
+    events[places[late]] = events[places[late]]._replace(reply=events[places[late - 20]].reply)
     return events
 
 
@@ -831,8 +869,8 @@ def unknown_items(model, processes, unknown):
 
 
 def unknown_items_swapped(model, processes, unknown):
-    """The same, two results in each other's place."""
-    return lambda calls: lines("b", model.kind, with_swapped_results(timing_out(model(), processes, calls, 100 * unknown / calls), model.take))
+    """The same, two results in each other's place, which no order allows."""
+    return lambda calls: lines("b", model.kind, with_wrong_turn(timing_out(model(), processes, calls, 100 * unknown / calls), model))
 
 
 def unknown_repeated(values, processes, unknown):
@@ -963,6 +1001,10 @@ def forgetful_queue(processes, most, forgotten):
 
 def wrong_in_turn(model, processes, take, count):
     return lambda calls: lines("x", model.kind, with_results_in_turn(simulated(model(), processes, calls), take, count))
+
+
+def old_reply(model, processes, take):
+    return lambda calls: lines("x", model.kind, with_old_reply(simulated(model(), processes, calls), take))
 
 
 def unseen_at_once(kind, put, take, key=None):
@@ -1314,7 +1356,7 @@ FAMILIES = {
     },
     **{
         f"unknown_{model.kind}_{processes}_{count}_no": Family(
-            "the same, two results swapped", "calls", [2000, 4000, 16000], 1, unknown_items_swapped(model, processes, count)
+            "the same, two results swapped so that there is no order", "calls", [2000, 4000, 16000], 1, unknown_items_swapped(model, processes, count)
         )
         for model in (Queue, Stack)
         for processes in (32, 64)
@@ -1387,6 +1429,11 @@ FAMILIES = {
         for name, what, model in (("counter", "counter", Counter), ("set", "set of 5 items", Members), ("map", "map of 3 keys", ThreeKeys))
         for processes in (8, 16)
     },
+    **{
+        f"mild_{model.kind}": Family(f"a {model.kind}, 7 processes, and one reply that came 20 before", "calls", [1000, 4000], 1, old_reply(model, 7, take))
+        for model, take in ((Register, "read"), (Counter, "get"), (Stack, "pop"))
+    },
+    "mild_mutex": Family("a mutex, 7 processes, and after 9 tenths a second holder", "calls", [1000, 4000], 1, mutex(7, 30, 0, 9)),
     "register_at_once": Family("writes at once, then reads at once of two of their values", "processes", [512, 1024, 2048], 1, all_at_once),
     "concurrent": Family("concurrent writes, and an impossible read", "writes", [8, 10, 12, 14, 16, 18], 1, concurrent),
 }

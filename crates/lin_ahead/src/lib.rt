@@ -56,9 +56,8 @@
 //! - *owed replies* (queue, stack): An item that goes in once and that a completed call returned with is that call's: no pending
 //!   call gets it.
 //! - *due calls* (register, key of a map, item of a set): No call that changes the state stands in front of a call that is due. So
-//!   none changes it while another one is due. Nor does a call begin a completion behind which one is due that finds another value,
-//!   or behind which two are due that change the value, or one that another call comes before which does not leave the value as it
-//!   is.
+//!   none changes it while another one is due. Nor does a call begin a completion behind which two are due that change the value, or
+//!   one is that another call comes before which does not leave the value as it is.
 //! - *stranded calls* (register, key of a map, item of a set): Once the state is changed, a call all but one of whose owners are
 //!   lifted is owned by that one. A call that changes the state begins no completion if one owner would be left with two such calls
 //!   between which another one stands that does not leave what they found, or if two owners would each be left with a call that

@@ -7,7 +7,7 @@ const BEYOND: i64 = 0x1FFF_FFFF_FFFF_FFFF;
 
 // Of neighbouring places: by how much the room before them is greater than that behind them, the least room in them over that
 // behind them, and the place where it is.
-#[derive(Clone, Copy, Debug)]
+#[derive(Clone, Copy)]
 struct Node {
     sum: i64,
     least: i64,

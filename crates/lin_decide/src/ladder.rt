@@ -14,7 +14,7 @@
 //!
 //! How far each goes stands in `lin_effort::efforts`; there is no number here.
 
-ghost use Rattle.std.specs.Prelude.{◌≡◌, ℕ, List, IfOk, IfSome, IsTrue};
+ghost use Rattle.std.specs.Prelude.{◌≡◌, ℕ, List, IfOk, IfSome, IsFalse, IsTrue};
 ghost use Rattle.lin_history.specs.Problems.Problem.{Problem as ProblemOf};
 ghost use Rattle.lin_history.specs.Problems.AnyProblem.{any_problem};
 ghost use Rattle.lin_history.specs.Problems.Linearizations.{IsLinearization};
@@ -25,9 +25,11 @@ ghost use Rattle.lin_search.specs.Told.{IsRightOf};
 use crate::keys::key_search::search_by_key;
 use crate::shown::shows_none;
 use lin_ahead::{KnownAhead, held_until, known_ahead, search_first};
-use lin_effort::efforts::{lifts_within, may_take_steps};
+use lin_effort::efforts::{bound, lifts_within, may_take_steps};
 use lin_effort::{Decide, Decision, Effort, Keys, Meter, Work};
-use lin_fewer::{SumRules, has_many_pending, is_refuted_with_any_adds, least_linearization};
+use lin_fewer::{
+    SumRules, has_many_pending, is_refuted_with_any_adds, least_linearization, shows_linearization,
+};
 use lin_history::{Order, Problem};
 use lin_lost::{Remainder, without_lost};
 use lin_object::{AnyObject, ObjState, Op, Reply};
@@ -161,6 +163,7 @@ fn order_of<S: Stop>(
 fn decision_of(told: Told, has_ended: bool) -> Decision
     ensures decided { (p : ProblemOf ObjState Op Reply) → IsRightOf p told → IsDecisionOf p result }
     ensures stopped { result ≡ Decision.Stopped → IsTrue has_ended }
+    ensures spent { result ≡ Decision.Spent → IsFalse has_ended }
 {
     match told {
         Told::Found(order) => Decision::Found(order),
@@ -181,7 +184,9 @@ pub struct Ladder<'a, S> {
 
 impl<'a, S: Stop> Ladder<'a, S> {
     /// The ladder for a problem and its parts, with so much work and this stop.
-    pub fn new(problem: &Problem<AnyObject>, work: Work, stop: &'a mut S) -> Self {
+    pub fn new(problem: &Problem<AnyObject>, work: Work, stop: &'a mut S) -> Self
+        ensures { result.meter.left ≡ work }
+    {
         Ladder {
             has_pending: has_pending(problem),
             has_many_pending: has_many_pending(problem),
@@ -189,7 +194,33 @@ impl<'a, S: Stop> Ladder<'a, S> {
         }
     }
 
-    // What a search tells that tries pending calls only between completed ones, of the parts of a problem with many of them.
+    // How many steps a search makes that tries pending calls only between completed ones, of the parts of a problem with many of them: none
+    // where that is no good bet.
+    fn steps_by_blocks(&self, problem: &Problem<AnyObject>, effort: &Effort, lifts: u64) -> u64 {
+        let steps = lifts.saturating_mul(effort.steps_for_a_lift);
+        if self.has_many_pending && may_take_steps(problem, steps) {
+            steps
+        } else {
+            0
+        }
+    }
+
+    // What such a search tells with so many steps.
+    fn told_in_steps(
+        &mut self,
+        alloc: Global,
+        problem: &Problem<AnyObject>,
+        steps: u64,
+    ) -> Result<Told, AllocError>
+        ensures { IfOk result (IsRightOf (any_problem problem.now)) }
+    {
+        self.meter.take_each(Work::STEP);
+        let told = told_in_steps(alloc, problem, steps, &mut self.meter)?;
+        self.meter.take_each(Work::LIFT);
+        Ok(told)
+    }
+
+    // What such a search tells, with as many steps as the effort has for so many lifts.
     fn told_by_blocks(
         &mut self,
         alloc: Global,
@@ -199,14 +230,11 @@ impl<'a, S: Stop> Ladder<'a, S> {
     ) -> Result<Told, AllocError>
         ensures { IfOk result (IsRightOf (any_problem problem.now)) }
     {
-        let steps = lifts.saturating_mul(effort.steps_for_a_lift);
-        if !self.has_many_pending || steps == 0 || !may_take_steps(problem, steps) {
+        let steps = self.steps_by_blocks(problem, effort, lifts);
+        if steps == 0 {
             return Ok(Told::Nothing);
         }
-        self.meter.take_each(Work::STEP);
-        let told = told_in_steps(alloc, problem, steps, &mut self.meter)?;
-        self.meter.take_each(Work::LIFT);
-        Ok(told)
+        self.told_in_steps(alloc, problem, steps)
     }
 
     // What a search tells that goes by the order of the calls, with so many lifts: a first search asks before each call that it tries.
@@ -277,8 +305,64 @@ impl<'a, S: Stop> Ladder<'a, S> {
         has_none_in_order(alloc, &rest, effort.lifts, &mut self.meter)
     }
 
-    /// Whether it shows that a queue or a stack with pending calls has a linearization, though not which is the least: from an order of what
-    /// is left of it without lost items. `AllocError` where memory was refused.
+    // Whether an order of what is left of a queue or a stack without lost items shows one of the whole.
+    fn shows_order_by_rest(
+        &mut self,
+        alloc: Global,
+        problem: &Problem<AnyObject>,
+        effort: &Effort,
+    ) -> Result<bool, AllocError>
+        ensures { IfOk result (λ shown. IsTrue shown
+            → (l : List ℕ) × IsLinearization (any_problem problem.now) l) }
+    {
+        let Some(left) = Remainder::of(alloc, problem)? else {
+            return Ok(false);
+        };
+        match order_of(alloc, left.rest(), effort.lifts, &mut self.meter)? {
+            Some(order) => left.shows_order(alloc, problem, order.calls()),
+            None => Ok(false),
+        }
+    }
+
+    // Whether a search finds that there is an order that tries pending calls only between completed ones: it makes as many steps as for the
+    // question whether a call has a run.
+    fn shows_order_by_blocks(
+        &mut self,
+        alloc: Global,
+        problem: &Problem<AnyObject>,
+    ) -> Result<bool, AllocError>
+        ensures { IfOk result (λ shown. IsTrue shown
+            → (l : List ℕ) × IsLinearization (any_problem problem.now) l) }
+    {
+        let effort = bound(problem.len());
+        let steps = self.steps_by_blocks(problem, &effort, effort.lifts);
+        if steps == 0 {
+            return Ok(false);
+        }
+        let rules = SumRules::of(alloc, problem)?;
+        self.meter.take_each(Work::STEP);
+        let shown = shows_linearization(alloc, problem, &rules, steps, &mut self.meter)?;
+        self.meter.take_each(Work::LIFT);
+        Ok(shown)
+    }
+
+    /// What a search tells with all work that is left that tries pending calls only between completed ones: nothing, unless the same search
+    /// soon shows that there is a linearization. `AllocError` where memory was refused.
+    pub fn told_where_shown(
+        &mut self,
+        alloc: Global,
+        problem: &Problem<AnyObject>,
+    ) -> Result<Told, AllocError>
+        ensures { IfOk result (IsRightOf (any_problem problem.now)) }
+    {
+        if !self.shows_order_by_blocks(alloc, problem)? {
+            return Ok(Told::Nothing);
+        }
+        self.told_in_steps(alloc, problem, u64::MAX)
+    }
+
+    /// Whether it shows that a problem with pending calls has a linearization, though not which is the least: of a queue or a stack from an
+    /// order of what is left of it without lost items; or else by a search that asks for no more. `AllocError` where memory was refused.
     pub fn shows_order(
         &mut self,
         alloc: Global,
@@ -291,13 +375,10 @@ impl<'a, S: Stop> Ladder<'a, S> {
         if !self.has_pending || !self.goes_on(Work::of_rows(problem.len())) {
             return Ok(false);
         }
-        let Some(left) = Remainder::of(alloc, problem)? else {
-            return Ok(false);
-        };
-        match order_of(alloc, left.rest(), effort.lifts, &mut self.meter)? {
-            Some(order) => left.shows_order(alloc, problem, order.calls()),
-            None => Ok(false),
+        if self.shows_order_by_rest(alloc, problem, effort)? {
+            return Ok(true);
         }
+        self.shows_order_by_blocks(alloc, problem)
     }
 
     // What rounds tell, each of which goes several times as far as the one before.

@@ -18,8 +18,8 @@ pub trait Decide {
     // What shows that nothing is decided any more: the work is done, or the stop has answered.
     ghost has_ended: { Self → Type 0 };
 
-    /// The least linearization of the problem; or that it has none; or nothing, where the effort, the work or the stop end it.
-    /// `AllocError` where memory was refused.
+    /// The least linearization of the problem; or that it has none; or nothing: `Stopped` where the work or the stop end it, and
+    /// `Spent` where only the effort does. `AllocError` where memory was refused.
     fn decide(
         &mut self,
         alloc: Global,
@@ -27,7 +27,8 @@ pub trait Decide {
         effort: &Effort,
     ) -> Result<Decision, AllocError>
         ensures decided { IfOk result (IsDecisionOf (any_problem problem.now)) }
-        ensures stopped { IfOk result (λ decision. decision ≡ Decision.Stopped → has_ended self.new) };
+        ensures stopped { IfOk result (λ decision. decision ≡ Decision.Stopped → has_ended self.new) }
+        ensures spent { IfOk result (λ decision. decision ≡ Decision.Spent → has_ended self.new → ⊥) };
 
     /// Takes so much work, which was done between two questions: whether there is work left then, and the stop has not answered. Where
     /// it does not go on, nothing is decided any more.

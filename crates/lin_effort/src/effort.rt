@@ -1,5 +1,7 @@
 //! How far each way to a decision goes.
 
+ghost use Rattle.std.specs.Prelude.{◌≡◌, IsFalse, IsTrue};
+
 use crate::work::Work;
 
 /// When a map or a set is searched key by key.
@@ -39,7 +41,10 @@ pub struct Effort {
 
 impl Effort {
     /// How many rounds there are at most.
-    pub fn rounds_for(&self, is_known_ahead: bool) -> usize {
+    pub fn rounds_for(&self, is_known_ahead: bool) -> usize
+        ensures ahead { IsTrue is_known_ahead → result ≡ self.now.rounds_ahead }
+        ensures nothing { IsFalse is_known_ahead → result ≡ self.now.rounds }
+    {
         if is_known_ahead {
             self.rounds_ahead
         } else {

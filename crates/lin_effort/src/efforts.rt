@@ -1,6 +1,9 @@
 //! How far each way goes: all thresholds of the check, with their reasons.
 
-ghost use Rattle.std.specs.Prelude.{◌≤◌, IfSome};
+ghost use Rattle.std.specs.Prelude.{◌≡◌, ◌≤◌, ◌<◌, ◌↔◌, ℕ, IfSome, IsSomeAnd, IsTrue};
+ghost use Rattle.lin_history.specs.declared.limits.TheConstants.{MAX_CALLS_ON_OBJECT};
+ghost use Rattle.lin_effort.specs.declared.efforts.TheConstants.{LEAST_LIMIT};
+ghost use Rattle.lin_effort.specs.Lifts.{at_most, lifts_on_key};
 
 use crate::effort::{Effort, Keys};
 use crate::work::Work;
@@ -15,7 +18,9 @@ use lin_object::{AnyObject, ObjState};
 const LEAST_LIMIT: u64 = 500_000;
 
 /// Whether the limit is one of the full search alone.
-pub fn is_small(limit: Option<u64>) -> bool {
+pub fn is_small(limit: Option<u64>) -> bool
+    ensures { IsTrue result ↔ IsSomeAnd limit (λ most. most < LEAST_LIMIT) }
+{
     match limit {
         Some(most) => most < LEAST_LIMIT,
         None => false,
@@ -24,7 +29,7 @@ pub fn is_small(limit: Option<u64>) -> bool {
 
 /// So many lifts, but never more than the limit.
 pub fn within(lifts: u64, limit: Option<u64>) -> u64
-    ensures { IfSome limit (λ most. result ≤ most) }
+    ensures { result ≡ at_most limit lifts }
 {
     match limit {
         Some(most) => most.min(lifts),
@@ -39,7 +44,10 @@ pub fn within(lifts: u64, limit: Option<u64>) -> u64
 ///
 /// A first search makes three lifts for each call: where what is known ahead is enough to decide, a queue takes little more than one; where
 /// it is not, a search that goes before another is to cost little.
-pub fn ahead(calls: usize, limit: Option<u64>) -> Effort {
+pub fn ahead(calls: usize, limit: Option<u64>) -> Effort
+    ensures lifts { IfSome limit (λ most. result.lifts ≤ most) }
+    ensures keys { (lifts : ℕ) → result.keys ≡ Keys.AtFirst lifts → IfSome limit (λ most. lifts ≤ most) }
+{
     Effort {
         is_shown: false,
         with_any_adds: false,
@@ -53,12 +61,43 @@ pub fn ahead(calls: usize, limit: Option<u64>) -> Effort {
     }
 }
 
+// ---- maps and sets, key by key
+
+// The most lifts of a search for each call on a key, and how many more. A key of a real history takes few; where one takes more, the
+// search of the whole decides.
+const LIFTS_FOR_A_CALL_ON_A_KEY: u64 = 300;
+
+const MORE_LIFTS_ON_A_KEY: u64 = 4_000;
+
+/// How many lifts a search of so many calls makes, which are those on one key.
+pub fn lifts_on_key(calls: usize, limit: Option<u64>) -> u64
+    requires { calls ≤ MAX_CALLS_ON_OBJECT }
+    ensures { result ≡ lifts_on_key limit calls }
+{
+    within(
+        LIFTS_FOR_A_CALL_ON_A_KEY * calls as u64 + MORE_LIFTS_ON_A_KEY,
+        limit,
+    )
+}
+
+/// How many lifts a search of so many calls on one item of a set makes before anything is found out ahead of it: that takes about as long
+/// as so many, and most items are easy.
+pub fn lifts_at_once(calls: usize, limit: Option<u64>) -> u64
+    ensures { IfSome limit (λ most. result ≤ most) }
+{
+    within((calls as u64).saturating_mul(8), limit)
+}
+
+// ---- the full search over one value in place of all that nobody saw
+
 // How many calls an object has at least for whose full search one value is put in place of all that nobody saw. Fewer are soon
 // searched, and how many configurations they have shows more of them as they are.
 const MANY_CALLS: usize = 16;
 
 /// Whether one value is put in place of all that nobody saw, for a full search within this limit.
-pub fn makes_unseen_one(problem: &Problem<AnyObject>, limit: Option<u64>) -> bool {
+pub fn makes_unseen_one(problem: &Problem<AnyObject>, limit: Option<u64>) -> bool
+    ensures { IsTrue result → IfSome limit (λ most. LEAST_LIMIT ≤ most) }
+{
     !is_small(limit) && problem.len() >= MANY_CALLS
 }
 
@@ -93,7 +132,9 @@ pub struct Turn {
 }
 
 // How many lifts searches of prefixes make at most.
-fn most_by_prefixes(problem: &Problem<AnyObject>, limit: Option<u64>) -> u64 {
+fn most_by_prefixes(problem: &Problem<AnyObject>, limit: Option<u64>) -> u64
+    ensures { IfSome limit (λ most. result ≤ most) }
+{
     within(MOST_BY_PREFIXES.saturating_mul(problem.len() as u64), limit)
 }
 
@@ -109,11 +150,9 @@ fn full_at_first(problem: &Problem<AnyObject>, is_refuted: bool) -> u64 {
 }
 
 /// How many lifts the first searches of prefixes make.
-pub fn prefixes_at_first(
-    problem: &Problem<AnyObject>,
-    is_refuted: bool,
-    limit: Option<u64>,
-) -> u64 {
+pub fn prefixes_at_first(problem: &Problem<AnyObject>, is_refuted: bool, limit: Option<u64>) -> u64
+    ensures { IfSome limit (λ most. result ≤ most) }
+{
     let most = most_by_prefixes(problem, limit);
     if is_refuted {
         return most;
@@ -137,7 +176,9 @@ pub fn lifts_within(work: Work) -> u64 {
 }
 
 /// The first turn.
-pub fn first_turn(problem: &Problem<AnyObject>, is_refuted: bool, limit: Option<u64>) -> Turn {
+pub fn first_turn(problem: &Problem<AnyObject>, is_refuted: bool, limit: Option<u64>) -> Turn
+    ensures { IfSome limit (λ most. result.prefixes ≤ most) }
+{
     Turn {
         full: full_at_first(problem, is_refuted),
         prefixes: prefixes_at_first(problem, is_refuted, limit),
@@ -146,7 +187,9 @@ pub fn first_turn(problem: &Problem<AnyObject>, is_refuted: bool, limit: Option<
 }
 
 /// The turn after one in which searches of prefixes made so many lifts: twice as far. `None` where they made as many as they ever do.
-pub fn turn_after(problem: &Problem<AnyObject>, prefixes: u64, limit: Option<u64>) -> Option<Turn> {
+pub fn turn_after(problem: &Problem<AnyObject>, prefixes: u64, limit: Option<u64>) -> Option<Turn>
+    ensures { IfSome limit (λ most. IfSome result (λ turn. turn.prefixes ≤ most)) }
+{
     let most = most_by_prefixes(problem, limit);
     if prefixes >= most {
         return None;

@@ -126,15 +126,6 @@ impl Work {
         self.looks < other.looks
     }
 
-    /// The lesser of the two.
-    pub fn at_most(self, other: Work) -> Self
-        ensures { result.looks ≡ min self.looks other.looks }
-    {
-        Work {
-            looks: self.looks.min(other.looks),
-        }
-    }
-
     /// Both together.
     pub fn and(self, other: Work) -> Self
         ensures { result.looks ≡ min (self.looks + other.looks) (2 ^ 64 - 1) }

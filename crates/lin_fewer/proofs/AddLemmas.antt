@@ -15,7 +15,7 @@ use Rattle.lin_history.specs.Problems.Problem.{Problem}
 use Rattle.lin_history.specs.Problems.ProblemParts.{ProblemParts}
 use Rattle.lin_history.specs.Problems.AnyProblem.{any_problem}
 use Rattle.lin_history.specs.Problems.Lists.{In, IsDistinct}
-use Rattle.lin_history.specs.Problems.ListLemmas.{in_early, in_late, in_either, in_place, apart}
+use Rattle.lin_history.specs.Problems.ListLemmas.{in_early, in_late, in_either, in_place, apart, distinct_early}
 use Rattle.lin_history.specs.Problems.LegalLists.{fits, state_if_fits, after_call, next, Legal}
 use Rattle.lin_history.specs.Problems.Precedence.{Before, IsCompleted}
 use Rattle.lin_history.specs.Problems.Continuations.{has, IsCompletion}
@@ -57,11 +57,6 @@ sum_part up calls (x ∷ xs) ys d inside =
     let whole : sum_of_parts up calls ys ≡ sum_of_parts up calls place.0 + (part_of_call up (slice_get calls x) + sum_of_parts up calls place.1) = ap (sum_of_parts up calls) place.2 ∙ sum_append up calls place.0 (x ∷ place.1) in
     let parts = sum_append up calls place.0 place.1 in
     omega (arith, rest, whole, parts)
-
--- calls that add nothing
-sum_none : (up : Bool) (calls : List (ProblemCall Op Reply)) (xs : List ℕ) → ((c : ℕ) → In c xs → part_of_call up (slice_get calls c) ≡ 0) → sum_of_parts up calls xs ≡ 0
-sum_none up calls [] none = refl
-sum_none up calls (x ∷ xs) none = let a = none x (inl refl) in let b = sum_none up calls xs (λ c h. none c (inr h)) in omega (arith, a, b)
 
 not_in_front : (xs : List ℕ) (c : ℕ) (ys : List ℕ) → IsDistinct (xs ++ c ∷ ys) → In c xs → ⊥
 not_in_front xs c ys d h = apart c xs (c ∷ ys) d h (inl refl)
@@ -220,41 +215,35 @@ module _ {Object : Type 0} (parts : ProblemParts Object ObjState Op Reply) where
   -- ---- what is counted, call by call
 
   module _ (set : List Bool) (up : Bool) (g : ℕ) where
-    pub add_none : AddBefore p set up g 0 0
-    add_none = record { calls = []; distinct = tt; below = λ a h. absurd h; before = λ a h. absurd h; enough = omega arith; none = λ a less outside free. absurd (omega (arith, less)) }
+    pub add_none : AddBefore p set up g 0 0 0
+    add_none = record { calls = []; distinct = tt; below = λ a h. absurd h; before = λ a h. absurd h; enough = omega arith; others = []; those = λ a less within outside free. absurd (omega (arith, less)); few = omega arith }
 
-    none_there : (a : ℕ) → length p.calls ≤ a → part_of_call (not up) (slice_get p.calls a) ≡ 0
-    none_there a past = elim (slice_get_cases p.calls a).1 [
-      | inl k ↦ absurd (let less = k.1 in omega (arith, less, past))
-      | inr q ↦ ap (part_of_call (not up)) q.1
-    ]
-
-    module _ (to sum : ℕ) (adds : AddBefore p set up g to sum) where
-      pub add_skip : (more : ℕ) → to ≤ more → ((a : ℕ) → to ≤ a → a < more → a < length p.calls → has set a ≡ true) → AddBefore p set up g more sum
+    module _ (to sum back : ℕ) (adds : AddBefore p set up g to sum back) where
+      pub add_skip : (more : ℕ) → to ≤ more → ((a : ℕ) → to ≤ a → a < more → a < length p.calls → has set a ≡ true) → AddBefore p set up g more sum back
       add_skip more up_to lifted = record {
         calls = adds.calls;
         distinct = adds.distinct;
         below = λ a h. (let b = adds.below a h in omega (arith, b, up_to));
         before = adds.before;
         enough = adds.enough;
-        none = λ a less outside free. elim (least_or a to) [
-          | inl early ↦ adds.none a early outside free
-          | inr past ↦ elim (least_or a (length p.calls)) [
-            | inl within ↦ absurd (let h = lifted a past less within in cc)
-            | inr beyond ↦ none_there a beyond
-          ]
+        others = adds.others;
+        those = λ a less within outside free. elim (least_or a to) [
+          | inl early ↦ adds.those a early within outside free
+          | inr past ↦ absurd (let h = lifted a past less within in cc)
         ];
+        few = adds.few;
       }
 
-      pub add_late : (got : Got) → IsGot p g got → IsLater p to got.returned → AddBefore p set up g (length p.calls) sum
+      pub add_late : (got : Got) → IsGot p g got → IsLater p to got.returned → AddBefore p set up g (length p.calls) sum back
       add_late got is later = record {
         calls = adds.calls;
         distinct = adds.distinct;
         below = λ a h. (let b = adds.below a h in let w = call_within p to later.made later.at in omega (arith, b, w));
         before = adds.before;
         enough = adds.enough;
-        none = λ a less outside free. elim (least_or a to) [
-          | inl early ↦ adds.none a early outside free
+        others = adds.others;
+        those = λ a less within outside free. elim (least_or a to) [
+          | inl early ↦ adds.those a early within outside free
           | inr past ↦ absurd (free (
               let y = call_there p a less in
               before_by p g a is.call (got.returned, Int got.value) y.0 is.at is.returned y.1 (
@@ -264,44 +253,70 @@ module _ {Object : Type 0} (parts : ProblemParts Object ObjState Op Reply) where
               ] in let l = later.late in omega (arith, called, l))
               ))
         ];
+        few = adds.few;
       }
 
-      pub add_all : length p.calls ≤ to → AddBefore p set up g (length p.calls) sum
+      pub add_all : length p.calls ≤ to → AddBefore p set up g (length p.calls) sum back
       add_all past = record {
         calls = adds.calls;
         distinct = adds.distinct;
         below = λ a h. completed_within p a (before_completed p a g (adds.before a h).0);
         before = adds.before;
         enough = adds.enough;
-        none = λ a less outside free. adds.none a (omega (arith, past, less)) outside free;
+        others = adds.others;
+        those = λ a less within outside free. adds.those a (omega (arith, past, less)) within outside free;
+        few = adds.few;
       }
 
-      next_none : (a : ℕ) → (has set to ≡ false → (Before p g to → ⊥) → part_of_call (not up) (slice_get p.calls to) ≡ 0) → a < to + 1 → has set a ≡ false → (Before p g a → ⊥) → part_of_call (not up) (slice_get p.calls a) ≡ 0
-      next_none a here less = elim (below_or_last a to less) [
-        | inl early ↦ adds.none a early
-        | inr same ↦ subst (λ (n : ℕ). has set n ≡ false → (Before p g n → ⊥) → part_of_call (not up) (slice_get p.calls n) ≡ 0) (sym same) here
-      ]
-
-      -- the call is in the set, or adds nothing in the other direction
-      pub add_same : (has set to ≡ false → (Before p g to → ⊥) → part_of_call (not up) (slice_get p.calls to) ≡ 0) → AddBefore p set up g (to + 1) sum
-      add_same here = record {
+      -- the call is in the set
+      pub add_lifted : has set to ≡ true → AddBefore p set up g (to + 1) sum back
+      add_lifted lifted = record {
         calls = adds.calls;
         distinct = adds.distinct;
         below = λ a h. (let b = adds.below a h in omega (arith, b));
         before = adds.before;
         enough = adds.enough;
-        none = λ a less. next_none a here less;
+        others = adds.others;
+        those = λ a less within outside free. elim (below_or_last a to less) [
+          | inl early ↦ adds.those a early within outside free
+          | inr same ↦ absurd (let h : has set to ≡ false = subst (λ (n : ℕ). has set n ≡ false) same outside in cc)
+        ];
+        few = adds.few;
+      }
+
+      those_next : (a : ℕ) → a < to + 1 → a < length p.calls → has set a ≡ false → (Before p g a → ⊥) → In a (to ∷ adds.others)
+      those_next a less within outside free = elim (below_or_last a to less) [
+        | inl early ↦ inr (adds.those a early within outside free)
+        | inr same ↦ inl same
+      ]
+
+      few_next : (x : ProblemCall Op Reply) (m : ℕ) → slice_get p.calls to ≡ Some x → m ≡ back + part_of (not up) x.op → sum_of_parts (not up) p.calls (to ∷ adds.others) ≤ m
+      few_next x m at more = let e : part_of_call (not up) (slice_get p.calls to) ≡ part_of (not up) x.op = ap (part_of_call (not up)) at in let s = adds.few in omega (arith, e, s, more)
+
+      -- it may stand in front of the get, and adds so much in the other direction
+      pub add_other : (x : ProblemCall Op Reply) (m : ℕ) → slice_get p.calls to ≡ Some x → m ≡ back + part_of (not up) x.op → AddBefore p set up g (to + 1) sum m
+      add_other x m at more = record {
+        calls = adds.calls;
+        distinct = adds.distinct;
+        below = λ a h. (let b = adds.below a h in omega (arith, b));
+        before = adds.before;
+        enough = adds.enough;
+        others = to ∷ adds.others;
+        those = those_next;
+        few = few_next x m at more;
       }
 
       -- it precedes the get, and adds so much
-      pub add_more : (x : ProblemCall Op Reply) (n : ℕ) → slice_get p.calls to ≡ Some x → has set to ≡ false → part_of (not up) x.op ≡ 0 → Before p to g → n ≡ sum + part_of up x.op → AddBefore p set up g (to + 1) n
-      add_more x n at outside nothing before is = record {
+      pub add_more : (x : ProblemCall Op Reply) (n m : ℕ) → slice_get p.calls to ≡ Some x → has set to ≡ false → Before p to g → n ≡ sum + part_of up x.op → m ≡ back + part_of (not up) x.op → AddBefore p set up g (to + 1) n m
+      add_more x n m at outside before is more = record {
         calls = to ∷ adds.calls;
         distinct = ((λ h. let b = adds.below to h in absurd (omega (arith, b))), adds.distinct);
-        below = λ a h. elim h [ inl e ↦ omega (arith, e) | inr more ↦ (let b = adds.below a more in omega (arith, b)) ];
-        before = λ a h. elim h [ inl e ↦ subst (λ (k : ℕ). Before p k g × (has set k ≡ false)) (sym e) (before, outside) | inr more ↦ adds.before a more ];
+        below = λ a h. elim h [ inl e ↦ omega (arith, e) | inr early ↦ (let b = adds.below a early in omega (arith, b)) ];
+        before = λ a h. elim h [ inl e ↦ subst (λ (k : ℕ). Before p k g × (has set k ≡ false)) (sym e) (before, outside) | inr early ↦ adds.before a early ];
         enough = (let e : part_of_call up (slice_get p.calls to) ≡ part_of up x.op = ap (part_of_call up) at in let s = adds.enough in omega (arith, e, s, is));
-        none = λ a less. next_none a (λ o f. ap (part_of_call (not up)) at ∙ nothing) less;
+        others = to ∷ adds.others;
+        those = those_next;
+        few = few_next x m at more;
       }
 
   -- a call that returned before the get was called
@@ -312,7 +327,7 @@ module _ {Object : Type 0} (parts : ProblemParts Object ObjState Op Reply) where
 
   -- ---- a get for which it is too much
 
-  module _ (set : List Bool) (n : ℤ) (up : Bool) (g : ℕ) (got : Got) (is : IsGot p g got) (outside : has set g ≡ false) (sum : ℕ) (adds : AddBefore p set up g (length p.calls) sum) (over : IsTooMuch up n got.value sum) (l : List ℕ) (k : IsCompletion p set (Counter n) l) where
+  module _ (set : List Bool) (n : ℤ) (up : Bool) (g : ℕ) (got : Got) (is : IsGot p g got) (outside : has set g ≡ false) (sum back : ℕ) (adds : AddBefore p set up g (length p.calls) sum back) (over : IsTooMuch up n got.value sum back) (l : List ℕ) (k : IsCompletion p set (Counter n) l) where
     in_list : In g l
     in_list = elim (k.complete g (got_completed g got is)) [ inl h ↦ absurd (let o = outside in cc) | inr h ↦ h ]
 
@@ -351,11 +366,15 @@ module _ {Object : Type 0} (parts : ProblemParts Object ObjState Op Reply) where
           | inr h ↦ not_in_front front g place.1 distinct (subst (λ (m : List ℕ). In g m) (sym at.2) (in_early g at.0 (a ∷ at.1) h))
         ]
 
-    nothing_back : sum_of_parts (not up) p.calls front ≡ 0
-    nothing_back = sum_none (not up) p.calls front (λ a h. adds.none a
-        (legal_there front (Counter n) two.0 a two.1 h)
+    few_back : sum_of_parts (not up) p.calls front ≤ back
+    few_back =
+        let all = sum_part (not up) p.calls front adds.others (distinct_early front (g ∷ place.1) distinct) (λ a h.
+        let within = legal_there front (Counter n) two.0 a two.1 h in
+        adds.those a within within
         (k.continuation.outside a (subst (λ (m : List ℕ). In a m) (sym place.2) (in_early a front (g ∷ place.1) h)))
-        (not_behind a h))
+        (not_behind a h)) in
+        let few = adds.few in
+        omega (arith, all, few)
 
     added : sum_of_parts up p.calls adds.calls ≤ sum_of_parts up p.calls front
     added = sum_part up p.calls adds.calls front adds.distinct (λ a h. elim (k.continuation.ordered front g place.1 place.2 a (adds.before a h).0) [
@@ -364,7 +383,7 @@ module _ {Object : Type 0} (parts : ProblemParts Object ObjState Op Reply) where
     ])
 
     pub too_much : ⊥
-    too_much = let a = leads up in let b = nothing_back in let c = added in let d = adds.enough in let e = over in absurd (omega (arith, a, b, c, d, e))
+    too_much = let a = leads up in let b = few_back in let c = added in let d = adds.enough in let e = over in absurd (omega (arith, a, b, c, d, e))
 
   -- ---- calls that may come late
 

@@ -80,5 +80,8 @@ module _ {State Op Reply : Type 0} (p : Problem State Op Reply) where
     pub least_same : (l : List ℕ) → IsLeast (IsCompletion p a s) l → IsLeast (IsCompletion p b t) l
     least_same l least = ((fewer b a t s there).completions l least.0, λ m k. least.1 m ((fewer a b s t back).completions m k))
 
+    pub some_same : ((l : List ℕ) × IsCompletion p a s l) → (l : List ℕ) × IsCompletion p b t l
+    some_same some = (some.0, (fewer b a t s there).completions some.0 some.1)
+
     pub none_same : HasNoCompletion p a s → HasNoCompletion p b t
     none_same none = (fewer a b s t back).none none

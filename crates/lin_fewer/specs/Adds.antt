@@ -42,14 +42,17 @@ pub record IsGot (p : Problem ObjState Op Reply) (g : ℕ) (got : Got) : Type 0 
   pub called : call.called ≡ got.called
   pub returned : call.returned ≡ Some (got.returned, Int got.value)
 
--- What the calls below this one add that are not in the set and precede the get; none of them that may stand in front of it adds in the other direction.
-pub record AddBefore (p : Problem ObjState Op Reply) (set : List Bool) (up : Bool) (g to : ℕ) (sum : ℕ) : Type 0 where
+-- Of the calls below this one that are not in the set, those that precede the get add no less than the sum, and those that may stand in
+-- front of it no more than so much in the other direction.
+pub record AddBefore (p : Problem ObjState Op Reply) (set : List Bool) (up : Bool) (g to : ℕ) (sum back : ℕ) : Type 0 where
   pub calls : List ℕ
   pub distinct : IsDistinct calls
   pub below : (a : ℕ) → In a calls → a < to
   pub before : (a : ℕ) → In a calls → Before p a g × (has set a ≡ false)
   pub enough : sum ≤ sum_of_parts up p.calls calls
-  pub none : (a : ℕ) → a < to → has set a ≡ false → (Before p g a → ⊥) → part_of_call (not up) (slice_get p.calls a) ≡ 0
+  pub others : List ℕ
+  pub those : (a : ℕ) → a < to → a < length p.calls → has set a ≡ false → (Before p g a → ⊥) → In a others
+  pub few : sum_of_parts (not up) p.calls others ≤ back
 
 -- The call adds in the direction, or nothing.
 pub record IsAdd (p : Problem ObjState Op Reply) (up : Bool) (c : ℕ) : Type 0 where
@@ -70,9 +73,9 @@ pub record IsPendingGet (p : Problem ObjState Op Reply) (c : ℕ) : Type 0 where
 abbrev pub MayComeLate : Problem ObjState Op Reply → Bool → ℕ → Type 0
 MayComeLate p up c = IsAdd p up c ⊎ IsPendingGet p c
 
--- With so much more in the direction the number is beyond the value.
-abbrev pub IsTooMuch : Bool → ℤ → ℤ → ℕ → Type 0
-IsTooMuch up number value sum = part_in up value + part_in (not up) number < part_in up number + part_in (not up) value + sum
+-- With so much more in the direction, and so much in the other one, the number is beyond the value.
+abbrev pub IsTooMuch : Bool → ℤ → ℤ → ℕ → ℕ → Type 0
+IsTooMuch up number value sum back = part_in up value + part_in (not up) number + back < part_in up number + part_in (not up) value + sum
 
 -- Each call below this one that is not in the set may come late.
 abbrev pub MayComeLateTo : Problem ObjState Op Reply → List Bool → Bool → ℕ → Type 0

@@ -1,7 +1,8 @@
 //! The least linearization, by asking at each configuration which call is the least with which a completion begins.
 
-ghost use Rattle.std.specs.Prelude.{◌≡◌, ℕ, ◌<◌, length, IfOk, IfSome};
+ghost use Rattle.std.specs.Prelude.{◌≡◌, ℕ, ◌<◌, List, length, IfOk, IfSome, IsTrue};
 ghost use Rattle.lin_history.specs.Problems.Problem.{problem_of};
+ghost use Rattle.lin_history.specs.Problems.Linearizations.{IsLinearization};
 ghost use Rattle.lin_history.specs.Problems.Lists.{IsLeast};
 ghost use Rattle.lin_history.specs.Problems.Continuations.{IsCompletion};
 ghost use Rattle.lin_history.specs.Problems.Configurations.{IsReachable};
@@ -163,6 +164,30 @@ pub fn has_many_pending<O: SeqObject>(problem: &Problem<O>) -> bool {
         }
     }
     pending >= MANY_PENDING
+}
+
+/// Whether the problem is found to have a linearization, within so many steps and before the stop answers: which is the least is not
+/// asked. `AllocError` where memory was refused.
+pub fn shows_linearization<O: SeqObject, R: Rules<O>, S: Stop>(
+    alloc: Global,
+    problem: &Problem<O>,
+    rules: &R,
+    steps: u64,
+    stop: &mut S,
+) -> Result<bool, AllocError>
+    ensures some { IfOk result (λ yes. IsTrue yes → (l : List ℕ)
+        × IsLinearization (problem_of O.after O.State.eq O.Reply.eq problem.now) l) }
+    ensures stop { S.follows stop.old stop.new }
+{
+    lawful::<O>();
+    fewer_law(problem);
+    let mut search = Search::new(alloc, problem, rules, steps)?;
+    let root = Config::root(alloc, problem)?;
+    match bears(&mut search, stop, root, 0, 0)? {
+        Verdict::Completes => Ok(true),
+        Verdict::Refuted => Ok(false),
+        Verdict::Unknown => Ok(false),
+    }
 }
 
 /// The least linearization of the problem, in lexicographic order, or that there is none, where that is told within so many steps and

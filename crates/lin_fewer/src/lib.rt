@@ -11,7 +11,7 @@
 //! - `any_adds`: orders of a counter's completed calls, whatever the pending ones add.
 //! - `front`: which calls may be next; `laws`: the law that all this rests on.
 //!
-//! What it promises the crates above, by the contracts of `fewer_law`, `least_linearization`, `Rules`, `SumRules`,
+//! What it promises the crates above, by the contracts of `fewer_law`, `least_linearization`, `shows_linearization`, `Rules`, `SumRules`,
 //! `is_refuted_with_any_adds`:
 //!
 //! - `fewer_law`: take two configurations with the same completed calls and equal states, such that each pending call that the
@@ -29,16 +29,18 @@
 //! - The least linearization comes from asking at each configuration which is the least call that leads to one with a completion.
 //!   `Found` is the least linearization; `Refuted` is returned only if there is none. If it tells nothing, no clause says why, nor
 //!   how many steps it takes. No longest run is read off it: of what is passed over only the completions are known.
+//!   `shows_linearization` asks only whether there is one, which may be known long before the least.
 //! - Identical pending calls are used in the order of their call events, and a completed call that changes nothing is tried alone.
 //!   `has_many_pending` says when the search is a good bet.
 //! - What more may be passed over for some kind of object stands in `Rules`, each method of which says what it shows of
 //!   completions: that a configuration has none; that a completion which begins with a pending call and a completed one has its
 //!   like that begins with the completed one; that a configuration with a completion has one that begins with a completed call. The
 //!   search itself knows no kind. `NoRules` shows nothing.
-//! - `SumRules` are those of a counter whose adds have one sign. A `get` finds all that was added before it: a configuration has no
-//!   completion if what it holds, with what is left and precedes a `get` that is left, is more than that returned with. And an add
-//!   shows only in a `get`: a pending call directly in front of an add can stand behind it, so pending adds are tried only where a
-//!   completed `get` may be next. Which `get` to ask about is a hint (`sum_hints.rt`).
+//! - `SumRules` are those of a counter. A `get` finds all that was added before it: a configuration has no completion if what it holds,
+//!   with what is left and precedes a `get` that is left, is more than that returned with, even with all that is left, may stand in
+//!   front of it and takes something off; or less, the other way round. Where all adds have one sign, an add shows only in a `get`: a
+//!   pending call directly in front of an add can stand behind it, so pending adds are tried only where a completed `get` may be next.
+//!   Which `get` to ask about is a hint (`sum_hints.rt`; of both signs, the next ones).
 //! - `is_refuted_with_any_adds` answers yes only if a counter from which nothing is taken off has no linearization, whatever its
 //!   pending calls add. Pending adds may then make up any difference in front of a `get`, so with the same completed calls it is
 //!   never worse to have grown by less, and one number for each set of completed calls is enough. It goes over these sets in
@@ -85,7 +87,7 @@ mod waiting;
 
 pub use any_adds::is_refuted_with_any_adds;
 pub use laws::fewer_law;
-pub use least::{has_many_pending, least_linearization};
+pub use least::{has_many_pending, least_linearization, shows_linearization};
 pub use rules::{NoRules, Rules};
 pub use sums::SumRules;
 pub use waiting::Waiting;

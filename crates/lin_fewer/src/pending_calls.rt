@@ -113,11 +113,11 @@ fn add_child<O: SeqObject, R: Rules<O>>(
     let from = at(nodes.as_slice(), index);
     let first = from.first();
     let link = from.link();
-    if search.rules().refutes(search.waiting(), &child, first) {
-        return Ok(());
-    }
     let key = key_of(link.completed, &child);
     if has_no_worse(search, nodes.as_slice(), states, link.base, &child, key) {
+        return Ok(());
+    }
+    if search.rules().refutes(search.waiting(), &child, first) {
         return Ok(());
     }
     states.add(nodes.len(), key)?;

@@ -44,10 +44,10 @@ pub(crate) fn known_of<O: SeqObject, R: Rules<O>>(
     if let Some(borne) = search.known_borne(config, key)? {
         return Ok(Seen::Bears(borne));
     }
-    if search.rules().refutes(search.waiting(), config, first) {
+    if search.is_refuted(config, key) {
         return Ok(Seen::Refuted);
     }
-    if search.is_refuted(config, key) {
+    if search.rules().refutes(search.waiting(), config, first) {
         return Ok(Seen::Refuted);
     }
     Ok(Seen::Open(first))

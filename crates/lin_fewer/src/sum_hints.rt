@@ -1,6 +1,5 @@
 //! Which `get` of a counter to look at. Nothing is proved of it but that it ends: what it says is asked of the configuration.
 
-use crate::waiting::Waiting;
 use lin_history::{Problem, ProblemCall};
 use lin_object::{AnyObject, Op, Reply};
 use lin_search::Config;
@@ -9,13 +8,16 @@ use std::alloc::{AllocError, Global};
 // How much room a call leaves that is no completed `get`.
 const NO_GET: i64 = i64::MAX;
 
-/// What the `get`s of a counter leave room for, where all adds have one sign: for each call how much more may have been added before
-/// it than by what precedes it; the least such room from the call on; and the first call that returned after it was called.
+/// What the `get`s of a counter, which starts with a number, leave room for, where all adds have one sign: for each call how much more
+/// may have been added before it than by what precedes it; the least such room from the call on; the first call that returned after it
+/// was called; and what the completed calls of lower numbers add.
 #[derive(Drop)]
 pub(crate) struct SumHints {
+    start: i64,
     room: Vec<i64>,
     least: Vec<i64>,
     back: Vec<usize>,
+    before: Vec<i64>,
     up: bool,
 }
 
@@ -50,6 +52,15 @@ fn added_before(problem: &Problem<AnyObject>, up: bool, event: u32) -> i64 {
     sum
 }
 
+// By how much the second number is more than the first, or else less.
+fn grown_to(up: bool, start: i64, number: i64) -> i64 {
+    if up {
+        number.saturating_sub(start)
+    } else {
+        start.saturating_sub(number)
+    }
+}
+
 // How much more than what precedes it may have been added before the call, where the counter starts with this number.
 fn room_of(
     problem: &Problem<AnyObject>,
@@ -60,12 +71,7 @@ fn room_of(
     let Some((_, Reply::Int(value))) = &call.returned else {
         return NO_GET;
     };
-    let grown = if up {
-        value.saturating_sub(start)
-    } else {
-        start.saturating_sub(*value)
-    };
-    grown.saturating_sub(added_before(problem, up, call.called))
+    grown_to(up, start, *value).saturating_sub(added_before(problem, up, call.called))
 }
 
 // The first call that returned after the event, of those from this one on.
@@ -79,34 +85,46 @@ fn first_after(problem: &Problem<AnyObject>, from: usize, event: u32) -> usize {
     problem.len()
 }
 
-// Which lifted calls count for a `get` beside those that precede it: those from the first one on that were called by the event, and so
-// much that pending ones added; and the last event at which one of them returned.
+// Which lifted calls count for a `get` beside those that precede it: those from the first one on that were called by the event; how much
+// they and the pending ones added, and the pending ones alone; and the last event at which one of them returned.
 #[derive(Clone, Copy)]
 struct Window {
     from: usize,
     end: u32,
+    load: i64,
     used: i64,
     latest: u32,
 }
 
-// The last event at which one of these calls returned, if the configuration has it.
-fn latest_return(
+// What some lifted calls add that have returned, and the last event at which one of them returned.
+#[derive(Clone, Copy)]
+struct Lifted {
+    sum: i64,
+    latest: u32,
+}
+
+// Those from the first one on that were called by the event.
+fn lifted_by(
     problem: &Problem<AnyObject>,
     config: &Config<AnyObject>,
     from: usize,
     end: u32,
-) -> u32 {
-    let mut latest = 0;
+    up: bool,
+) -> Lifted {
+    let mut lifted = Lifted { sum: 0, latest: 0 };
     for call in from..problem.len() {
         let made = problem.call(call);
         if made.called > end {
-            return latest;
+            return lifted;
         }
         if made.returned.is_some() && config.has(call) {
-            latest = u32::max(latest, returned_at(made));
+            lifted = Lifted {
+                sum: lifted.sum.saturating_add(share(up, &made.op)),
+                latest: u32::max(lifted.latest, returned_at(made)),
+            };
         }
     }
-    latest
+    lifted
 }
 
 // What the window's calls add that the configuration has and that do not precede an event.
@@ -142,6 +160,14 @@ fn take_least(room: &mut Vec<i64>) {
     }
 }
 
+// What the call adds, if it has returned.
+fn completed_share(up: bool, call: &ProblemCall<Op, Reply>) -> i64 {
+    match &call.returned {
+        Some(_) => share(up, &call.op),
+        None => 0,
+    }
+}
+
 impl SumHints {
     /// What the `get`s of the counter leave room for.
     pub(crate) fn of(
@@ -152,40 +178,49 @@ impl SumHints {
     ) -> Result<Self, AllocError> {
         let mut room = Vec::new(alloc);
         let mut back = Vec::new(alloc);
+        let mut before = Vec::new(alloc);
         let mut from = 0;
+        let mut sum: i64 = 0;
         for call in problem.calls() {
             room.push(room_of(problem, start, up, call))?;
             from = first_after(problem, from, call.called);
             back.push(from)?;
+            before.push(sum)?;
+            sum = sum.saturating_add(completed_share(up, call));
         }
         let mut least = room.clone()?;
         take_least(&mut least);
         Ok(SumHints {
+            start,
             room,
             least,
             back,
+            before,
             up,
         })
     }
 
-    // What the pending calls of the configuration added.
-    fn used(&self, waiting: &Waiting<'_, AnyObject>, config: &Config<AnyObject>, end: u32) -> i64 {
-        let problem = waiting.problem();
-        let mut sum: i64 = 0;
-        let mut call = waiting.from(0);
-        for _ in 0..problem.len() {
-            let Some(made) = problem.calls().get(call) else {
-                return sum;
-            };
-            if made.called > end {
-                return sum;
-            }
-            if config.has(call) {
-                sum = sum.saturating_add(share(self.up, &made.op));
-            }
-            call = waiting.from(call.saturating_add(1));
-        }
-        sum
+    // Which lifted calls count, where the counter holds the number and the first completed call that is left is this one. All that was
+    // added is known by the number, so the pending calls are not gone over.
+    fn window_of(
+        &self,
+        problem: &Problem<AnyObject>,
+        config: &Config<AnyObject>,
+        first: usize,
+        number: i64,
+    ) -> Option<Window> {
+        let end = returned_at(problem.calls().get(first)?);
+        let from = self.back.get(first).copied()?;
+        let before = self.before.get(from).copied()?;
+        let lifted = lifted_by(problem, config, from, end, self.up);
+        let load = grown_to(self.up, self.start, number).saturating_sub(before);
+        Some(Window {
+            from,
+            end,
+            load,
+            used: load.saturating_sub(lifted.sum),
+            latest: lifted.latest,
+        })
     }
 
     // How much room the call leaves.
@@ -216,7 +251,7 @@ impl SumHints {
         called: u32,
     ) -> bool {
         let room = self.room_at(get);
-        if room == NO_GET || config.has(get) {
+        if room >= window.load || config.has(get) {
             return false;
         }
         load_at(problem, config, window, self.up, called) > room
@@ -242,22 +277,16 @@ impl SumHints {
         None
     }
 
-    /// A `get` that the configuration, whose first completed call that is left is this one, seems to leave no room for.
+    /// A `get` that the configuration seems to leave no room for, where the counter holds the number. The first of its completed calls
+    /// that are left is this one.
     pub(crate) fn suspect(
         &self,
-        waiting: &Waiting<'_, AnyObject>,
+        problem: &Problem<AnyObject>,
         config: &Config<AnyObject>,
         first: usize,
+        number: i64,
     ) -> Option<usize> {
-        let problem = waiting.problem();
-        let end = returned_at(problem.calls().get(first)?);
-        let from = self.back.get(first).copied().unwrap_or(first);
-        let window = Window {
-            from,
-            end,
-            used: self.used(waiting, config, end),
-            latest: latest_return(problem, config, from, end),
-        };
+        let window = self.window_of(problem, config, first, number)?;
         self.suspect_in(problem, config, window, first)
     }
 }

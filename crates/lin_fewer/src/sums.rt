@@ -1,9 +1,9 @@
 //! What a search of a counter may pass over.
 //!
-//! A `get` finds all that was added before it. So a configuration has no completion where what it holds and what has to come before a
-//! `get` that is left is more than that returned with. And an add shows only in a `get`, so that a pending one need not be tried
-//! directly in front of another add. Both where all adds have one sign: no later one takes back what an earlier one added, and with
-//! fewer of them the sum does not leave 64 bits.
+//! A `get` finds all that was added before it. So a configuration has no completion where what it holds, with what has to come before
+//! a `get` that is left, is more than that returned with, even if all that may take something off comes before it too. And an add shows
+//! only in a `get`, so that a pending one need not be tried directly in front of another add. The second where all adds have one sign:
+//! with fewer of them the sum does not leave 64 bits.
 
 ghost use Rattle.std.specs.Prelude.{◌≡◌, ◌+◌, ◌<◌, ◌≤◌, ◌^◌, true, false, length, IfSome, IsSomeAnd, IsTrue};
 ghost use Rattle.lin_object.specs.declared.state.ObjState.TheVariants.{Counter};
@@ -109,79 +109,98 @@ fn returned_before(call: &ProblemCall<Op, Reply>, event: u32) -> bool
     }
 }
 
-// The sum with what the call adds, if it is left and precedes the `get`. `None` where it adds in the other direction.
+// What calls add before a `get`: in one direction no less than this sum, and in the other one no more than this.
+#[derive(Clone, Copy)]
+struct Added {
+    sum: u128,
+    back: u128,
+}
+
+// The same with the call, if it is left: it adds in the one direction if it precedes the `get`, and in the other one if it may stand in
+// front of it. `None` where so much was added in the other direction that nothing is shown.
 fn with_part(
     problem: &Problem<AnyObject>,
     set: &CallSet,
     asked: Asked,
     call: usize,
-    sum: u128,
-) -> Option<u128>
+    added: Added,
+) -> Option<Added>
     requires call { call < length problem.now.calls }
     requires got { IsGot (any_problem problem.now) asked.get asked.got }
-    requires sum { AddBefore (any_problem problem.now) set.now asked.up asked.get call sum }
-    ensures { IfSome result (AddBefore (any_problem problem.now) set.now asked.up asked.get (call + 1)) }
+    requires added { AddBefore (any_problem problem.now) set.now asked.up asked.get call added.sum added.back }
+    ensures { IfSome result (λ more. AddBefore (any_problem problem.now) set.now asked.up asked.get (call + 1) more.sum
+        more.back) }
 {
     if set.has(call) {
-        return Some(sum);
+        return Some(added);
     }
-    let made = problem.call(call);
-    if part_of(!asked.up, &made.op) > 0 {
+    if added.back > ENOUGH {
         return None;
     }
+    let made = problem.call(call);
+    let other = part_of(!asked.up, &made.op);
+    let back = added.back + other as u128;
+    let sum = added.sum;
     if !returned_before(made, asked.got.called) {
-        return Some(sum);
+        return Some(Added { sum, back });
     }
     if sum > ENOUGH {
-        return Some(sum);
+        return Some(Added { sum, back });
     }
     let part = part_of(asked.up, &made.op);
-    Some(sum + part as u128)
+    let more = sum + part as u128;
+    Some(Added { sum: more, back })
 }
 
-// What the calls add that are left and precede the `get`. `None` where one that may stand in front of it adds in the other direction.
+// What the calls add that are left: those that precede the `get`, and in the other direction those that may stand in front of it. `None`
+// where that is so much that nothing is shown.
 fn sum_before(
     waiting: &Waiting<'_, AnyObject>,
     set: &CallSet,
     first: usize,
     asked: Asked,
-) -> Option<u128>
+) -> Option<Added>
     requires below { HasCompletedBelow (any_problem waiting.now) set.now first }
     requires got { IsGot (any_problem waiting.now) asked.get asked.got }
-    ensures { IfSome result (AddBefore (any_problem waiting.now) set.now asked.up asked.get
-        (length waiting.now.calls)) }
+    ensures { IfSome result (λ added. AddBefore (any_problem waiting.now) set.now asked.up asked.get
+        (length waiting.now.calls) added.sum added.back) }
 {
     let problem = waiting.problem();
     let _calls = problem.calls();
-    let mut sum: u128 = 0;
+    let mut added = Added { sum: 0, back: 0 };
     let mut call = waiting.next_left(first, 0);
     'calls: for _ in 0..problem.len() {
         if call >= problem.len() {
-            return Some(sum);
+            return Some(added);
         }
         if is_later(problem, call, asked.got.returned) {
-            return Some(sum);
+            return Some(added);
         }
-        let Some(more) = with_part(problem, set, asked, call, sum) else {
+        let Some(more) = with_part(problem, set, asked, call, added) else {
             return None;
         };
-        sum = more;
+        added = more;
         call = waiting.next_left(first, call + 1);
     }
     None
 }
 
-// Whether with so much more in the direction the counter holds more than the `get` returned with, or less.
-fn is_too_much(asked: Asked, sum: u128) -> bool
-    ensures { IsTrue result → IsTooMuch asked.up asked.number asked.got.value sum }
+// Whether with so much more in the direction, and so much in the other one, the counter holds more than the `get` returned with, or less.
+fn is_too_much(asked: Asked, added: Added) -> bool
+    ensures { IsTrue result → IsTooMuch asked.up asked.number asked.got.value added.sum added.back }
 {
+    if added.back > ENOUGH {
+        return false;
+    }
     let up = asked.up;
-    let low = part_in(up, asked.got.value) as u128 + part_in(!up, asked.number) as u128;
+    let low = part_in(up, asked.got.value) as u128
+        + part_in(!up, asked.number) as u128
+        + added.back;
     let high = part_in(up, asked.number) as u128 + part_in(!up, asked.got.value) as u128;
     if low < high {
         return true;
     }
-    low - high < sum
+    low - high < added.sum
 }
 
 // Whether the `get` is left, and what the configuration holds with what has to come before it is more than it returned with.
@@ -211,10 +230,53 @@ fn leaves_no_room(
         number,
         up,
     };
-    let Some(sum) = sum_before(waiting, config.lifted(), first, asked) else {
+    let Some(added) = sum_before(waiting, config.lifted(), first, asked) else {
         return false;
     };
-    is_too_much(asked, sum)
+    is_too_much(asked, added)
+}
+
+// The first completed `get` from this call on that the configuration lacks.
+fn next_got(
+    problem: &Problem<AnyObject>,
+    config: &Config<AnyObject>,
+    from: usize,
+) -> Option<usize> {
+    for call in from..problem.len() {
+        if !config.has(call) && got_at(problem, call).is_some() {
+            return Some(call);
+        }
+    }
+    None
+}
+
+// How many `get`s are asked about at a configuration where adds have both signs: each takes a look at every pending call.
+const GETS: usize = 4;
+
+// Whether one of the next `get`s leaves no room, in one direction or the other.
+fn some_leaves_no_room(
+    waiting: &Waiting<'_, AnyObject>,
+    config: &Config<AnyObject>,
+    first: usize,
+) -> bool
+    requires below { HasCompletedBelow (any_problem waiting.now) config.now.lifted first }
+    ensures { IsTrue result → HasNoCompletion (any_problem waiting.now) config.now.lifted
+        config.now.state }
+{
+    let mut from = first;
+    for _ in 0..GETS {
+        let Some(get) = next_got(waiting.problem(), config, from) else {
+            return false;
+        };
+        if leaves_no_room(waiting, config, first, get, true) {
+            return true;
+        }
+        if leaves_no_room(waiting, config, first, get, false) {
+            return true;
+        }
+        from = get.saturating_add(1);
+    }
+    false
 }
 
 // Whether the call adds in the direction, or nothing.
@@ -304,6 +366,7 @@ fn all_may_come_late(
 pub struct SumRules {
     hints: Option<SumHints>,
     up: bool,
+    has_both_signs: bool,
 }
 
 // Whether no call of the problem takes anything off.
@@ -318,17 +381,31 @@ pub(crate) fn none_takes_off(problem: &Problem<AnyObject>) -> bool
     true
 }
 
+// Whether some call of the problem adds something.
+fn some_adds(problem: &Problem<AnyObject>) -> bool {
+    problem
+        .calls()
+        .iter()
+        .any(|call| part_of(true, &call.op) > 0)
+}
+
 impl SumRules {
     /// The rules for the problem.
     pub fn of(alloc: Global, problem: &Problem<AnyObject>) -> Result<Self, AllocError> {
         let up = none_takes_off(problem);
+        let has_both_signs = !up && some_adds(problem);
         let Some(start) = number_of(problem.start()) else {
-            return Ok(SumRules { hints: None, up });
+            return Ok(SumRules {
+                hints: None,
+                up,
+                has_both_signs,
+            });
         };
         let hints = SumHints::of(alloc, problem, start, up)?;
         Ok(SumRules {
             hints: Some(hints),
             up,
+            has_both_signs,
         })
     }
 }
@@ -343,7 +420,13 @@ impl Rules<AnyObject> for SumRules {
         let Some(hints) = &self.hints else {
             return false;
         };
-        let Some(get) = hints.suspect(waiting, config, first) else {
+        if self.has_both_signs {
+            return some_leaves_no_room(waiting, config, first);
+        }
+        let Some(number) = number_of(config.state()) else {
+            return false;
+        };
+        let Some(get) = hints.suspect(waiting.problem(), config, first, number) else {
             return false;
         };
         leaves_no_room(waiting, config, first, get, self.up)

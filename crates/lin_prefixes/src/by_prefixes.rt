@@ -7,11 +7,14 @@ ghost use Rattle.lin_history.specs.Problems.Problem.{problem_of};
 ghost use Rattle.lin_history.specs.Problems.Precedence.{Before, IsCompleted};
 ghost use Rattle.lin_history.specs.Problems.Linearizations.{IsRun};
 ghost use Rattle.lin_search.specs.LongestRun.{IsFirstLongest};
-ghost use Rattle.lin_prefixes.specs.Prefixes.{IsBeaten, IsConflict, IsRunOf, AreOpen, AreSplit, HasNoRunOf, is_spared};
+ghost use Rattle.lin_prefixes.specs.Prefixes.{IsBeaten, IsConflict, IsRunOf, AreOpen, AreSplit, is_spared};
 
+use crate::call_lists::among;
 use crate::choices::{Choice, try_open};
-use crate::conflicts::{Conflict, Cut, first_conflicts, parted};
-use crate::part_search::{PartSearch, RunsTold};
+use crate::conflicts::{Conflict, Cut, add_single_conflicts, conflicts_again, parted};
+use crate::hint::Hint;
+use crate::last_call::calls_with_runs;
+use crate::part_search::PartSearch;
 use lin_history::{Order, Problem};
 use lin_object::SeqObject;
 use std::alloc::{AllocError, Global};
@@ -42,8 +45,8 @@ fn is_open<O: SeqObject>(problem: &Problem<O>, call: usize, other: usize) -> boo
     }
 }
 
-// The completed calls up to this one that do not precede it.
-fn open_calls<O: SeqObject>(
+/// The completed calls up to this one that do not precede it.
+pub(crate) fn open_calls<O: SeqObject>(
     alloc: Global,
     problem: &Problem<O>,
     call: usize,
@@ -203,8 +206,46 @@ fn try_levels<O: SeqObject, S: PartSearch<O>>(
     Ok(true)
 }
 
-// Tries all runs of the cut's call: whether they are known. The best run is then no worse than each of them. The conflicts of a call
-// that was tried before are asked of first, and left are those of this one: that is a hint.
+// Tries all runs of the cut's call: whether they are known. The best run is then no worse than each of them. Of the open calls, but for
+// the spared ones, those that no run has are looked for first.
+fn try_others<O: SeqObject, S: PartSearch<O>>(
+    alloc: Global,
+    problem: &Problem<O>,
+    search: &mut S,
+    cut: Cut<'_>,
+    conflicts: &mut Vec<Conflict>,
+    best: &mut Order,
+) -> Result<bool, AllocError>
+    requires call { cut.call < length problem.now.calls }
+    requires few { cut.call + 1 < 2 ^ 64 }
+    requires split { AreSplit (problem_of O.after O.State.eq O.Reply.eq problem.now) cut.call
+        cut.spared.now cut.others.now }
+    requires run { IsRun (problem_of O.after O.State.eq O.Reply.eq problem.now) best.old }
+    requires conflicts { All (IsConflict (problem_of O.after O.State.eq O.Reply.eq problem.now)
+        cut.call) conflicts.old.items }
+    ensures run { IsRun (problem_of O.after O.State.eq O.Reply.eq problem.now) best.new }
+    ensures better { IfOk result (λ known. IsBeaten best.new best.old) }
+    ensures known { IfOk result (λ known. IsTrue known → (r : List ℕ)
+        → IsRunOf (problem_of O.after O.State.eq O.Reply.eq problem.now) cut.entry.call r
+        → IsBeaten best.new r) }
+{
+    if !may_be_best(best, cut.call, cut.spared.len()) {
+        return Ok(true);
+    }
+    if !add_single_conflicts(alloc, problem, search, cut, cut.others, conflicts)? {
+        return Ok(false);
+    }
+    let parted = parted(alloc, cut, conflicts.as_slice())?;
+    let rest = Cut {
+        call: cut.call,
+        spared: parted.gone.as_slice(),
+        others: parted.left.as_slice(),
+    };
+    try_levels(alloc, problem, search, rest, conflicts, best)
+}
+
+// The same. The conflicts of a call that was tried before are asked of first, and left are those of this one: that is a hint. Where they
+// alone leave no room for a run that is better, no other is looked for.
 fn try_cut<O: SeqObject, S: PartSearch<O>>(
     alloc: Global,
     problem: &Problem<O>,
@@ -227,7 +268,7 @@ fn try_cut<O: SeqObject, S: PartSearch<O>>(
     if !may_be_best(best, cut.call, cut.spared.len()) {
         return Ok(true);
     }
-    let Some(mut conflicts) = first_conflicts(alloc, problem, search, cut, hints.as_slice())? else {
+    let Some(mut conflicts) = conflicts_again(alloc, problem, search, cut, hints.as_slice())? else {
         return Ok(false);
     };
     let parted = parted(alloc, cut, conflicts.as_slice())?;
@@ -236,7 +277,7 @@ fn try_cut<O: SeqObject, S: PartSearch<O>>(
         spared: parted.gone.as_slice(),
         others: parted.left.as_slice(),
     };
-    let known = try_levels(alloc, problem, search, rest, &mut conflicts, best)?;
+    let known = try_others(alloc, problem, search, rest, &mut conflicts, best)?;
     *hints = conflicts;
     Ok(known)
 }
@@ -272,28 +313,26 @@ fn try_call<O: SeqObject, S: PartSearch<O>>(
     try_cut(alloc, problem, search, cut, hints, best)
 }
 
-// A number of calls from which on no call has a run. `None` where the search has come to its end.
-fn calls_with_runs<O: SeqObject, S: PartSearch<O>>(
+// The calls of the hint that are open at the last of so many calls, as a conflict that is asked of first. That is a hint too.
+fn hinted_conflicts<O: SeqObject>(
     alloc: Global,
     problem: &Problem<O>,
-    search: &mut S,
-) -> Result<Option<usize>, AllocError>
-    ensures within { IfOk result (λ answer. IfSome answer (λ n. n ≤ length problem.now.calls)) }
-    ensures none { IfOk result (λ answer. IfSome answer (λ n. (k : ℕ) → n ≤ k → k < length problem.now.calls
-        → HasNoRunOf (problem_of O.after O.State.eq O.Reply.eq problem.now) k)) }
+    hint: &Hint,
+    count: usize,
+) -> Result<Vec<Conflict>, AllocError>
+    requires { count ≤ length problem.now.calls }
 {
     let _calls = problem.calls();
-    let mut low: usize = 0;
-    let mut high = problem.len();
-    while low < high {
-        let middle = low + (high - low) / 2;
-        match search.runs_with(alloc, problem, middle, &[])? {
-            RunsTold::NoRun => high = middle,
-            RunsTold::SomeRun | RunsTold::Nothing => low = middle + 1,
-            RunsTold::Ended => return Ok(None),
-        }
+    let mut conflicts = Vec::new(alloc);
+    if count == 0 {
+        return Ok(conflicts);
     }
-    Ok(Some(high))
+    let open = open_calls(alloc, problem, count - 1)?;
+    let hinted = among(alloc, problem.len(), open.as_slice(), hint.calls.as_slice())?;
+    if !hinted.is_empty() {
+        conflicts.push(Conflict::new(alloc, hinted.as_slice())?)?;
+    }
+    Ok(conflicts)
 }
 
 /// The first, in lexicographic order, of the longest runs of the problem, by searches of parts of it. `None` where a search
@@ -303,17 +342,18 @@ pub(crate) fn longest_by_prefixes<O: SeqObject, S: PartSearch<O>>(
     alloc: Global,
     problem: &Problem<O>,
     search: &mut S,
+    hint: &Hint,
 ) -> Result<Option<Order>, AllocError>
     ensures { IfOk result (λ answer. IfSome answer (IsFirstLongest
         (IsRun (problem_of O.after O.State.eq O.Reply.eq problem.now)))) }
 {
     let _calls = problem.calls();
     let mut best = Order::new(Vec::new(alloc));
-    let mut hints = Vec::new(alloc);
     let until = search.stand_ins(alloc, problem)?;
-    let Some(mut left) = calls_with_runs(alloc, problem, search)? else {
+    let Some(mut left) = calls_with_runs(alloc, problem, search, hint)? else {
         return Ok(None);
     };
+    let mut hints = hinted_conflicts(alloc, problem, hint, left)?;
     while left > 0 && best.calls().len() <= left {
         left -= 1;
         if left + 1 < problem.len() && is_within_window(problem, left) {

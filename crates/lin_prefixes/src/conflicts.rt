@@ -39,8 +39,8 @@ impl Model for Conflict {
 }
 
 impl Conflict {
-    // The conflict of these calls.
-    fn new(alloc: Global, calls: &[usize]) -> Result<Self, AllocError>
+    /// The conflict of these calls.
+    pub(crate) fn new(alloc: Global, calls: &[usize]) -> Result<Self, AllocError>
         ensures { IfOk result (λ made. made ≡ calls.now) }
     {
         Ok(Conflict {
@@ -239,9 +239,9 @@ fn add_repeated<O: SeqObject, S: PartSearch<O>>(
     Ok(())
 }
 
-// Adds those of the calls that no run has, as far as that is known, each as a conflict of its own: the calls are halved where no
-// run has all of them. `false` where the search has come to its end.
-fn add_single_conflicts<O: SeqObject, S: PartSearch<O>>(
+/// Adds those of the calls that no run has, as far as that is known, each as a conflict of its own: the calls are halved where no
+/// run has all of them. `false` where the search has come to its end.
+pub(crate) fn add_single_conflicts<O: SeqObject, S: PartSearch<O>>(
     alloc: Global,
     problem: &Problem<O>,
     search: &mut S,
@@ -301,8 +301,8 @@ fn add_again<O: SeqObject, S: PartSearch<O>>(
     add_single_conflicts(alloc, problem, search, cut, hint.calls(), conflicts)
 }
 
-// Those of the conflicts that are conflicts of this call too. `None` where the search has come to its end.
-fn conflicts_again<O: SeqObject, S: PartSearch<O>>(
+/// Those of the conflicts that are conflicts of this call too. `None` where the search has come to its end.
+pub(crate) fn conflicts_again<O: SeqObject, S: PartSearch<O>>(
     alloc: Global,
     problem: &Problem<O>,
     search: &mut S,
@@ -318,30 +318,6 @@ fn conflicts_again<O: SeqObject, S: PartSearch<O>>(
         if !add_again(alloc, problem, search, cut, hint, &mut conflicts)? {
             return Ok(None);
         }
-    }
-    Ok(Some(conflicts))
-}
-
-/// The conflicts of the cut to begin with: those that are given as hints, of another one, and are conflicts here too; and those of the
-/// open calls, but for the spared ones, that no run has, as far as that is known. `None` where the search has come to its end.
-pub(crate) fn first_conflicts<O: SeqObject, S: PartSearch<O>>(
-    alloc: Global,
-    problem: &Problem<O>,
-    search: &mut S,
-    cut: Cut<'_>,
-    hints: &[Conflict],
-) -> Result<Option<Vec<Conflict>>, AllocError>
-    requires { cut.call < length problem.now.calls }
-    ensures { IfOk result (λ answer. IfSome answer (λ conflicts. All
-        (IsConflict (problem_of O.after O.State.eq O.Reply.eq problem.now) cut.entry.call)
-        conflicts.items)) }
-{
-    let Some(mut conflicts) = conflicts_again(alloc, problem, search, cut, hints)? else {
-        return Ok(None);
-    };
-    let goes_on = add_single_conflicts(alloc, problem, search, cut, cut.others, &mut conflicts)?;
-    if !goes_on {
-        return Ok(None);
     }
     Ok(Some(conflicts))
 }

@@ -7,7 +7,8 @@
 //! - `part_search`: a search that is asked for parts of a problem.
 //! - `call_lists`: lists of calls, by their numbers in a part and in the whole.
 //! - `candidate`: the best run that lacks just these calls.
-//! - `by_prefixes`: the longest run, from the last call that a run may have downwards.
+//! - `by_prefixes`: the longest run, from the last call that a run may have downwards; `last_call`: which that is; `hint`: what may be
+//!   known of it before.
 //! - `question`: the part by which it is decided whether a call has a run with some of its open calls; `anew_search`: searches of
 //!   parts; `told_of_part`: what is told of one, by whatever decides problems or by a few of its calls that alone have no
 //!   linearization.
@@ -24,8 +25,8 @@
 //! - `Found` is the least linearization; `Refuted` is returned only if there is none, with the first of the longest runs. That run
 //!   comes from searches of smaller problems for their least linearizations alone, whatever these do not know.
 //! - Let k be a call. A *run of k* has no call above k and every call that returned before k was called. Each run is a run of its
-//!   greatest call, and if k has none no later call has one. So the last call that has a run is found by halving. From there
-//!   downwards, its *open* calls, the completed ones that do not precede it, are left out, none, one, two and so on, and each time
+//!   greatest call, and if k has none no later call has one. So the last call that has a run is found by halving, from near a hint
+//!   on. From there downwards, its *open* calls, the completed ones that do not precede it, are left out, none, one, two and so on, and each time
 //!   the rest is searched, as long as a run could be as long as the best one. If no return stands between k and the next call, each
 //!   run of k is a run of that call too: then k is passed over.
 //! - A *conflict* of k is a group of open calls that no run of k has all of, so a choice of calls to leave out that misses one is
@@ -58,6 +59,11 @@
 //!   work of its search. The whole is often refuted by a core alone. Without one for each part, no prefix was refuted: the last call was the last
 //!   of all, and what was left out of the rest was in vain. A queue whose items go round, of 16 processes and 4,000 calls, with one
 //!   pair out of order, had no answer, and a counter of 24 processes whose replicas parted took sixty times as long.
+//! - If some calls that returned by an event have no linearization, no call that was called after it has a run, and the last call before it
+//!   mostly has one. So who knows such calls hands them in (`Hint`): then two questions are asked in place of a dozen, and of the
+//!   conflicts that of these calls first. Nothing is proved of them, and whatever they are the run is the same.
+//! - A call that is tried after another has mostly the same conflicts. If these leave no room for a run that is as long as the best, it is
+//!   left at once: most calls below the last one are.
 //! - A bug that shows in several replies at once is found by conflicts. Without them every subset of the open calls would be tried.
 //!   When a conflict is tested, all other open calls are free, not gone, since a run may need one of them. Each halving takes a
 //!   search, so there are a few for each call that a run lacks. If a group of several calls is a conflict, none of them need be one
@@ -91,6 +97,8 @@ mod call_lists;
 mod candidate;
 mod choices;
 mod conflicts;
+mod hint;
+mod last_call;
 mod marks;
 mod only_replies;
 mod open_takers;
@@ -101,5 +109,6 @@ mod twins;
 mod whole_answer;
 mod whole_search;
 
+pub use hint::Hint;
 pub use whole_answer::WholeAnswer;
 pub use whole_search::{longest_run_by_prefixes, search_by_prefixes};

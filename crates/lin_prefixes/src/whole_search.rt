@@ -8,6 +8,7 @@ ghost use Rattle.lin_prefixes.specs.WholeAnswer.{IsWholeAnswer};
 
 use crate::anew_search::AnewSearch;
 use crate::by_prefixes::longest_by_prefixes;
+use crate::hint::Hint;
 use crate::only_replies::with_only_replies;
 use crate::whole_answer::WholeAnswer;
 use lin_effort::efforts::order;
@@ -20,30 +21,33 @@ use std::alloc::{AllocError, Global};
 fn longest_of<D: Decide>(
     alloc: Global,
     problem: &Problem<AnyObject>,
+    hint: &Hint,
     decider: &mut D,
 ) -> Result<Option<Order>, AllocError>
     ensures { IfOk result (λ answer. IfSome answer
         (IsFirstLongest (IsRun (any_problem problem.now)))) }
 {
     let mut search = AnewSearch::new(alloc, decider);
-    let run = longest_by_prefixes(alloc, problem, &mut search)?;
+    let run = longest_by_prefixes(alloc, problem, &mut search, hint)?;
     Ok(run)
 }
 
 /// The first of the longest runs of the problem, from smaller problems that are decided. `None` as for `search_by_prefixes`. It is
 /// meant for a problem that is known to have no linearization; of another it takes longer than to decide that. A pending `lock` or
-/// `unlock` is taken for one that returned with `ok` behind all events: the runs stay the same. `AllocError` where memory was refused.
+/// `unlock` is taken for one that returned with `ok` behind all events: the runs stay the same. The hint says where the run may end: with
+/// the right one it is sooner found. `AllocError` where memory was refused.
 pub fn longest_run_by_prefixes<D: Decide>(
     alloc: Global,
     problem: &Problem<AnyObject>,
+    hint: &Hint,
     decider: &mut D,
 ) -> Result<Option<Order>, AllocError>
     ensures { IfOk result (λ answer. IfSome answer
         (IsFirstLongest (IsRun (any_problem problem.now)))) }
 {
     match with_only_replies(alloc, problem)? {
-        Some(other) => longest_of(alloc, &other, decider),
-        None => longest_of(alloc, problem, decider),
+        Some(other) => longest_of(alloc, &other, hint, decider),
+        None => longest_of(alloc, problem, hint, decider),
     }
 }
 
@@ -66,7 +70,8 @@ pub fn search_by_prefixes<D: Decide>(
         Decision::Found(order) => Ok(Some(WholeAnswer::Found(order))),
         Decision::Spent | Decision::Stopped => Ok(None),
         Decision::Refuted => {
-            let run = longest_run_by_prefixes(alloc, problem, decider)?;
+            let hint = Hint::none(alloc);
+            let run = longest_run_by_prefixes(alloc, problem, &hint, decider)?;
             Ok(run.map(WholeAnswer::Refuted))
         }
     }

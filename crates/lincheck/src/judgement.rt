@@ -111,7 +111,7 @@ fn order_or_end(
             Ok(ControlFlow::Break(verdict))
         }
         // That is told only where no order and no run is asked for.
-        ObjectAnswer::HasOrder => Ok(ControlFlow::Break(Verdict::Undecided { object })),
+        ObjectAnswer::HasOrder => unreachable!(),
         ObjectAnswer::Undecided => Ok(ControlFlow::Break(Verdict::Undecided { object })),
     }
 }

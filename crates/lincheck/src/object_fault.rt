@@ -9,6 +9,7 @@ use lin_core::{Core, SumFault, core_of, sum_fault_of};
 use lin_effort::{Decide, UntilSpent};
 use lin_history::Problem;
 use lin_object::{AnyObject, Op};
+use lin_prefixes::Hint;
 use std::alloc::{AllocError, Global};
 
 /// What lets a reader see that an object has no order.
@@ -123,5 +124,49 @@ pub(crate) fn fault_of_object<D: Decide>(
     match sums_of_object(alloc, problem, decider)? {
         Some(fault) => Ok(Some(fault)),
         None => calls_of_object(alloc, problem, decider),
+    }
+}
+
+// The calls of a core that had returned by its event, and the event.
+fn hint_of_core(
+    alloc: Global,
+    problem: &Problem<AnyObject>,
+    core: &Core,
+) -> Result<Hint, AllocError> {
+    let mut hint = Hint::none(alloc);
+    for c in &core.calls {
+        match problem.calls().get(*c) {
+            Some(call) if !core.takes_as_pending(call) => hint.calls.push(*c)?,
+            _ => {}
+        }
+    }
+    hint.event = Some(core.event);
+    Ok(hint)
+}
+
+// The get, and its return.
+fn hint_of_sums(
+    alloc: Global,
+    problem: &Problem<AnyObject>,
+    fault: &SumFault,
+) -> Result<Hint, AllocError> {
+    let mut hint = Hint::none(alloc);
+    if let Some(get) = problem.calls().get(fault.get) {
+        hint.calls.push(fault.get)?;
+        hint.event = get.returned.as_ref().map(|returned| returned.0);
+    }
+    Ok(hint)
+}
+
+/// What the fault says of the longest run: no run has all of its calls that return. `AllocError` where memory was refused.
+pub(crate) fn hint_of(
+    alloc: Global,
+    problem: &Problem<AnyObject>,
+    fault: Option<&ObjectFault>,
+) -> Result<Hint, AllocError> {
+    match fault {
+        Some(ObjectFault::Core(core)) => hint_of_core(alloc, problem, core),
+        Some(ObjectFault::Sums(fault)) => hint_of_sums(alloc, problem, fault),
+        None => Ok(Hint::none(alloc)),
     }
 }

@@ -29,7 +29,7 @@ ghost use Rattle.lincheck.specs.ObjectAnswer.{HasNoOrder, IsAnswered, IsObjectAn
 use crate::full_search::{answer_alone, by_workers, search_alone, stored_now, to_the_end};
 use crate::known::{Known, Sought};
 use crate::object_answer::{ObjectAnswer, Question};
-use crate::object_fault::{calls_of_object, fault_of_object, sums_of_object};
+use crate::object_fault::{calls_of_object, fault_of_object, hint_of, sums_of_object};
 use crate::setting::Setting;
 use lin_decide::Ladder;
 use lin_effort::efforts::{
@@ -41,7 +41,7 @@ use lin_fewer::has_many_pending;
 use lin_history::{Order, Problem};
 use lin_object::{AnyObject, ObjState};
 use lin_prefixes::longest_run_by_prefixes;
-use lin_search::OwnMemo;
+use lin_search::{OwnMemo, Told};
 use lin_unseen::unseen_made_one;
 use lin_workers::{Gate, Patience, UntilUp, Watcher, Way};
 use std::alloc::{AllocError, AllocGlobal, Global};
@@ -198,6 +198,26 @@ fn look_for_explanation<R: AllocGlobal, G: Gate, W: Watcher>(
     Ok(())
 }
 
+// The order with so much work, where it soon shows that there is one; that there is none is not asked.
+fn order_where_shown<R: AllocGlobal, G: Gate, W: Watcher>(
+    setting: &Setting<'_, '_, R, G, W>,
+    problem: &Problem<AnyObject>,
+    work: Work,
+    known: &Known,
+) -> Result<Option<Order>, AllocError>
+    ensures { IfOk result (λ found. IfSome found (IsLeast (IsLinearization (any_problem problem.now)))) }
+{
+    if known.is_refuted {
+        return Ok(None);
+    }
+    let mut stop = UntilUp::new(&setting.bounds);
+    let mut ladder = Ladder::new(problem, work, &mut stop);
+    match ladder.told_where_shown(setting.rt.alloc(), problem)? {
+        Told::Found(order) => Ok(Some(order)),
+        Told::Refuted | Told::Nothing => Ok(None),
+    }
+}
+
 // Where it is known that there is no order and a run is asked for, has that said should the run take long.
 fn announce<R: AllocGlobal, G: Gate, W: Watcher>(
     setting: &Setting<'_, '_, R, G, W>,
@@ -219,6 +239,28 @@ fn announce<R: AllocGlobal, G: Gate, W: Watcher>(
         .wait(alloc, setting.explained, problem, fault)
 }
 
+// Looks with little work for what shows where the longest run ends, if it was not looked for. It is shown to nobody.
+fn look_for_hint<R: AllocGlobal, G: Gate, W: Watcher>(
+    setting: &Setting<'_, '_, R, G, W>,
+    problem: &Problem<AnyObject>,
+    known: &mut Known,
+) -> Result<(), AllocError>
+    requires { IsKnownOf (any_problem problem.now) known.old }
+    ensures { IsKnownOf (any_problem problem.now) known.new }
+{
+    if setting.explained.is_some() || !known.fault.is_not_yet() {
+        return Ok(());
+    }
+    let mut stop = UntilUp::new(&setting.bounds);
+    let work = work_of_searches(problem.len() as u64);
+    let mut ladder = Ladder::new(problem, work, &mut stop);
+    known.fault = match fault_of_object(setting.rt.alloc(), problem, &mut ladder)? {
+        Some(fault) => Sought::Found(fault),
+        None => Sought::InVain,
+    };
+    Ok(())
+}
+
 // The first of the longest runs of an object without a linearization, if searches of prefixes find it with so many lifts; where no
 // run is asked for, that there is none.
 fn answer_refuted<R: AllocGlobal, G: Gate, W: Watcher>(
@@ -226,17 +268,23 @@ fn answer_refuted<R: AllocGlobal, G: Gate, W: Watcher>(
     problem: &Problem<AnyObject>,
     question: Question,
     lifts: u64,
+    known: &mut Known,
 ) -> Result<Option<ObjectAnswer>, AllocError>
-    requires { HasNoOrder (any_problem problem.now) }
-    ensures { IfOk result (λ told. IfSome told
+    requires none { HasNoOrder (any_problem problem.now) }
+    requires known { IsKnownOf (any_problem problem.now) known.old }
+    ensures answer { IfOk result (λ told. IfSome told
         (IsObjectAnswer (any_problem problem.now) question setting.now.bounds)) }
+    ensures known { IsKnownOf (any_problem problem.now) known.new }
 {
     if asks_no_run(question) {
         return Ok(Some(ObjectAnswer::No(None)));
     }
+    look_for_hint(setting, problem, known)?;
+    let alloc = setting.rt.alloc();
+    let hint = hint_of(alloc, problem, known.fault.found())?;
     let mut stop = UntilUp::new(&setting.bounds);
     let mut ladder = Ladder::new(problem, work_of_searches(lifts), &mut stop);
-    match longest_run_by_prefixes(setting.rt.alloc(), problem, &mut ladder)? {
+    match longest_run_by_prefixes(alloc, problem, &hint, &mut ladder)? {
         Some(run) => Ok(Some(ObjectAnswer::No(Some(run)))),
         None => Ok(None),
     }
@@ -261,12 +309,15 @@ fn answer_by_prefixes<R: AllocGlobal, G: Gate, W: Watcher>(
         if let Some(order) = decided(setting, problem, &order(problem.len()), work, known)? {
             return Ok(Some(ObjectAnswer::Yes(order)));
         }
+        if let Some(order) = order_where_shown(setting, problem, work, known)? {
+            return Ok(Some(ObjectAnswer::Yes(order)));
+        }
     }
     if !known.is_refuted {
         return Ok(None);
     }
     announce(setting, problem, question, known)?;
-    answer_refuted(setting, problem, question, lifts)
+    answer_refuted(setting, problem, question, lifts, known)
 }
 
 // ---- turns

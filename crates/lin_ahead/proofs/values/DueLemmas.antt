@@ -13,7 +13,7 @@ use Rattle.lin_search.specs.NextCall.{IsNext}
 use Rattle.lin_search.specs.AlikeLemmas.{AreAlike}
 use Rattle.lin_ahead.specs.First.FirstProgress.{BeginsNone}
 use Rattle.lin_ahead.specs.Values.Owners.{AllLeave, LastChange, IsOwnedBy}
-use Rattle.lin_ahead.specs.Values.Due.{IsInWith, AreInWith, IsDue, AnotherIsDue, FindsAnother, ComesBetween, TwoChange}
+use Rattle.lin_ahead.specs.Values.Due.{IsInWith, AreInWith, IsDue, AnotherIsDue, ComesBetween, TwoChange}
 use Rattle.lin_ahead.proofs.first.NeedsLemmas.{place_split, joined}
 
 pub told_ok : {E P Q : Type 0} (r : Result Bool E) → (P → Q) → IfOk r (λ found. IsTrue found → P) → IfOk r (λ found. IsTrue found → Q)
@@ -82,15 +82,6 @@ module _ {State Op Reply : Type 0} (p : Problem State Op Reply) (identical : (a 
             subst (λ (m : State). AllLeave p m front) (sym ends) (λ c i. q.1 c (in_late c before front i))
       ]
 
-  -- and so the call has a step there
-  due_steps : (before front : List ℕ) (g : ℕ) (late : List ℕ) (e : State) → IsLinearization p (before ++ (front ++ g ∷ late)) → Legal p p.start before e → AllLeave p e front → (t : State) × (next p e g ≡ Some t)
-  due_steps before front g late e whole legal keeps =
-      let two = legal_split p before (front ++ g ∷ late) p.start whole.continuation.legal.0 whole.continuation.legal.1 in
-      let here : two.0 ≡ e = same_end p before p.start two.0 e two.1 legal in
-      let more = legal_split p front (g ∷ late) two.0 whole.continuation.legal.0 two.2 in
-      let stays : more.0 ≡ e = leaves_end front e more.0 keeps (subst (λ (m : State). Legal p m front more.0) here more.1) in
-      (more.2.0, subst (λ (m : State). next p m g ≡ Some more.2.0) stays more.2.1)
-
   module _ (alike : AreAlike p p) (set : List Bool) (s : State) (reachable : IsReachable p set s) (c : ℕ) (t : State) (step : IsNext p set s c t) where
     abbrev lifted : List ℕ
     lifted = reachable.run.0
@@ -145,16 +136,7 @@ module _ {State Op Reply : Type 0} (p : Problem State Op Reply) (identical : (a 
     placed_behind : (g : ℕ) (cs front late : List ℕ) → cs ≡ front ++ g ∷ late → IsCompletion p set s (c ∷ cs) → IsCompletion p set s (c ∷ (front ++ g ∷ late))
     placed_behind g cs front late eq whole = subst (λ (l : List ℕ). IsCompletion p set s (c ∷ l)) eq whole
 
-    -- no completion begins with a call behind which one is due that has no step there
-    pub finds_begins_none : FindsAnother p set c t → BeginsNone p set s c
-    finds_begins_none found cs whole =
-        let g = found.0 in
-        let at = place_behind g found.1 cs whole in
-        let placed = placed_behind g cs at.0 at.1 at.2 whole in
-        let goes = due_steps before at.0 g at.1 t (behind at.0 g at.1 placed) legal_behind (keeps_behind g found.1 at.0 at.1 placed) in
-        found.2 goes
-
-    -- nor with one behind which one is due that another one comes before, which does not leave the state as it is
+    -- no completion begins with a call behind which one is due that another one comes before, which does not leave the state as it is
     pub between_begins_none : ComesBetween p set c t → BeginsNone p set s c
     between_begins_none found cs whole =
         let g = found.0 in

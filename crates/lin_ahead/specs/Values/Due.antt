@@ -4,7 +4,7 @@ use Rattle.lin_history.specs.Problems.Problem.{Problem}
 use Rattle.lin_history.specs.Problems.Lists.{In}
 use Rattle.lin_history.specs.Problems.Precedence.{Before, IsCompleted}
 use Rattle.lin_history.specs.Problems.Continuations.{has}
-use Rattle.lin_ahead.specs.Values.Owners.{CanFollow, Changes, IsOwnedBy}
+use Rattle.lin_ahead.specs.Values.Owners.{Changes, IsOwnedBy}
 
 -- The call is in the set, or it is the one that is to be lifted next, where there is one.
 abbrev pub IsInWith : List Bool → Option ℕ → ℕ → Type 0
@@ -27,10 +27,6 @@ pub record IsDue {State Op Reply : Type 0} (p : Problem State Op Reply) (set : L
 -- Another call than c is due.
 abbrev pub AnotherIsDue : {State Op Reply : Type 0} → Problem State Op Reply → List Bool → ℕ → Type 0
 AnotherIsDue p set c = (g : ℕ) × IsDue p set None g × (g ≢ c)
-
--- Behind call c a call is due that has no step at the state.
-abbrev pub FindsAnother : {State Op Reply : Type 0} → Problem State Op Reply → List Bool → ℕ → State → Type 0
-FindsAnother p set c t = (g : ℕ) × IsDue p set (Some c) g × (CanFollow p t g → ⊥)
 
 -- Behind call c a call is due, and a call that is left goes before it and does not leave the state as it is.
 abbrev pub ComesBetween : {State Op Reply : Type 0} → Problem State Op Reply → List Bool → ℕ → State → Type 0

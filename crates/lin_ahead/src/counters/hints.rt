@@ -8,7 +8,7 @@ use lin_object::{AnyObject, Op};
 use std::alloc::{AllocError, Global};
 
 // A call's part in this.
-#[derive(Clone, Copy, Debug)]
+#[derive(Clone, Copy)]
 struct Part {
     // Its place among the completed `get`s, if it is one.
     place: Option<usize>,

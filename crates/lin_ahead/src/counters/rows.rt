@@ -53,7 +53,7 @@ fn height(up: bool, value: i64) -> u128
 }
 
 // The call of an event, and whether it is counted.
-#[derive(Clone, Copy, Debug)]
+#[derive(Clone, Copy)]
 struct Turn {
     call: usize,
     counts: bool,

@@ -13,7 +13,7 @@ use lin_object::AnyObject;
 use lin_search::Config;
 
 // A `get`, and a call that is to be lifted before it; and in which direction is counted.
-#[derive(Clone, Copy, Debug)]
+#[derive(Clone, Copy)]
 struct Asked {
     up: bool,
     get: usize,

@@ -10,7 +10,7 @@ use lin_object::{Op, Reply};
 pub(crate) const BEYOND: u64 = 1 << 32;
 
 /// How many calls do something, as put an item in or write a value.
-#[derive(Clone, Copy, Debug)]
+#[derive(Clone, Copy)]
 pub(crate) enum Callers {
     /// No call does.
     Nobody,
@@ -21,7 +21,7 @@ pub(crate) enum Callers {
 }
 
 /// What the calls on a queue show of one item.
-#[derive(Clone, Copy, Debug)]
+#[derive(Clone, Copy)]
 pub(crate) struct ItemCalls {
     /// How many calls put it in.
     pub putters: Callers,

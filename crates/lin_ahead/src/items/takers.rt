@@ -28,7 +28,7 @@ pub(crate) struct After<'a> {
 }
 
 /// A call that finds all gone which goes before another call.
-#[derive(Clone, Copy, Debug)]
+#[derive(Clone, Copy)]
 pub(crate) struct Wanting {
     /// The other call.
     pub put: usize,
@@ -37,7 +37,7 @@ pub(crate) struct Wanting {
 }
 
 /// By when items have to be taken.
-#[derive(Clone, Copy, Debug)]
+#[derive(Clone, Copy)]
 pub(crate) struct Deadline {
     /// The call before which they go.
     pub before: usize,

@@ -19,7 +19,7 @@ use lin_object::AnyObject;
 use std::alloc::{AllocError, Global};
 
 // A push, and a call that may cross it, with the push whose item that one popped; `None` where it found the stack empty.
-#[derive(Clone, Copy, Debug)]
+#[derive(Clone, Copy)]
 struct Crossing {
     push: usize,
     pop: usize,

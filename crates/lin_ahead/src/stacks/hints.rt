@@ -10,7 +10,7 @@ use lin_search::Config;
 use std::alloc::{AllocError, Global};
 
 // A push as it lies on the stack.
-#[derive(Clone, Copy, Debug)]
+#[derive(Clone, Copy)]
 struct Lying {
     // When the call returned that popped its item; beyond all events where that is not known, or the call is no push.
     popped: u64,

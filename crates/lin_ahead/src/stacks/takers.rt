@@ -82,7 +82,7 @@ fn items_gone(
 }
 
 // A call that finds items gone, and one that comes no later.
-#[derive(Clone, Copy, Debug)]
+#[derive(Clone, Copy)]
 struct Finding {
     // The call that finds items gone.
     finder: Wanting,

@@ -15,7 +15,7 @@ use lin_object::{Op, Reply};
 use std::alloc::{AllocError, Global};
 
 /// A completed call that found a value.
-#[derive(Clone, Copy, Debug)]
+#[derive(Clone, Copy)]
 pub(crate) struct Finder {
     /// The call.
     pub call: usize,
@@ -30,7 +30,7 @@ pub(crate) struct Finder {
 }
 
 /// How far the calls in front of a finder were looked at for one that breaks its value.
-#[derive(Clone, Copy, Debug)]
+#[derive(Clone, Copy)]
 pub(crate) struct Sought {
     /// The calls from here on that stand in front of the finder were looked at.
     pub next: usize,
@@ -39,7 +39,7 @@ pub(crate) struct Sought {
 }
 
 // What a call shows by its reply.
-#[derive(Clone, Copy, Debug)]
+#[derive(Clone, Copy)]
 enum Shown {
     // No value.
     Nothing,

@@ -18,7 +18,7 @@ use lin_object::{Op, Reply};
 use std::alloc::{AllocError, Global};
 
 // The greatest rank that a completed call showed, beyond all where it showed a value that has none.
-#[derive(Clone, Copy, Debug)]
+#[derive(Clone, Copy)]
 struct ShownRank {
     // When the call returned.
     pub returned: u64,

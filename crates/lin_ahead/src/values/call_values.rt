@@ -7,7 +7,7 @@ use lin_object::{Op, Reply};
 use std::alloc::{AllocError, Global};
 
 /// At which values a call leaves the register as it is.
-#[derive(Clone, Copy, Debug)]
+#[derive(Clone, Copy)]
 pub(crate) enum LeftAt {
     /// At each value, as far as its reply shows.
     Each,
@@ -20,7 +20,7 @@ pub(crate) enum LeftAt {
 }
 
 /// What one call shows.
-#[derive(Clone, Copy, Debug)]
+#[derive(Clone, Copy)]
 pub(crate) struct CallValues {
     /// When it was called.
     pub called: u64,

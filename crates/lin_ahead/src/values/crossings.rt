@@ -14,7 +14,7 @@ use std::alloc::{AllocError, Global};
 const EVENTS_AHEAD: u64 = 400;
 
 /// Calls that one call alone may own: the one that returned first, and the one that was called last.
-#[derive(Clone, Copy, Debug)]
+#[derive(Clone, Copy)]
 pub(crate) struct Cluster {
     /// The one call.
     pub owner: usize,

@@ -278,19 +278,10 @@ impl Due {
         None
     }
 
-    // Whether something is to be asked of the calls that will be due once the call is lifted: whether the last of them finds what is
-    // there then, where the call may write nothing, or else what comes between, or whether two of them change the value.
+    // Whether something is to be asked of the calls that will be due once the call is lifted: what comes between, or whether two of
+    // them change the value.
     pub(crate) fn may_forbid(&self, calls: &[CallValues], call: usize) -> bool {
-        if self.last_behind(call).is_none() {
-            return false;
-        }
-        let is_completed = match calls.get(call) {
-            Some(one) => one.is_completed(),
-            None => false,
-        };
-        !is_completed
-            || self.two_behind(calls, call).is_some()
-            || self.between(calls, call).is_some()
+        self.two_behind(calls, call).is_some() || self.between(calls, call).is_some()
     }
 
     // Of the calls that will be due once the call is lifted, the one that was called last; and the first of the calls left that

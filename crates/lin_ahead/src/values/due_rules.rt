@@ -5,8 +5,8 @@ ghost use Rattle.lin_history.specs.Problems.LegalLists.{next};
 ghost use Rattle.lin_history.specs.Problems.Problem.{problem_of};
 ghost use Rattle.lin_history.specs.Problems.Precedence.{IsCompleted};
 ghost use Rattle.lin_history.specs.Problems.AnyProblem.{any_problem};
-ghost use Rattle.lin_ahead.specs.Values.Owners.{CanFollow, Changes, AreOwners};
-ghost use Rattle.lin_ahead.specs.Values.Due.{IsInWith, AreInWith, IsDue, AnotherIsDue, FindsAnother, ComesBetween, TwoChange};
+ghost use Rattle.lin_ahead.specs.Values.Owners.{Changes, AreOwners};
+ghost use Rattle.lin_ahead.specs.Values.Due.{IsInWith, AreInWith, IsDue, AnotherIsDue, ComesBetween, TwoChange};
 
 use crate::values::call_values::CallValues;
 use crate::values::due::Due;
@@ -50,21 +50,6 @@ pub(crate) fn state_after<O: SeqObject>(
         }
         Some((_, recorded)) => object.step_with(alloc, state, taken.process, &taken.op, recorded),
     }
-}
-
-// Whether the call has no step at the state.
-fn has_no_step(
-    alloc: Global,
-    problem: &Problem<AnyObject>,
-    state: &ObjState,
-    call: usize,
-) -> Result<bool, AllocError>
-    ensures { IfOk result (λ none. IsTrue none → CanFollow (any_problem problem.now) state.now call → ⊥) }
-{
-    if call >= problem.len() {
-        return Ok(false);
-    }
-    Ok(state_after(alloc, problem, state, call)?.is_none())
 }
 
 // Whether the call does not leave the state as it is.
@@ -171,27 +156,6 @@ impl<'a> Next<'a> {
             → Changes (any_problem self.now.problem.now) self.now.state.now call) }
     {
         changes(alloc, self.problem, self.state, call)
-    }
-
-    // Whether a call is due behind the next one that has no step there.
-    pub(crate) fn finds_another(
-        &self,
-        alloc: Global,
-        owners: &[Owners],
-        due: &Due,
-    ) -> Result<bool, AllocError>
-        requires { AreOwners (any_problem self.now.problem.now) owners.now }
-        ensures { IfOk result (λ found. IsTrue found
-            → FindsAnother (any_problem self.now.problem.now) self.now.config.now.lifted
-            self.now.call self.now.state.now) }
-    {
-        let Some(call) = due.last_behind(self.call) else {
-            return Ok(false);
-        };
-        if !self.is_due(owners, call) {
-            return Ok(false);
-        }
-        has_no_step(alloc, self.problem, self.state, call)
     }
 
     // Whether two calls are due behind the next one that do not leave the state as it is.

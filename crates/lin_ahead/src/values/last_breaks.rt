@@ -4,7 +4,7 @@ use crate::values::call_values::{CallValues, LeftAt};
 use std::alloc::{AllocError, Global};
 
 /// A call that leaves no value, or one alone.
-#[derive(Clone, Copy, Debug)]
+#[derive(Clone, Copy)]
 pub(crate) struct Break {
     /// The call.
     pub call: usize,

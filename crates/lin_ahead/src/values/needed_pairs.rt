@@ -7,7 +7,7 @@ ghost use Rattle.lin_ahead.specs.Values.NeededPairs.{need_each_other, some_pair,
 use std::alloc::{AllocError, Global};
 
 /// The numbers of a call: from `by` on it is needed, and up to `from` it needs others.
-#[derive(Clone, Copy, Debug)]
+#[derive(Clone, Copy)]
 pub(crate) struct CallNumbers {
     /// The event from which on the call is needed; beyond all events where it is not.
     pub by: u64,

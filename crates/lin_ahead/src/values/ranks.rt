@@ -18,7 +18,7 @@ const UNRANKED: u64 = 1 << 63;
 pub(crate) const NO_INDEX: usize = 1 << 62;
 
 /// The indexes of a call's values in a map.
-#[derive(Clone, Copy, Debug)]
+#[derive(Clone, Copy)]
 pub(crate) struct CallIndexes {
     /// That of the value at which alone the call writes.
     pub from: usize,

@@ -99,7 +99,7 @@ impl<'a> Rules<AnyObject> for ValueRules<'a> {
         }
     }
 
-    // It changes the state while another call is due, or behind it, or strands others; or one due behind it has no step there.
+    // It changes the state while another call is due, or others change it behind it while one is, or it strands others.
     fn leads_to_none(
         &self,
         problem: &Problem<AnyObject>,
@@ -116,7 +116,7 @@ impl<'a> Rules<AnyObject> for ValueRules<'a> {
             state,
         };
         if *state == *config.state() {
-            return next.finds_another(self.alloc, owners, &self.due);
+            return Ok(false);
         }
         if another_is_due(problem, owners, &self.due, config, call) {
             return Ok(true);

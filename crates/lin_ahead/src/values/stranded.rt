@@ -13,7 +13,7 @@ use lin_object::{AnyObject, ObjState};
 use std::alloc::{AllocError, Global};
 
 /// Calls that may cross: those of one owner, and those of another one.
-#[derive(Clone, Copy, Debug)]
+#[derive(Clone, Copy)]
 pub(crate) struct Crossing {
     /// The one owner.
     pub writer: usize,
@@ -30,7 +30,7 @@ pub(crate) struct Crossing {
 }
 
 /// Two calls of an owner, and one that may stand between them.
-#[derive(Clone, Copy, Debug)]
+#[derive(Clone, Copy)]
 pub(crate) struct Parting {
     /// The owner.
     pub writer: usize,
@@ -43,7 +43,7 @@ pub(crate) struct Parting {
 }
 
 /// Calls that may be stranded. It is a hint.
-#[derive(Clone, Copy, Debug)]
+#[derive(Clone, Copy)]
 pub(crate) enum Stranded {
     /// Calls of two owners cross.
     Crossed(Crossing),

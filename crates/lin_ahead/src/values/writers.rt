@@ -27,7 +27,7 @@ const MOST_LOW: u64 = 1 << 63;
 const ROWS_AT_HAND: usize = 8;
 
 /// A call that may write a value.
-#[derive(Clone, Copy, Debug)]
+#[derive(Clone, Copy)]
 pub(crate) struct Writer {
     /// The number of the value times 2^32, and when the call was called.
     pub key: u64,

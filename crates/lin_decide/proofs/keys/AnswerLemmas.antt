@@ -11,7 +11,8 @@ use Rattle.lin_history.specs.Problems.Linearizations.{IsLinearization}
 use Rattle.lin_history.specs.Problems.AnyProblem.{any_problem}
 use Rattle.lin_search.specs.Told.{IsSpent}
 use Rattle.lin_parts.specs.Parts.{ArePart, IsFilled, part_of}
-use Rattle.lin_decide.specs.Keys.PartOrder.{HasRefutedPart, IsFullOrder, IsNamed, IsSpentOnPart, lifts_of_part}
+use Rattle.lin_decide.specs.Keys.PartOrder.{HasRefutedPart, IsFullOrder, IsNamed, IsSpentOnPart}
+use Rattle.lin_effort.specs.Lifts.{lifts_on_key}
 use Rattle.lin_parts.specs.PartLemmas.{legal_calls}
 
 -- a filled list lies below the number
@@ -37,11 +38,11 @@ module _ {Object : Type 0} (whole part : ProblemParts Object ObjState Op Reply) 
     is = n.2;
   }
 
-  pub spent_part : (limit : Option ℕ) (tells : ℕ → Type 0) → IsSpent (any_problem part) (lifts_of_part limit (length part.calls)) tells → IsSpentOnPart (any_problem whole) kept limit tells
+  pub spent_part : (limit : Option ℕ) (tells : ℕ → Type 0) → IsSpent (any_problem part) (lifts_on_key limit (length part.calls)) tells → IsSpentOnPart (any_problem whole) kept limit tells
   spent_part limit tells spent = record {
     calls = part.calls;
     part = are;
-    spent = at_part (λ p. IsSpent p (lifts_of_part limit (length kept)) tells) (subst (λ (n : ℕ). IsSpent (any_problem part) (lifts_of_part limit n) tells) are.count spent);
+    spent = at_part (λ p. IsSpent p (lifts_on_key limit (length kept)) tells) (subst (λ (n : ℕ). IsSpent (any_problem part) (lifts_on_key limit n) tells) are.count spent);
   }
 
   pub within_part : (l : List ℕ) → IsLinearization (any_problem part) l → (c : ℕ) → In c l → c < length kept

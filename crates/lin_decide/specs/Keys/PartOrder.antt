@@ -1,5 +1,5 @@
 -- What is told of the problem of some of a problem's calls (this project's own).
-use Rattle.std.specs.Prelude.{◌≡◌, ℕ, ℤ, ◌<◌, ◌+◌, ◌*◌, min, Option, Some, None, List, length}
+use Rattle.std.specs.Prelude.{◌≡◌, ℕ, ℤ, ◌<◌, Option, List, length}
 use Rattle.lin_object.specs.declared.op.Op.{Op}
 use Rattle.lin_object.specs.declared.reply.Reply.{Reply}
 use Rattle.lin_object.specs.declared.state.ObjState.{ObjState}
@@ -14,7 +14,7 @@ use Rattle.lin_search.specs.declared.told.Told.{Told}
 use Rattle.lin_search.specs.declared.told.Told.TheVariants.{Found, Refuted, Nothing}
 use Rattle.lin_decide.specs.declared.keys.orders_told.OrdersTold.{OrdersTold}
 use Rattle.lin_decide.specs.declared.keys.orders_told.OrdersTold.TheVariants as all
-use Rattle.lin_decide.specs.declared.keys.part_order.TheConstants.{LIFTS_FOR_A_CALL, MORE_LIFTS}
+use Rattle.lin_effort.specs.Lifts.{lifts_on_key}
 use Rattle.lin_decide.specs.Keys.KeyedCalls.{AreCallsOn}
 use Rattle.lin_decide.specs.Keys.Merging.{order_at}
 use Rattle.lin_parts.specs.Parts.{ArePart, IsFilled, part_of, named}
@@ -40,20 +40,11 @@ pub record HasRefutedPart {State Op Reply : Type 0} (p : Problem State Op Reply)
   pub part : ArePart p kept calls
   pub none : (l : List ℕ) → IsLinearization (part_of p calls) l → ⊥
 
--- The number, but never more than the limit.
-abbrev pub at_most : Option ℕ → ℕ → ℕ
-at_most None n = n
-at_most (Some most) n = min most n
-
--- How many lifts a search of a part of so many calls may make.
-abbrev pub lifts_of_part : Option ℕ → ℕ → ℕ
-lifts_of_part limit calls = at_most limit (LIFTS_FOR_A_CALL * calls + MORE_LIFTS)
-
 -- The problem of these calls has more runs than lifts may be made, or the stop answered.
 pub record IsSpentOnPart {State Op Reply : Type 0} (p : Problem State Op Reply) (kept : List ℕ) (limit : Option ℕ) (tells : ℕ → Type 0) : Type 0 where
   pub calls : List (ProblemCall Op Reply)
   pub part : ArePart p kept calls
-  pub spent : IsSpent (part_of p calls) (lifts_of_part limit (length kept)) tells
+  pub spent : IsSpent (part_of p calls) (lifts_on_key limit (length kept)) tells
 
 -- A full order of the problem of these calls; or that it has no linearization; or nothing.
 abbrev pub IsPartOrder : {State Op Reply : Type 0} → Problem State Op Reply → List ℕ → Told → Type 0

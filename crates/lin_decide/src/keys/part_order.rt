@@ -1,48 +1,21 @@
 //! What searches of one part tell.
 
 ghost use Rattle.std.specs.Prelude.{◌≡◌, ◌<◌, ◌≤◌, ℕ, IfOk, length};
-ghost use Rattle.lin_history.specs.declared.limits.TheConstants.{MAX_CALLS_ON_OBJECT};
 ghost use Rattle.lin_history.specs.Problems.AnyProblem.{any_problem};
 ghost use Rattle.lin_history.specs.Problems.Lists.{In};
 ghost use Rattle.lin_search.specs.Told.{IsRightOf, IsSpent, IsToldUnless};
-ghost use Rattle.lin_decide.specs.Keys.PartOrder.{IsNamed, IsPartOrder, IsSpentOnPart, at_most, lifts_of_part};
+ghost use Rattle.lin_decide.specs.Keys.PartOrder.{IsNamed, IsPartOrder, IsSpentOnPart};
+ghost use Rattle.lin_effort.specs.Lifts.{lifts_on_key};
 ghost use Rattle.lin_parts.specs.Parts.{AreSomeCalls};
 
 use lin_ahead::{known_ahead, search_first};
-use lin_effort::efforts::{STEPS_FOR_A_LIFT, ahead};
+use lin_effort::efforts::{STEPS_FOR_A_LIFT, ahead, lifts_at_once, lifts_on_key};
 use lin_fewer::{NoRules, has_many_pending, least_linearization};
 use lin_history::{Order, Problem};
 use lin_object::{AnyObject, ObjState};
 use lin_parts::{fill, own_names, part_of};
 use lin_search::{AtTimes, Stop, Told, search_for_order};
 use std::alloc::{AllocError, Global};
-
-// The most lifts for each call of a part of the search that comes before anything is known ahead.
-const LIFTS_AT_ONCE: u64 = 8;
-
-// The most lifts of a search for each call of a part, and how many more. A part of a real history takes few; where one takes
-// more, the search of the whole decides.
-const LIFTS_FOR_A_CALL: u64 = 300;
-
-const MORE_LIFTS: u64 = 4_000;
-
-/// So many lifts, but never more than the limit.
-pub(crate) fn within(lifts: u64, limit: Option<u64>) -> u64
-    ensures { result ≡ at_most limit lifts }
-{
-    match limit {
-        Some(most) => most.min(lifts),
-        None => lifts,
-    }
-}
-
-// How many lifts a search of a part of so many calls may make: never more than the limit.
-fn lifts_of_part(calls: usize, limit: Option<u64>) -> u64
-    requires { calls ≤ MAX_CALLS_ON_OBJECT }
-    ensures { result ≡ lifts_of_part limit calls }
-{
-    within(LIFTS_FOR_A_CALL * calls as u64 + MORE_LIFTS, limit)
-}
 
 // What a first search of the part tells, where something is known ahead.
 fn told_at_first<S: Stop>(
@@ -88,15 +61,14 @@ fn told_by_rules<S: Stop>(
     ensures told { IfOk result (IsRightOf (any_problem part.now)) }
     ensures stop { S.follows stop.old stop.new }
 {
-    let lifts = lifts_of_part(part.calls().len(), limit);
+    let lifts = lifts_on_key(part.calls().len(), limit);
     match told_at_first(alloc, part, limit, stop)? {
         Told::Nothing => told_by_blocks(alloc, part, lifts, stop),
         known => Ok(known),
     }
 }
 
-// What a search of few lifts tells of an item of a set. What is known ahead of it takes as long as eight lifts for each call, and most
-// items are easy.
+// What a search of few lifts tells of an item of a set.
 fn told_at_once<S: Stop>(
     alloc: Global,
     part: &Problem<AnyObject>,
@@ -106,9 +78,9 @@ fn told_at_once<S: Stop>(
     ensures told { IfOk result (IsRightOf (any_problem part.now)) }
     ensures stop { S.follows stop.old stop.new }
 {
-    let lifts = LIFTS_AT_ONCE.saturating_mul(part.len() as u64);
+    let lifts = lifts_at_once(part.len(), limit);
     match part.start() {
-        ObjState::Set(_) => search_for_order(alloc, part, within(lifts, limit), stop),
+        ObjState::Set(_) => search_for_order(alloc, part, lifts, stop),
         _ => Ok(Told::Nothing),
     }
 }
@@ -138,10 +110,10 @@ fn told_of_part<S: Stop>(
 ) -> Result<Told, AllocError>
     ensures told { IfOk result (IsRightOf (any_problem part.now)) }
     ensures nothing { IfOk result (IsToldUnless (IsSpent (any_problem part.now)
-        (lifts_of_part limit (length part.now.calls)) (S.tells stop.new))) }
+        (lifts_on_key limit (length part.now.calls)) (S.tells stop.new))) }
     ensures stop { S.follows stop.old stop.new }
 {
-    let lifts = lifts_of_part(part.calls().len(), limit);
+    let lifts = lifts_on_key(part.calls().len(), limit);
     match told_before(alloc, part, limit, stop)? {
         Told::Nothing => search_for_order(alloc, part, lifts, stop),
         known => Ok(known),

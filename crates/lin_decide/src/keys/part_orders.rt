@@ -9,17 +9,15 @@ ghost use Rattle.lin_parts.specs.Parts.{AreSomeCalls};
 use crate::keys::calls_of_key::CallsOfKey;
 use crate::keys::key_calls::calls_at;
 use crate::keys::orders_told::OrdersTold;
-use crate::keys::part_order::{order_of_part, within};
+use crate::keys::part_order::order_of_part;
+use lin_effort::efforts::ahead;
 use lin_history::Problem;
 use lin_object::AnyObject;
 use lin_search::{Stop, Told};
 use std::alloc::{AllocError, Global};
 
-// The most lifts of a search for each call of a part, where the order of an earlier one is not known: no order of the whole is
-// found any more.
-const LIFTS_TO_REFUTE: u64 = 3;
-
-// Whether one of the parts from this key on is known to have no linearization, by a short search.
+// Whether one of the parts from this key on is known to have no linearization, by a search as short as one that goes before all others: no
+// order of the whole is found any more.
 fn some_is_refuted<S: Stop>(
     alloc: Global,
     problem: &Problem<AnyObject>,
@@ -36,7 +34,7 @@ fn some_is_refuted<S: Stop>(
 {
     for key in from..lists.len() {
         let kept = calls_at(lists, key);
-        let lifts = within(LIFTS_TO_REFUTE.saturating_mul(kept.len() as u64), limit);
+        let lifts = ahead(kept.len(), limit).lifts;
         let answer = order_of_part(alloc, problem, kept, Some(lifts), stop)?;
         if let Told::Refuted = answer {
             return Ok(true);

@@ -4,9 +4,9 @@ use super::random::random_history;
 use super::searches::Event::{Call, Return};
 use super::searches::{Event, Part, posed_by};
 use lin_decide::Ladder;
-use lin_effort::Work;
+use lin_effort::{Decide, Work};
 use lin_object::{Kind, Op, Reply};
-use lin_prefixes::{WholeAnswer, search_by_prefixes};
+use lin_prefixes::{Hint, WholeAnswer, longest_run_by_prefixes, search_by_prefixes};
 use lin_search::{NoStop, Outcome, OwnMemo, longest_run, search_alone};
 use std::alloc::{AllocError, Global};
 
@@ -145,4 +145,59 @@ fn what_shows_that_there_is_none_is_asked_before_a_search(rt: HostRuntime) {
     assert!(rt; are_refuted_within(alloc, Kind::Queue, &ITEM_TAKEN_TWICE, 500));
     assert!(rt; are_refuted_within(alloc, Kind::Queue, &ITEMS_TAKEN_IN_ANOTHER_ORDER, 135));
     assert!(rt; are_refuted_within(alloc, Kind::Stack, &FOUND_EMPTY_UNDER_AN_ITEM, 34));
+}
+
+// The call of a register's history that is wrong, and the number of the event at which it returns.
+const STALE_READ: usize = 32;
+
+const ITS_RETURN: u32 = 66;
+
+// A register that is written again and again, and one read between, of what was written first.
+fn with_a_stale_read(alloc: Global) -> Result<Part, AllocError> {
+    let mut events = Vec::new(alloc);
+    for call in 0..2 * STALE_READ {
+        let (op, reply) = if call == STALE_READ {
+            (Op::Read, Reply::Int(0))
+        } else {
+            (Op::Write(call as i64), Reply::Okay)
+        };
+        events.push(Call(1, op))?;
+        events.push(Return(call, reply))?;
+    }
+    Ok(posed_by(alloc, Kind::Register, events.as_slice()))
+}
+
+// How many lifts' work it takes to find, with this hint, that the longest run of the register's history ends right before the read. None
+// if it is not found.
+fn lifts_taken(alloc: Global, hint: &Hint) -> Result<Option<u64>, AllocError> {
+    let problem = with_a_stale_read(alloc)?;
+    let work = Work::of_lifts(1_000_000);
+    let mut stop = NoStop;
+    let mut ladder = Ladder::new(&problem, work, &mut stop);
+    let Some(run) = longest_run_by_prefixes(alloc, &problem, hint, &mut ladder)? else {
+        return Ok(None);
+    };
+    if run.calls().len() != STALE_READ {
+        return Ok(None);
+    }
+    Ok(Some(work.without(ladder.left()).lifts()))
+}
+
+// Whether the run is found with less work where the hint names the read.
+fn hint_saves_work(alloc: Global) -> Result<bool, AllocError> {
+    let mut hint = Hint::none(alloc);
+    let Some(without) = lifts_taken(alloc, &hint)? else {
+        return Ok(false);
+    };
+    hint.event = Some(ITS_RETURN);
+    hint.calls.push(STALE_READ)?;
+    match lifts_taken(alloc, &hint)? {
+        Some(with) => Ok(with < without),
+        None => Ok(false),
+    }
+}
+
+#[test]
+fn right_hint_saves_work(rt: HostRuntime) {
+    assert!(rt; matches!(hint_saves_work(rt.alloc()), Ok(true)));
 }

@@ -1,7 +1,7 @@
 use Rattle.std.proofs.Common.{ℕ, List, subst, sym}
 use Rattle.std.specs.Prelude.{All}
 use Rattle.lin_history.specs.Problems.Problem.{problem_of}
-use Rattle.lin_prefixes.specs.Prefixes.{AreParted, AreSplit, IsConflict}
+use Rattle.lin_prefixes.specs.Prefixes.{AreSplit, IsConflict}
 use Rattle.lin_prefixes.proofs.BeatenLemmas.{beaten_itself}
 use Rattle.lin_prefixes.proofs.SplitLemmas.{split_again, too_short}
 use Rattle.lin_prefixes.proofs.by_prefixes.try_cut.Goals as goal
@@ -15,8 +15,8 @@ returns-then-not-may_be_best-clause-known g c = λ yes r w. too_short (problem_o
 pub returns-in_default-clause-better : goal.returns-in_default-clause-better
 returns-in_default-clause-better g c = beaten_itself c.args.best.now
 
-pub try_levels-requires-clause-split : goal.try_levels-requires-clause-split
-try_levels-requires-clause-split g c =
+pub try_others-requires-clause-split : goal.try_others-requires-clause-split
+try_others-requires-clause-split g c =
     let p = problem_of g.O.SeqObject.after g.O.State.PartialEq.eq g.O.Reply.PartialEq.eq c.args.problem.now in
     subst (λ (l : List ℕ). AreSplit p c.args.cut.call l c.as_slice-4.result.now) (sym c.as_slice-3.ensures.value)
     (subst (λ (l : List ℕ). AreSplit p c.args.cut.call c.in_ok-parted.parted.gone.items l) (sym c.as_slice-4.ensures.value)

@@ -9,12 +9,6 @@ returns-in_ok-verdict-in-No-clause-end c orders bounds so_far right b e =
     subst (IsVerdict c.args.history.now bounds) (breaks e)
     (c.in_ok-verdict-in-No.ensures.right orders bounds so_far (rw c.in-No.is at right))
 
-pub returns-in-HasOrder-clause-end : goal.returns-in-HasOrder-clause-end
-returns-in-HasOrder-clause-end c orders bounds so_far right b e = absurd (let asked = (rw c.in-HasOrder.is at right).0 in cc)
-
-pub returns-in-HasOrder-clause-judged : goal.returns-in-HasOrder-clause-judged
-returns-in-HasOrder-clause-judged c v e = subst (λ verdict. judged_of c.args.history.now verdict ≡ c.args.object + 1) (breaks e) refl
-
 pub returns-in-Undecided-clause-end : goal.returns-in-Undecided-clause-end
 returns-in-Undecided-clause-end c orders limit so_far right b e =
     subst (IsVerdict c.args.history.now limit) (breaks e)

@@ -2,27 +2,18 @@ use Rattle.std.proofs.Common.{sym, ◌∙◌}
 use Rattle.lin_object.specs.StepLemmas.{state_same}
 use Rattle.lin_history.specs.Problems.AnyProblem.{any_problem}
 use Rattle.lin_search.specs.SameLemmas.{alike_itself}
-use Rattle.lin_ahead.proofs.values.DueLemmas.{told_ok, another_begins_none, finds_begins_none, between_begins_none, two_begin_none}
+use Rattle.lin_ahead.proofs.values.DueLemmas.{told_ok, another_begins_none, between_begins_none, two_begin_none}
 use Rattle.lin_ahead.proofs.values.StrandedLemmas.{stranded_begins_none}
 use Rattle.lin_ahead.proofs.values.rules.ValueRulesRulesAnyObject.leads_to_none.Goals as goal
 
 pub another_is_due-requires : goal.another_is_due-requires
 another_is_due-requires c = rw c.as_slice-owners.ensures.value c.requires.right.owners
 
-pub finds_another-requires : goal.finds_another-requires
-finds_another-requires c = rw c.as_slice-owners.ensures.value c.requires.right.owners
-
 pub two_change-requires : goal.two_change-requires
 two_change-requires c = rw c.as_slice-owners.ensures.value c.requires.right.owners
 
 pub comes_between-requires : goal.comes_between-requires
 comes_between-requires c = rw c.as_slice-owners.ensures.value c.requires.right.owners
-
-pub returns-then-eq : goal.returns-then-eq
-returns-then-eq c = told_ok c.finds_another.result
-    (finds_begins_none (any_problem c.args.problem.now) state_same (alike_itself c.lawful.ensures _)
-    _ _ c.requires.reachable c.args.call c.args.state.now c.requires.next)
-    c.finds_another.ensures
 
 pub returns-then-another_is_due : goal.returns-then-another_is_due
 returns-then-another_is_due c = λ known.
