@@ -159,6 +159,12 @@ fn order_of<S: Stop>(
     }
 }
 
+// How many steps a search of so many calls makes that is to show that there is an order.
+fn steps_to_show(calls: usize) -> u64 {
+    let effort = bound(calls);
+    effort.lifts.saturating_mul(effort.steps_for_a_lift)
+}
+
 // What is decided where this is told; where nothing is, nothing will be once all has ended.
 fn decision_of(told: Told, has_ended: bool) -> Decision
     ensures decided { (p : ProblemOf ObjState Op Reply) → IsRightOf p told → IsDecisionOf p result }
@@ -324,8 +330,8 @@ impl<'a, S: Stop> Ladder<'a, S> {
         }
     }
 
-    // Whether a search finds that there is an order that tries pending calls only between completed ones: it makes as many steps as for the
-    // question whether a call has a run.
+    // Whether a search soon finds that there is an order that tries pending calls only between completed ones: it makes as many steps as for
+    // the question whether a call has a run.
     fn shows_order_by_blocks(
         &mut self,
         alloc: Global,
@@ -334,28 +340,27 @@ impl<'a, S: Stop> Ladder<'a, S> {
         ensures { IfOk result (λ shown. IsTrue shown
             → (l : List ℕ) × IsLinearization (any_problem problem.now) l) }
     {
-        let effort = bound(problem.len());
-        let steps = self.steps_by_blocks(problem, &effort, effort.lifts);
-        if steps == 0 {
+        if !self.has_many_pending {
             return Ok(false);
         }
         let rules = SumRules::of(alloc, problem)?;
         self.meter.take_each(Work::STEP);
+        let steps = steps_to_show(problem.len());
         let shown = shows_linearization(alloc, problem, &rules, steps, &mut self.meter)?;
         self.meter.take_each(Work::LIFT);
         Ok(shown)
     }
 
-    /// What a search tells with all work that is left that tries pending calls only between completed ones: nothing, unless the same search
-    /// soon shows that there is a linearization. `AllocError` where memory was refused.
-    pub fn told_where_shown(
+    /// What a search tells with all work that is left that tries pending calls only between completed ones: nothing where these are few, or
+    /// where that is no good bet for so many calls. `AllocError` where memory was refused.
+    pub fn told_by_blocks_alone(
         &mut self,
         alloc: Global,
         problem: &Problem<AnyObject>,
     ) -> Result<Told, AllocError>
         ensures { IfOk result (IsRightOf (any_problem problem.now)) }
     {
-        if !self.shows_order_by_blocks(alloc, problem)? {
+        if !self.has_many_pending || !may_take_steps(problem, steps_to_show(problem.len())) {
             return Ok(Told::Nothing);
         }
         self.told_in_steps(alloc, problem, u64::MAX)
@@ -397,13 +402,16 @@ impl<'a, S: Stop> Ladder<'a, S> {
             if self.meter.has_ended() {
                 return Ok(Told::Nothing);
             }
-            let lifts = wanted.min(lifts_within(self.meter.left()));
-            match self.round(alloc, problem, known, effort, lifts)? {
+            let most = lifts_within(self.meter.left());
+            match self.round(alloc, problem, known, effort, wanted.min(most))? {
                 Told::Nothing => {}
                 told => return Ok(told),
             }
             if round == 0 && self.is_refuted_without_lost(alloc, problem, effort)? {
                 return Ok(Told::Refuted);
+            }
+            if most <= wanted {
+                return Ok(Told::Nothing);
             }
             wanted = wanted.saturating_mul(effort.growth);
         }

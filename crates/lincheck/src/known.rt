@@ -1,6 +1,6 @@
 //! What is known of an object while it is checked.
 
-ghost use Rattle.std.specs.Prelude.{◌≡◌, false};
+ghost use Rattle.std.specs.Prelude.{◌≡◌, IsTrue, None, Some, false, true};
 
 use crate::object_fault::ObjectFault;
 
@@ -35,6 +35,8 @@ impl Sought {
 pub(crate) struct Known {
     /// Whether it is known that it has no linearization.
     pub(crate) is_refuted: bool,
+    /// Whether it showed that it has one, though not which is the least; `None` where that was not asked.
+    pub(crate) has_order: Option<bool>,
     /// What lets a reader see that.
     pub(crate) fault: Sought,
 }
@@ -43,11 +45,20 @@ impl Known {
     /// Nothing is known.
     pub(crate) fn nothing() -> Self
         ensures refuted { result.is_refuted ≡ false }
+        ensures order { result.has_order ≡ None }
         ensures fault { result.fault ≡ Sought.NotYet }
     {
         Known {
             is_refuted: false,
+            has_order: None,
             fault: Sought::NotYet,
         }
+    }
+
+    /// Whether it showed that it has a linearization.
+    pub(crate) fn shows_order(&self) -> bool
+        ensures { IsTrue result → self.has_order ≡ Some true }
+    {
+        self.has_order == Some(true)
     }
 }

@@ -4,13 +4,17 @@
 //!      | nothing, or that there is none
 //!   sums of a counter: they may leave no room for a reply
 //!      |
-//!   without lost items, where no run is asked for ----> yes
+//!   an order that shows, where no run is asked for ---> yes
 //!      |
 //!   +> full search --- its end -----------------------> yes, or no with its longest run
 //!   |     | no progress
+//!   |  an order that shows, once ---------------------> there is one: no fault is looked for
+//!   |     |
 //!   |  a fault, once --- found -----------------------> there is none: only the run is sought
 //!   |     |
 //!   |  searches of prefixes --- an order, or a run ---> yes, or no with its longest run
+//!   |     |
+//!   |  by blocks, where an order showed --------------> yes
 //!   +-----+ twice as far each time; then
 //!   full search to its end, by workers ---------------> yes, no, or undecided
 //!
@@ -119,35 +123,57 @@ fn look_for_sums<R: AllocGlobal, G: Gate, W: Watcher>(
     if let Some(fault) = sums_of_object(setting.rt.alloc(), problem, &mut ladder)? {
         *known = Known {
             is_refuted: true,
+            has_order: known.has_order,
             fault: Sought::Found(fault),
         };
     }
     Ok(())
 }
 
-// Whether it shows that there is an order, where that is not known to be wrong and no more is asked for.
+// Asks once whether it shows that there is an order, while it is not known that there is none.
+fn look_for_order<R: AllocGlobal, G: Gate, W: Watcher>(
+    setting: &Setting<'_, '_, R, G, W>,
+    problem: &Problem<AnyObject>,
+    known: &mut Known,
+) -> Result<(), AllocError>
+    requires { IsKnownOf (any_problem problem.now) known.old }
+    ensures { IsKnownOf (any_problem problem.now) known.new }
+{
+    let limit = setting.bounds.limit();
+    if known.is_refuted || known.has_order.is_some() {
+        return Ok(());
+    }
+    if is_small(limit) || setting.gate.wants_workers() {
+        return Ok(());
+    }
+    let mut stop = UntilUp::new(&setting.bounds);
+    let mut ladder = Ladder::new(problem, Work::ANY, &mut stop);
+    let effort = ahead(problem.len(), limit);
+    let shown = ladder.shows_order(setting.rt.alloc(), problem, &effort)?;
+    known.has_order = Some(shown);
+    Ok(())
+}
+
+// Whether it shows that there is an order, where no more is asked for.
 fn has_order<R: AllocGlobal, G: Gate, W: Watcher>(
     setting: &Setting<'_, '_, R, G, W>,
     problem: &Problem<AnyObject>,
     question: Question,
-    known: &Known,
+    known: &mut Known,
 ) -> Result<bool, AllocError>
-    ensures { IfOk result (λ yes. IsTrue yes → (question ≡ Question.Verdict)
+    requires { IsKnownOf (any_problem problem.now) known.old }
+    ensures order { IfOk result (λ yes. IsTrue yes → (question ≡ Question.Verdict)
         × ((l : List ℕ) × IsLinearization (any_problem problem.now) l)) }
+    ensures known { IsKnownOf (any_problem problem.now) known.new }
 {
-    let limit = setting.bounds.limit();
-    if known.is_refuted || !asks_no_run(question) {
+    if !asks_no_run(question) {
         return Ok(false);
     }
-    if is_small(limit) || setting.gate.wants_workers() {
-        return Ok(false);
-    }
-    let mut stop = UntilUp::new(&setting.bounds);
-    let mut ladder = Ladder::new(problem, Work::ANY, &mut stop);
-    ladder.shows_order(setting.rt.alloc(), problem, &ahead(problem.len(), limit))
+    look_for_order(setting, problem, known)?;
+    Ok(known.shows_order())
 }
 
-// Looks once for calls that let a reader see that there is no order, while that is not known.
+// Looks once for calls that let a reader see that there is no order, while neither is known.
 fn look_for_fault<R: AllocGlobal, G: Gate, W: Watcher>(
     setting: &Setting<'_, '_, R, G, W>,
     problem: &Problem<AnyObject>,
@@ -156,7 +182,7 @@ fn look_for_fault<R: AllocGlobal, G: Gate, W: Watcher>(
     requires { IsKnownOf (any_problem problem.now) known.old }
     ensures { IsKnownOf (any_problem problem.now) known.new }
 {
-    if known.is_refuted || !known.fault.is_not_yet() {
+    if known.is_refuted || known.shows_order() || !known.fault.is_not_yet() {
         return Ok(());
     }
     setting.bounds.watcher().enter(Way::Core);
@@ -166,6 +192,7 @@ fn look_for_fault<R: AllocGlobal, G: Gate, W: Watcher>(
         Some(fault) => {
             *known = Known {
                 is_refuted: true,
+                has_order: known.has_order,
                 fault: Sought::Found(fault),
             };
         }
@@ -198,8 +225,8 @@ fn look_for_explanation<R: AllocGlobal, G: Gate, W: Watcher>(
     Ok(())
 }
 
-// The order with so much work, where it soon shows that there is one; that there is none is not asked.
-fn order_where_shown<R: AllocGlobal, G: Gate, W: Watcher>(
+// The order, where it showed that there is one, by a search with so much work that tries pending calls only between completed ones.
+fn order_by_blocks<R: AllocGlobal, G: Gate, W: Watcher>(
     setting: &Setting<'_, '_, R, G, W>,
     problem: &Problem<AnyObject>,
     work: Work,
@@ -207,12 +234,12 @@ fn order_where_shown<R: AllocGlobal, G: Gate, W: Watcher>(
 ) -> Result<Option<Order>, AllocError>
     ensures { IfOk result (λ found. IfSome found (IsLeast (IsLinearization (any_problem problem.now)))) }
 {
-    if known.is_refuted {
+    if !known.shows_order() {
         return Ok(None);
     }
     let mut stop = UntilUp::new(&setting.bounds);
     let mut ladder = Ladder::new(problem, work, &mut stop);
-    match ladder.told_where_shown(setting.rt.alloc(), problem)? {
+    match ladder.told_by_blocks_alone(setting.rt.alloc(), problem)? {
         Told::Found(order) => Ok(Some(order)),
         Told::Refuted | Told::Nothing => Ok(None),
     }
@@ -290,12 +317,24 @@ fn answer_refuted<R: AllocGlobal, G: Gate, W: Watcher>(
     }
 }
 
-// The answer by searches of prefixes that make so many lifts.
+// How far the least order is looked for in a turn: in a later one as far as that goes at once, since searches with less told nothing.
+fn effort_in(turn: Turn, problem: &Problem<AnyObject>) -> Effort {
+    let effort = order(problem.len());
+    if turn.is_first {
+        return effort;
+    }
+    Effort {
+        lifts: turn.prefixes,
+        ..effort
+    }
+}
+
+// The answer by searches of prefixes in a turn.
 fn answer_by_prefixes<R: AllocGlobal, G: Gate, W: Watcher>(
     setting: &Setting<'_, '_, R, G, W>,
     problem: &Problem<AnyObject>,
     question: Question,
-    lifts: u64,
+    turn: Turn,
     known: &mut Known,
 ) -> Result<Option<ObjectAnswer>, AllocError>
     requires { IsKnownOf (any_problem problem.now) known.old }
@@ -305,11 +344,11 @@ fn answer_by_prefixes<R: AllocGlobal, G: Gate, W: Watcher>(
 {
     setting.bounds.watcher().enter(Way::Prefixes);
     if !known.is_refuted {
-        let work = work_of_searches(lifts);
-        if let Some(order) = decided(setting, problem, &order(problem.len()), work, known)? {
+        let work = work_of_searches(turn.prefixes);
+        if let Some(order) = decided(setting, problem, &effort_in(turn, problem), work, known)? {
             return Ok(Some(ObjectAnswer::Yes(order)));
         }
-        if let Some(order) = order_where_shown(setting, problem, work, known)? {
+        if let Some(order) = order_by_blocks(setting, problem, work, known)? {
             return Ok(Some(ObjectAnswer::Yes(order)));
         }
     }
@@ -317,7 +356,7 @@ fn answer_by_prefixes<R: AllocGlobal, G: Gate, W: Watcher>(
         return Ok(None);
     }
     announce(setting, problem, question, known)?;
-    answer_refuted(setting, problem, question, lifts, known)
+    answer_refuted(setting, problem, question, turn.prefixes, known)
 }
 
 // ---- turns
@@ -360,13 +399,17 @@ fn behind_full_search<R: AllocGlobal, G: Gate, W: Watcher>(
     let Some(stored) = stored_now(problem, memo) else {
         return Ok(ControlFlow::Continue(turn.prefixes));
     };
+    look_for_order(setting, problem, known)?;
     look_for_fault(setting, problem, known)?;
     announce(setting, problem, question, known)?;
     let at_first = prefixes_at_first(problem, known.is_refuted, setting.bounds.limit());
-    let lifts = turn.prefixes.max(at_first);
-    match answer_by_prefixes(setting, problem, question, lifts, known)? {
+    let turn = Turn {
+        prefixes: turn.prefixes.max(at_first),
+        ..turn
+    };
+    match answer_by_prefixes(setting, problem, question, turn, known)? {
         Some(answer) => Ok(ControlFlow::Break((answer, stored))),
-        None => Ok(ControlFlow::Continue(lifts)),
+        None => Ok(ControlFlow::Continue(turn.prefixes)),
     }
 }
 
