@@ -1,7 +1,7 @@
 //! Values on which the calls of a register, or of a key of a map, may have no linearization, by the faults that registers have in practice. All of it is
 //! hints. (The zones of values written once: Gibbons and Korach 1997.)
 
-use crate::call_index::{CallIndex, ValueCalls};
+use crate::call_index::CallIndex;
 use crate::item_faults::{MOST, list_of};
 use crate::item_times::{NEVER, return_of};
 use crate::spans::{Span, Spans};
@@ -171,54 +171,6 @@ fn crossed(
     Ok(())
 }
 
-// What the `cas` puts there, if it answered 'yes'.
-fn put_by(call: &ProblemCall<Op, Reply>) -> Option<i64> {
-    match (&call.op, &call.returned) {
-        (Op::Cas(_, to), Some(_)) => Some(*to),
-        _ => None,
-    }
-}
-
-// A value that was written once, with what two calls of `cas` put in its place.
-fn taken_twice(
-    alloc: Global,
-    problem: &Problem<AnyObject>,
-    on_value: &ValueCalls,
-    found: &mut Vec<Vec<i64>>,
-) -> Result<(), AllocError> {
-    let mut values = list_of(alloc, &[on_value.value])?;
-    for call in &on_value.takers {
-        match problem.calls().get(*call).and_then(put_by) {
-            Some(value) if values.len() < 3 => values.push(value)?,
-            _ => {}
-        }
-    }
-    if values.len() == 3 {
-        found.push(values)?;
-    }
-    Ok(())
-}
-
-// Values that were written once, each with what two calls of `cas` put in its place.
-fn all_taken_twice(
-    alloc: Global,
-    problem: &Problem<AnyObject>,
-    index: &CallIndex,
-    all: &[ValueTimes],
-    found: &mut Vec<Vec<i64>>,
-) -> Result<(), AllocError> {
-    let most = found.len().saturating_add(MOST);
-    for times in all.iter().filter(|times| times.writes == 1) {
-        if found.len() >= most {
-            break;
-        }
-        if let Some(on_value) = index.at(times.value) {
-            taken_twice(alloc, problem, on_value, found)?;
-        }
-    }
-    Ok(())
-}
-
 /// Lists of values: of each list the calls may have no linearization. It takes O(n log n) for n calls.
 pub(crate) fn value_faults(
     alloc: Global,
@@ -231,6 +183,5 @@ pub(crate) fn value_faults(
     let spans = spans_of(alloc, all.as_slice())?;
     found_in_vain(alloc, all.as_slice(), &mut found)?;
     crossed(alloc, &spans, all.as_slice(), &mut found)?;
-    all_taken_twice(alloc, problem, index, all.as_slice(), &mut found)?;
     Ok(found)
 }

@@ -15,8 +15,9 @@
 //!   between completed ones (`lin_fewer`). A counter with many of them is refuted at once if it has no linearization whatever these
 //!   add.
 //! - A queue or a stack with pending calls has no linearization where it has none without its lost items (`lin_lost`): asked once, after a
-//!   first search that told nothing. `shows_order` tells whether it has any, though not the least: by an order of what is left by a guess,
-//!   with the lost items put in again, which is checked on the whole.
+//!   first search that told nothing. `shows_order` tells whether a problem has any, though not the least: by an order of what is left by a
+//!   guess, with the lost items put in again, which is checked on the whole; or by a search that tries pending calls only between completed
+//!   ones and asks for no more.
 //! - A search by key makes a problem of each key of a map or a set that starts empty, with the event numbers of the whole, and
 //!   searches each by `search_first` and, if that tells nothing, by `search_for_order`; if many calls of the key are pending,
 //!   `least_linearization` comes between the two. If the order of one key is not found, short searches of the others may still

@@ -24,6 +24,7 @@ mod each;
 mod each_explained;
 mod explanation_lines;
 mod fault;
+mod findings;
 mod full_search;
 mod help;
 mod judgement;

@@ -1,5 +1,7 @@
 //! What is asked of one object, and what is answered.
 
+ghost use Rattle.std.specs.Prelude.{◌≡◌, IsTrue};
+
 use lin_history::Order;
 
 /// What is asked of an object.
@@ -9,6 +11,16 @@ pub(crate) enum Question {
     Verdict,
     /// That, and where it has none the first of its longest runs.
     LongestRun,
+}
+
+/// Whether no longest run is asked for.
+pub(crate) fn asks_no_run(question: Question) -> bool
+    ensures { IsTrue result → question ≡ Question.Verdict }
+{
+    match question {
+        Question::Verdict => true,
+        Question::LongestRun => false,
+    }
 }
 
 /// What was found of an object.

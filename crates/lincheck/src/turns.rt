@@ -30,10 +30,13 @@ ghost use Rattle.lin_unseen.specs.SameRuns.{HasRunsOf};
 ghost use Rattle.lincheck.specs.Known.{IsKnownOf};
 ghost use Rattle.lincheck.specs.ObjectAnswer.{HasNoOrder, IsAnswered, IsObjectAnswer};
 
+use crate::findings::{
+    announce, has_order, look_for_fault, look_for_hint, look_for_order, look_for_sums,
+};
 use crate::full_search::{answer_alone, by_workers, search_alone, stored_now, to_the_end};
-use crate::known::{Known, Sought};
-use crate::object_answer::{ObjectAnswer, Question};
-use crate::object_fault::{calls_of_object, fault_of_object, hint_of, sums_of_object};
+use crate::known::Known;
+use crate::object_answer::{ObjectAnswer, Question, asks_no_run};
+use crate::object_fault::hint_of;
 use crate::setting::Setting;
 use lin_decide::Ladder;
 use lin_effort::efforts::{
@@ -51,16 +54,6 @@ use lin_workers::{Gate, Patience, UntilUp, Watcher, Way};
 use std::alloc::{AllocError, AllocGlobal, Global};
 use std::ops::ControlFlow;
 use std::thread::Threads;
-
-// Whether no longest run is asked for.
-fn asks_no_run(question: Question) -> bool
-    ensures { IsTrue result → question ≡ Question.Verdict }
-{
-    match question {
-        Question::Verdict => true,
-        Question::LongestRun => false,
-    }
-}
 
 // ---- what is decided without a full search
 
@@ -106,125 +99,6 @@ fn order_ahead<R: AllocGlobal, G: Gate, W: Watcher>(
     decided(setting, problem, &effort, Work::ANY, known)
 }
 
-// Looks for a get of a counter for whose reply the adds leave no room: in one pass over the calls, where searches may take long.
-fn look_for_sums<R: AllocGlobal, G: Gate, W: Watcher>(
-    setting: &Setting<'_, '_, R, G, W>,
-    problem: &Problem<AnyObject>,
-    known: &mut Known,
-) -> Result<(), AllocError>
-    requires { IsKnownOf (any_problem problem.now) known.old }
-    ensures { IsKnownOf (any_problem problem.now) known.new }
-{
-    if known.is_refuted || is_small(setting.bounds.limit()) || setting.gate.wants_workers() {
-        return Ok(());
-    }
-    let mut stop = UntilUp::new(&setting.bounds);
-    let mut ladder = Ladder::new(problem, Work::ANY, &mut stop);
-    if let Some(fault) = sums_of_object(setting.rt.alloc(), problem, &mut ladder)? {
-        *known = Known {
-            is_refuted: true,
-            has_order: known.has_order,
-            fault: Sought::Found(fault),
-        };
-    }
-    Ok(())
-}
-
-// Asks once whether it shows that there is an order, while it is not known that there is none.
-fn look_for_order<R: AllocGlobal, G: Gate, W: Watcher>(
-    setting: &Setting<'_, '_, R, G, W>,
-    problem: &Problem<AnyObject>,
-    known: &mut Known,
-) -> Result<(), AllocError>
-    requires { IsKnownOf (any_problem problem.now) known.old }
-    ensures { IsKnownOf (any_problem problem.now) known.new }
-{
-    let limit = setting.bounds.limit();
-    if known.is_refuted || known.has_order.is_some() {
-        return Ok(());
-    }
-    if is_small(limit) || setting.gate.wants_workers() {
-        return Ok(());
-    }
-    let mut stop = UntilUp::new(&setting.bounds);
-    let mut ladder = Ladder::new(problem, Work::ANY, &mut stop);
-    let effort = ahead(problem.len(), limit);
-    let shown = ladder.shows_order(setting.rt.alloc(), problem, &effort)?;
-    known.has_order = Some(shown);
-    Ok(())
-}
-
-// Whether it shows that there is an order, where no more is asked for.
-fn has_order<R: AllocGlobal, G: Gate, W: Watcher>(
-    setting: &Setting<'_, '_, R, G, W>,
-    problem: &Problem<AnyObject>,
-    question: Question,
-    known: &mut Known,
-) -> Result<bool, AllocError>
-    requires { IsKnownOf (any_problem problem.now) known.old }
-    ensures order { IfOk result (λ yes. IsTrue yes → (question ≡ Question.Verdict)
-        × ((l : List ℕ) × IsLinearization (any_problem problem.now) l)) }
-    ensures known { IsKnownOf (any_problem problem.now) known.new }
-{
-    if !asks_no_run(question) {
-        return Ok(false);
-    }
-    look_for_order(setting, problem, known)?;
-    Ok(known.shows_order())
-}
-
-// Looks once for calls that let a reader see that there is no order, while neither is known.
-fn look_for_fault<R: AllocGlobal, G: Gate, W: Watcher>(
-    setting: &Setting<'_, '_, R, G, W>,
-    problem: &Problem<AnyObject>,
-    known: &mut Known,
-) -> Result<(), AllocError>
-    requires { IsKnownOf (any_problem problem.now) known.old }
-    ensures { IsKnownOf (any_problem problem.now) known.new }
-{
-    if known.is_refuted || known.shows_order() || !known.fault.is_not_yet() {
-        return Ok(());
-    }
-    setting.bounds.watcher().enter(Way::Core);
-    let mut stop = UntilUp::new(&setting.bounds);
-    let mut ladder = Ladder::new(problem, Work::ANY, &mut stop);
-    match calls_of_object(setting.rt.alloc(), problem, &mut ladder)? {
-        Some(fault) => {
-            *known = Known {
-                is_refuted: true,
-                has_order: known.has_order,
-                fault: Sought::Found(fault),
-            };
-        }
-        None => known.fault = Sought::InVain,
-    }
-    Ok(())
-}
-
-// Looks for what lets a reader see that there is no order, where that is known and is to be explained: so who waits for the run hears
-// of it, and it is not looked for again.
-fn look_for_explanation<R: AllocGlobal, G: Gate, W: Watcher>(
-    setting: &Setting<'_, '_, R, G, W>,
-    problem: &Problem<AnyObject>,
-    known: &mut Known,
-) -> Result<(), AllocError>
-    requires { IsKnownOf (any_problem problem.now) known.old }
-    ensures { IsKnownOf (any_problem problem.now) known.new }
-{
-    if setting.explained.is_none() || !known.fault.is_not_yet() {
-        return Ok(());
-    }
-    setting.bounds.watcher().enter(Way::Core);
-    let mut stop = UntilUp::new(&setting.bounds);
-    let mut ladder = Ladder::new(problem, Work::ANY, &mut stop);
-    known.fault = match fault_of_object(setting.rt.alloc(), problem, &mut ladder)? {
-        Some(fault) => Sought::Found(fault),
-        None if setting.bounds.watcher().is_up() => Sought::NotYet,
-        None => Sought::InVain,
-    };
-    Ok(())
-}
-
 // The order, where it showed that there is one, by a search with so much work that tries pending calls only between completed ones.
 fn order_by_blocks<R: AllocGlobal, G: Gate, W: Watcher>(
     setting: &Setting<'_, '_, R, G, W>,
@@ -243,49 +117,6 @@ fn order_by_blocks<R: AllocGlobal, G: Gate, W: Watcher>(
         Told::Found(order) => Ok(Some(order)),
         Told::Refuted | Told::Nothing => Ok(None),
     }
-}
-
-// Where it is known that there is no order and a run is asked for, has that said should the run take long.
-fn announce<R: AllocGlobal, G: Gate, W: Watcher>(
-    setting: &Setting<'_, '_, R, G, W>,
-    problem: &Problem<AnyObject>,
-    question: Question,
-    known: &mut Known,
-) -> Result<(), AllocError>
-    requires { IsKnownOf (any_problem problem.now) known.old }
-    ensures { IsKnownOf (any_problem problem.now) known.new }
-{
-    if !known.is_refuted || asks_no_run(question) || is_small(setting.bounds.limit()) {
-        return Ok(());
-    }
-    look_for_explanation(setting, problem, known)?;
-    let alloc = setting.rt.alloc();
-    let fault = known.fault.found();
-    setting
-        .notice
-        .wait(alloc, setting.explained, problem, fault)
-}
-
-// Looks with little work for what shows where the longest run ends, if it was not looked for. It is shown to nobody.
-fn look_for_hint<R: AllocGlobal, G: Gate, W: Watcher>(
-    setting: &Setting<'_, '_, R, G, W>,
-    problem: &Problem<AnyObject>,
-    known: &mut Known,
-) -> Result<(), AllocError>
-    requires { IsKnownOf (any_problem problem.now) known.old }
-    ensures { IsKnownOf (any_problem problem.now) known.new }
-{
-    if setting.explained.is_some() || !known.fault.is_not_yet() {
-        return Ok(());
-    }
-    let mut stop = UntilUp::new(&setting.bounds);
-    let work = work_of_searches(problem.len() as u64);
-    let mut ladder = Ladder::new(problem, work, &mut stop);
-    known.fault = match fault_of_object(setting.rt.alloc(), problem, &mut ladder)? {
-        Some(fault) => Sought::Found(fault),
-        None => Sought::InVain,
-    };
-    Ok(())
 }
 
 // The first of the longest runs of an object without a linearization, if searches of prefixes find it with so many lifts; where no
