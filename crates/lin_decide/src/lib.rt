@@ -20,8 +20,7 @@
 //!   ones and asks for no more.
 //! - A search by key makes a problem of each key of a map or a set that starts empty, with the event numbers of the whole, and
 //!   searches each by `search_first` and, if that tells nothing, by `search_for_order`; if many calls of the key are pending,
-//!   `least_linearization` comes between the two. If the order of one key is not found, short searches of the others may still
-//!   refute one.
+//!   `least_linearization` comes between the two.
 //! - It merges the keys' orders by the least next call, with each key's dropped pending calls behind its order. This is locality, with
 //!   keys in place of objects.
 //! - It tells nothing only of a problem that does not go by key, or if some key's calls have more runs than a search of them may make

@@ -1,51 +1,22 @@
 //! What searches of all parts tell.
 
-ghost use Rattle.std.specs.Prelude.{◌<◌, ℕ, IfOk, IsTrue, length};
+ghost use Rattle.std.specs.Prelude.{◌<◌, ℕ, IfOk, length};
 ghost use Rattle.lin_history.specs.Problems.AnyProblem.{any_problem};
 ghost use Rattle.lin_decide.specs.Keys.Merging.{order_at};
-ghost use Rattle.lin_decide.specs.Keys.PartOrder.{ArePartOrders, AreToldUnless, HasAnswered, HasRefutedPart, IsSpentOnPart};
+ghost use Rattle.lin_decide.specs.Keys.PartOrder.{ArePartOrders, AreToldUnless, HasAnswered, IsSpentOnPart};
 ghost use Rattle.lin_parts.specs.Parts.{AreSomeCalls};
 
 use crate::keys::calls_of_key::CallsOfKey;
 use crate::keys::key_calls::calls_at;
 use crate::keys::orders_told::OrdersTold;
 use crate::keys::part_order::order_of_part;
-use lin_effort::efforts::ahead;
 use lin_history::Problem;
 use lin_object::AnyObject;
 use lin_search::{Stop, Told};
 use std::alloc::{AllocError, Global};
 
-// Whether one of the parts from this key on is known to have no linearization, by a search as short as one that goes before all others: no
-// order of the whole is found any more.
-fn some_is_refuted<S: Stop>(
-    alloc: Global,
-    problem: &Problem<AnyObject>,
-    lists: &[CallsOfKey],
-    from: usize,
-    limit: Option<u64>,
-    stop: &mut S,
-) -> Result<bool, AllocError>
-    requires { (k : ℕ) → k < length lists.now
-        → AreSomeCalls (any_problem problem.now) (order_at lists.now k) }
-    ensures refuted { IfOk result (λ refuted. IsTrue refuted → (k : ℕ) × (k < length lists.now)
-        × HasRefutedPart (any_problem problem.now) (order_at lists.now k)) }
-    ensures stop { S.follows stop.old stop.new }
-{
-    for key in from..lists.len() {
-        let kept = calls_at(lists, key);
-        let lifts = ahead(kept.len(), limit).lifts;
-        let answer = order_of_part(alloc, problem, kept, Some(lifts), stop)?;
-        if let Told::Refuted = answer {
-            return Ok(true);
-        }
-    }
-    Ok(false)
-}
-
-/// What searches of all parts tell, one after another: an order of each, or that one has no linearization, or nothing. Where
-/// the order of one is not known, short searches of those behind it still may show that one of them has none. `AllocError`
-/// where memory was refused.
+/// What searches of all parts tell, one after another: an order of each, or that one has no linearization; nothing where that is not known
+/// of one. `AllocError` where memory was refused.
 pub(crate) fn orders_of_parts<S: Stop>(
     alloc: Global,
     problem: &Problem<AnyObject>,
@@ -67,13 +38,7 @@ pub(crate) fn orders_of_parts<S: Stop>(
         match order_of_part(alloc, problem, kept, limit, stop)? {
             Told::Found(order) => orders.push(order)?,
             Told::Refuted => return Ok(OrdersTold::Refuted),
-            Told::Nothing => {
-                return if some_is_refuted(alloc, problem, lists, key + 1, limit, stop)? {
-                    Ok(OrdersTold::Refuted)
-                } else {
-                    Ok(OrdersTold::Nothing)
-                };
-            }
+            Told::Nothing => return Ok(OrdersTold::Nothing),
         }
     }
     Ok(OrdersTold::Found(orders))

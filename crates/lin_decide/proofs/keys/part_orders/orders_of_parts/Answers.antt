@@ -6,7 +6,6 @@ use Rattle.lin_parts.specs.Parts.{AreSomeCalls}
 use Rattle.lin_decide.proofs.keys.GroupLemmas.{one_longer, orders_more}
 use Rattle.lin_decide.proofs.keys.AnswerLemmas.{spent_more}
 use Rattle.lin_decide.proofs.keys.part_orders.orders_of_parts.Goals as goal
-use Rattle.lin_decide.proofs.keys.part_orders.orders_of_parts.Goals.{then-branch, else-branch}
 
 pub loop-key-preserved : goal.loop-key-preserved
 loop-key-preserved g c = record {
@@ -22,13 +21,10 @@ pub order_of_part-requires : goal.order_of_part-requires
 order_of_part-requires g c = subst (AreSomeCalls (any_problem c.args.problem.now)) (sym c.calls_at-kept.ensures) (c.requires c.loop-key.key c.loop-key-test.true)
 
 pub returns-in-Nothing-clause-nothing : goal.returns-in-Nothing-clause-nothing
-returns-in-Nothing-clause-nothing g c = elim c.if-branch.branch [
-  | then-branch w ↦ rw w.result-is tt
-  | else-branch w ↦ rw w.result-is (
-    c.loop-key.key,
-    c.loop-key-test.true,
-    spent_more (any_problem c.args.problem.now) (order_at c.args.lists.now c.loop-key.key) c.args.limit _ _
-        (λ n told. (c.order_of_part.new.stop, g.met.S.Stop.chained _ _ _ c.loop-key.invariant.stop c.order_of_part.ensures.stop, c.some_is_refuted.ensures.stop, told))
-        (rw (c.in-Nothing.is, c.calls_at-kept.ensures) at c.in_ok-order.ensures.nothing),
-  )
-]
+returns-in-Nothing-clause-nothing g c = (
+  c.loop-key.key,
+  c.loop-key-test.true,
+  spent_more (any_problem c.args.problem.now) (order_at c.args.lists.now c.loop-key.key) c.args.limit _ _
+      (λ n told. (c.order_of_part.new.stop, g.met.S.Stop.chained _ _ _ c.loop-key.invariant.stop c.order_of_part.ensures.stop, g.met.S.Stop.unchanged _, told))
+      (rw (c.in-Nothing.is, c.calls_at-kept.ensures) at c.in_ok-order.ensures.nothing),
+)
