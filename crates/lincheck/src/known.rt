@@ -57,7 +57,7 @@ impl Known {
 
     /// Whether it showed that it has a linearization.
     pub(crate) fn shows_order(&self) -> bool
-        ensures { IsTrue result → self.has_order ≡ Some true }
+        ensures { IsTrue result → self.now.has_order ≡ Some true }
     {
         self.has_order == Some(true)
     }
