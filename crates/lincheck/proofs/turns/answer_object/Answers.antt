@@ -9,4 +9,4 @@ pub returns-then-not-is_small-clause-answer : goal.returns-then-not-is_small-cla
 returns-then-not-is_small-clause-answer g c = ((c.in_ok-look_for_sums.ensures.refuted c.if-known.true, λ asked. absurd (asks_one c.args.question (c.asks_no_run.ensures c.if-asks_no_run.true) asked)), nothing_stored _)
 
 pub returns-then-branch-clause-answer : goal.returns-then-branch-clause-answer
-returns-then-branch-clause-answer g c = (c.in_ok-has_order.ensures c.if-branch.true, nothing_stored _)
+returns-then-branch-clause-answer g c = (c.in_ok-has_order.ensures.order c.if-branch.true, nothing_stored _)
