@@ -230,7 +230,10 @@ fn behind_full_search<R: AllocGlobal, G: Gate, W: Watcher>(
     let Some(stored) = stored_now(problem, memo) else {
         return Ok(ControlFlow::Continue(turn.prefixes));
     };
-    look_for_order(setting, problem, known)?;
+    // Whether such a counter has an order the searches that follow ask first.
+    if !is_counter_with_many_pending(problem) {
+        look_for_order(setting, problem, known)?;
+    }
     look_for_fault(setting, problem, known)?;
     announce(setting, problem, question, known)?;
     let at_first = prefixes_at_first(problem, known.is_refuted, setting.bounds.limit());
