@@ -8,7 +8,7 @@
 //!      |
 //!   +> full search --- its end -----------------------> yes, or no with its longest run
 //!   |     | no progress
-//!   |  an order that shows, once ---------------------> there is one: no fault is looked for
+//!   |  an order that shows, once (not of a counter) --> there is one: no fault is looked for
 //!   |     |
 //!   |  a fault, once --- found -----------------------> there is none: only the run is sought
 //!   |     |
@@ -230,7 +230,7 @@ fn behind_full_search<R: AllocGlobal, G: Gate, W: Watcher>(
     let Some(stored) = stored_now(problem, memo) else {
         return Ok(ControlFlow::Continue(turn.prefixes));
     };
-    // Whether such a counter has an order the searches that follow ask first.
+    // Of such a counter the search by blocks goes first in what follows, and a refuted one would be asked for long in vain.
     if !is_counter_with_many_pending(problem) {
         look_for_order(setting, problem, known)?;
     }
