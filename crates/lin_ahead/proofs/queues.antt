@@ -6,3 +6,4 @@ pub mod AheadLemmas
 pub mod ItemRowLemmas
 pub mod SlotLemmas
 pub mod HurriedLemmas
+pub mod CountedLemmas

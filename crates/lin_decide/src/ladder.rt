@@ -418,17 +418,17 @@ impl<'a, S: Stop> Ladder<'a, S> {
         Ok(Told::Nothing)
     }
 
-    // Whether a counter with many pending calls has no linearization whatever these add, where the effort asks for that.
-    fn is_refuted_with_any_adds(
+    /// Whether a counter with many pending calls is found to have no linearization whatever these add: it soon tells. `AllocError` where
+    /// memory was refused.
+    pub fn is_refuted_with_any_adds(
         &mut self,
         alloc: Global,
         problem: &Problem<AnyObject>,
-        effort: &Effort,
     ) -> Result<bool, AllocError>
         ensures { IfOk result (λ refuted. IsTrue refuted
             → (l : List ℕ) → IsLinearization (any_problem problem.now) l → ⊥) }
     {
-        if !effort.with_any_adds || !self.has_many_pending || !is_counter(problem) {
+        if !self.has_many_pending || !is_counter(problem) {
             return Ok(false);
         }
         is_refuted_with_any_adds(alloc, problem, &mut self.meter)
@@ -449,7 +449,10 @@ impl<'a, S: Stop> Ladder<'a, S> {
         if effort.is_shown && shows_none(alloc, problem, known)? {
             return Ok(true);
         }
-        self.is_refuted_with_any_adds(alloc, problem, effort)
+        if !effort.with_any_adds {
+            return Ok(false);
+        }
+        self.is_refuted_with_any_adds(alloc, problem)
     }
 
     // What is told by all but the search key by key that may go before.

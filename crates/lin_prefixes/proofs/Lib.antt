@@ -12,3 +12,4 @@ pub mod TwinLemmas
 pub mod PartedLemmas
 pub mod AnewLemmas
 pub mod OnlyReplyLemmas
+pub mod OneMoreLemmas

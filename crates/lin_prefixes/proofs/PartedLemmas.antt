@@ -1,5 +1,5 @@
 -- The open calls, parted into those that are conflicts of their own and the others.
-use Rattle.std.proofs.Common.{◌≡◌, ℕ, ◌+◌, ◌<◌, ◌≤◌, List, [], ◌∷◌, ◌++◌, length, drop, get_or, ◌⊎◌, inl, inr, refl, sym, ◌∙◌, ap, subst, append_assoc, append-nil, arith}
+use Rattle.std.proofs.Common.{◌≡◌, ℕ, ◌+◌, ◌<◌, ◌≤◌, List, [], ◌∷◌, ◌++◌, length, drop, get_or, ◌⊎◌, inl, inr, sym, subst, append_assoc, append-nil}
 use Rattle.lin_history.specs.Problems.Lists.{In, IsDistinct}
 use Rattle.lin_history.specs.Problems.ListLemmas.{in_early, in_late, in_either}
 use Rattle.lin_parts.specs.ListLemmas.{drop_at, drop_none, in_at}

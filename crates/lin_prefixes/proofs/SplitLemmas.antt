@@ -1,6 +1,6 @@
 -- Spared calls, for which an earlier one may stand in.
 use Rattle.std.specs.Prelude.{All, slice_index_or, filter, nat_lt, not, ◌&&◌}
-use Rattle.std.proofs.Common.{◌≡◌, ◌≢◌, ℕ, ◌+◌, ◌<◌, ◌≤◌, Bool, true, false, true≢false, List, [], ◌∷◌, ◌++◌, length, length-append, ◌⊎◌, inl, inr, refl, sym, ◌∙◌, ap, subst, arith}
+use Rattle.std.proofs.Common.{◌≡◌, ℕ, ◌+◌, ◌<◌, Bool, true, false, true≢false, List, [], ◌∷◌, ◌++◌, length, length-append, ◌⊎◌, inl, inr, refl, sym, subst, arith}
 use Rattle.std.proofs.lemmas.Bool.{cases_lt, ltb-true}
 use Rattle.lin_history.specs.Problems.Lists.{In}
 use Rattle.lin_history.specs.Problems.ListLemmas.{in_early, in_either, in_late}
@@ -17,7 +17,7 @@ use Rattle.lin_prefixes.proofs.LackLemmas.{distinct_join, in_no_run, in_or_not, 
 use Rattle.lin_prefixes.proofs.ListLemmas.{filter_in, in_filter, rising_filter, true_or_not, not_both}
 
 -- a list has some of the calls, or none
-some_or_none : (cs r : List ℕ) → ((c : ℕ) × In c cs × In c r) ⊎ ((c : ℕ) → In c cs → In c r → ⊥)
+pub some_or_none : (cs r : List ℕ) → ((c : ℕ) × In c cs × In c r) ⊎ ((c : ℕ) → In c cs → In c r → ⊥)
 some_or_none [] r = inr (λ c h there. h)
 some_or_none (x ∷ cs) r = elim (in_or_not x r) [
   | inl there ↦ inl (x, inl refl, there)

@@ -1,5 +1,5 @@
 -- A call that repeats an earlier one: where a run has it, the earlier one fits right before it.
-use Rattle.std.proofs.Common.{◌≡◌, ℕ, ◌<◌, ◌≤◌, true, Some, List, [], ◌∷◌, ◌++◌, length, ◌⊎◌, inl, inr, refl, sym, ◌∙◌, ap, subst, append_assoc, arith}
+use Rattle.std.proofs.Common.{◌≡◌, ℕ, ◌<◌, Some, List, [], ◌∷◌, ◌++◌, length, ◌⊎◌, inl, inr, refl, sym, ◌∙◌, ap, subst, append_assoc, arith}
 use Rattle.std.specs.List.{slice_get}
 use Rattle.lin_object.specs.declared.op.Op.{Op}
 use Rattle.lin_object.specs.declared.reply.Reply.{Reply}
@@ -11,7 +11,7 @@ use Rattle.lin_object.specs.StepAnswers.{ChangesNothing, IgnoresProcess}
 use Rattle.lin_history.specs.declared.problems.problem.ProblemCall.{ProblemCall}
 use Rattle.lin_history.specs.Problems.AnyProblem.{any_problem}
 use Rattle.lin_history.specs.Problems.Lists.{In, IsDistinct}
-use Rattle.lin_history.specs.Problems.ListLemmas.{has_none, in_early, in_late, in_either, in_place}
+use Rattle.lin_history.specs.Problems.ListLemmas.{has_none, in_early, in_late, in_place}
 use Rattle.lin_history.specs.Problems.LegalLists.{Legal, fits, next}
 use Rattle.lin_history.specs.Problems.Problem.{Problem}
 use Rattle.lin_history.specs.Problems.ProblemParts.{ProblemParts, AreTimed}
@@ -19,7 +19,7 @@ use Rattle.lin_history.specs.Problems.Precedence.{Before}
 use Rattle.lin_history.specs.Problems.Linearizations.{IsRun}
 use Rattle.lin_parts.specs.PartLemmas.{legal_calls}
 use Rattle.lin_parts.specs.RunLemmas.{before_later, run_before}
-use Rattle.lin_prefixes.specs.Prefixes.{IsRunOf, StandsBefore}
+use Rattle.lin_prefixes.specs.Prefixes.{IsRunOf, IsWith, StandsBefore}
 use Rattle.lin_prefixes.proofs.FreedLemmas.{in_with, in_without, join, split}
 use Rattle.lin_prefixes.proofs.ItemStepLemmas.{again, answered}
 use Rattle.lin_prefixes.proofs.LackLemmas.{in_or_not}
@@ -83,11 +83,11 @@ module _ (p : Problem ObjState Op Reply) (timed : AreTimed p.calls) (k a b : ℕ
 
   stands : StandsBefore p k a b
   stands r w there = elim (in_or_not a r) [
-    | inl has ↦ (r, w, has)
-    | inr out ↦ (let m = in_place b r there in placed m.0 m.1 m.2 out)
+    | inl has ↦ inl has
+    | inr out ↦ (let m = in_place b r there in inr (placed m.0 m.1 m.2 out))
   ]
     where
-      placed : (front rest : List ℕ) → r ≡ front ++ b ∷ rest → (In a r → ⊥) → (l : List ℕ) × IsRunOf p k l × In a l
+      placed : (front rest : List ℕ) → r ≡ front ++ b ∷ rest → (In a r → ⊥) → (l : List ℕ) × IsRunOf p k l × IsWith a r l
       placed front rest e out = (
         front ++ a ∷ (b ∷ rest),
         record {
@@ -98,7 +98,7 @@ module _ (p : Problem ObjState Op Reply) (timed : AreTimed p.calls) (k a b : ℕ
           ];
           front = λ x before. in_with x a front (b ∷ rest) (subst (In x) e (w.front x before));
         },
-        in_late a front (a ∷ (b ∷ rest)) (inl refl),
+        record { front = front; rest = b ∷ rest; without = e; with_it = refl },
       )
 
 -- ---- calls with one operation and one reply

@@ -11,7 +11,7 @@ ghost use Rattle.lin_prefixes.specs.Prefixes.{IsBeaten, IsConflict, IsRunOf, Are
 
 use crate::call_lists::among;
 use crate::choices::{Choice, try_open};
-use crate::conflicts::{Conflict, Cut, add_single_conflicts, conflicts_again, parted};
+use crate::conflicts::{Conflict, Cut, add_all_single, conflicts_again, parted};
 use crate::hint::Hint;
 use crate::last_call::calls_with_runs;
 use crate::part_search::PartSearch;
@@ -19,8 +19,8 @@ use lin_history::{Order, Problem};
 use lin_object::SeqObject;
 use std::alloc::{AllocError, Global};
 
-// How many open calls that are not spared a run may lack at most. Each is a step deeper in the recursion.
-const MOST_LACKING: usize = 256;
+// How many times open calls are left out of a run at most, each time one with those that repeat it. Each is a step deeper in the recursion.
+const MOST_STEPS: usize = 256;
 
 // The last call of runs, and the search's numbers of the calls that may stand in for others.
 #[derive(Clone, Copy)]
@@ -190,14 +190,12 @@ fn try_levels<O: SeqObject, S: PartSearch<O>>(
         if !may_be_best(best, cut.call, cut.spared.len() + lacking) {
             return Ok(true);
         }
-        if lacking > MOST_LACKING {
-            return Ok(false);
-        }
         let choice = Choice {
             cut,
             dropped: cut.spared,
             late: cut.others,
             lacking,
+            steps: MOST_STEPS,
         };
         if !try_open(alloc, problem, search, choice, conflicts, best)? {
             return Ok(false);
@@ -232,7 +230,7 @@ fn try_others<O: SeqObject, S: PartSearch<O>>(
     if !may_be_best(best, cut.call, cut.spared.len()) {
         return Ok(true);
     }
-    if !add_single_conflicts(alloc, problem, search, cut, cut.others, conflicts)? {
+    if !add_all_single(alloc, problem, search, cut, conflicts)? {
         return Ok(false);
     }
     let parted = parted(alloc, cut, conflicts.as_slice())?;

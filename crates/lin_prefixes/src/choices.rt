@@ -1,25 +1,29 @@
 //! Which of a call's runs are tried: those that lack some of the open calls.
 ghost use Rattle.std.specs.Prelude.{◌≡◌, ◌+◌, ◌<◌, ◌≤◌, ℕ, List, All, IfOk, IsTrue, length};
+ghost use Rattle.lin_history.specs.Problems.Lists.{In};
 ghost use Rattle.lin_history.specs.Problems.Problem.{problem_of};
 ghost use Rattle.lin_history.specs.Problems.Linearizations.{IsRun};
-ghost use Rattle.lin_prefixes.specs.Prefixes.{IsBeaten, IsConflict, IsRunLacking};
+ghost use Rattle.lin_prefixes.specs.Prefixes.{IsBeaten, IsConflict, IsRunLacking, OneMoreIsBeaten};
 
-use crate::call_lists::{with_one, without};
+use crate::call_lists::{with_more, without};
 use crate::candidate::try_part;
 use crate::conflicts::{Conflict, Cut, add_conflict, next_place, some_missed};
 use crate::part_search::PartSearch;
+use crate::repeated_calls::twins_of;
 use lin_history::{Order, Problem};
 use lin_object::SeqObject;
 use std::alloc::{AllocError, Global};
 
 /// Which runs are tried: those of the cut's call that lack, of the completed calls, those dropped and so many of those that come
-/// later. The cut's open calls are there for a hint.
+/// later. Calls are left out so many times more at most: each is a step deeper in the recursion. The cut's open calls are there for a
+/// hint.
 #[derive(Clone, Copy)]
 pub(crate) struct Choice<'a> {
     pub(crate) cut: Cut<'a>,
     pub(crate) dropped: &'a [usize],
     pub(crate) late: &'a [usize],
     pub(crate) lacking: usize,
+    pub(crate) steps: usize,
 }
 
 // Tries the runs that lack just the calls dropped: whether they are known. The best run is then no worse than each of them. No
@@ -78,7 +82,8 @@ fn looks(conflicts: &[Conflict], late: &[usize]) -> u64 {
     (conflicts.len() as u64).saturating_mul(late.len() as u64)
 }
 
-/// Tries these runs: whether all are known. The best run is then no worse than each of them.
+/// Tries these runs: whether all are known. The best run is then no worse than each of them, if it was no worse than each that is one of
+/// them with one open call more. So a call is left out with all those that repeat it: a run that has one of these has room for it.
 pub(crate) fn try_open<O: SeqObject, S: PartSearch<O>>(
     alloc: Global,
     problem: &Problem<O>,
@@ -89,6 +94,7 @@ pub(crate) fn try_open<O: SeqObject, S: PartSearch<O>>(
 ) -> Result<bool, AllocError>
     requires call { choice.cut.call < length problem.now.calls }
     requires run { IsRun (problem_of O.after O.State.eq O.Reply.eq problem.now) best.old }
+    requires late { (c : ℕ) → In c choice.late.now → In c choice.cut.others.now }
     requires conflicts { All (IsConflict (problem_of O.after O.State.eq O.Reply.eq problem.now)
         choice.cut.call) conflicts.old.items }
     ensures run { IsRun (problem_of O.after O.State.eq O.Reply.eq problem.now) best.new }
@@ -99,7 +105,8 @@ pub(crate) fn try_open<O: SeqObject, S: PartSearch<O>>(
     ensures known { IfOk result (λ known. IsTrue known → (r : List ℕ)
         → IsRunLacking (problem_of O.after O.State.eq O.Reply.eq problem.now) choice.entry.cut.call
         choice.entry.dropped.now choice.entry.late.now choice.entry.lacking r
-        → IsBeaten best.new r) }
+        → OneMoreIsBeaten (problem_of O.after O.State.eq O.Reply.eq problem.now) choice.entry.cut.call
+        choice.entry.cut.others.now best.old r → IsBeaten best.new r) }
 {
     if choice.lacking == 0 {
         return try_dropped(alloc, problem, search, choice, conflicts, best);
@@ -116,11 +123,19 @@ pub(crate) fn try_open<O: SeqObject, S: PartSearch<O>>(
         }
         let place = next_place(alloc, count, known, choice.dropped, late.as_slice())?;
         let next = late.remove(place.min(late.len() - 1));
-        let more = with_one(alloc, choice.dropped, next)?;
+        let twins = twins_of(alloc, problem, search, next, late.as_slice())?;
+        if twins.again.len() >= choice.lacking {
+            continue;
+        }
+        if choice.steps == 0 {
+            return Ok(false);
+        }
+        let more = with_more(alloc, choice.dropped, next, twins.again.as_slice())?;
         let without_next = Choice {
             dropped: more.as_slice(),
-            late: late.as_slice(),
-            lacking: choice.lacking - 1,
+            late: twins.others.as_slice(),
+            lacking: choice.lacking - 1 - twins.again.len(),
+            steps: choice.steps - 1,
             ..choice
         };
         if !try_open(alloc, problem, search, without_next, conflicts, best)? {

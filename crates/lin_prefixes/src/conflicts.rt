@@ -8,6 +8,7 @@ ghost use Rattle.lin_prefixes.specs.Prefixes.{AreCompletedUpTo, AreParted, HasNo
 
 use crate::call_lists::is_unset;
 use crate::part_search::{PartSearch, RunsTold};
+use crate::repeated_calls::first_ones;
 use lin_history::Problem;
 use lin_object::SeqObject;
 use lin_parts::{flags_of, has_flag};
@@ -239,9 +240,9 @@ fn add_repeated<O: SeqObject, S: PartSearch<O>>(
     Ok(())
 }
 
-/// Adds those of the calls that no run has, as far as that is known, each as a conflict of its own: the calls are halved where no
-/// run has all of them. `false` where the search has come to its end.
-pub(crate) fn add_single_conflicts<O: SeqObject, S: PartSearch<O>>(
+// Adds those of the calls that no run has, as far as that is known, each as a conflict of its own: the calls are halved where no
+// run has all of them. `false` where the search has come to its end.
+fn add_single_conflicts<O: SeqObject, S: PartSearch<O>>(
     alloc: Global,
     problem: &Problem<O>,
     search: &mut S,
@@ -274,6 +275,46 @@ pub(crate) fn add_single_conflicts<O: SeqObject, S: PartSearch<O>>(
         return Ok(false);
     }
     add_single_conflicts(alloc, problem, search, cut, second, conflicts)
+}
+
+// About how many looks at a call it takes to find which of the calls are the first ones.
+fn looks_among(calls: &[usize], firsts: &[usize]) -> u64 {
+    (calls.len() as u64).saturating_mul(firsts.len() as u64)
+}
+
+/// Adds those of the cut's open calls that no run has, as far as that is known, each as a conflict of its own. Of calls that repeat one
+/// another the first is asked of. `false` where the search has come to its end.
+pub(crate) fn add_all_single<O: SeqObject, S: PartSearch<O>>(
+    alloc: Global,
+    problem: &Problem<O>,
+    search: &mut S,
+    cut: Cut<'_>,
+    conflicts: &mut Vec<Conflict>,
+) -> Result<bool, AllocError>
+    requires call { cut.call < length problem.now.calls }
+    requires conflicts { All (IsConflict (problem_of O.after O.State.eq O.Reply.eq problem.now) cut.call)
+        conflicts.old.items }
+    ensures { IfOk result (λ goes_on. All
+        (IsConflict (problem_of O.after O.State.eq O.Reply.eq problem.now) cut.entry.call)
+        conflicts.new.items) }
+{
+    let left = not_single(alloc, cut.others, conflicts.as_slice())?;
+    if left.len() > 1 {
+        match search.runs_with(alloc, problem, cut.call, left.as_slice())? {
+            RunsTold::NoRun => {}
+            RunsTold::SomeRun | RunsTold::Nothing => return Ok(true),
+            RunsTold::Ended => return Ok(false),
+        }
+    }
+    let firsts = first_ones(alloc, problem, search, left.as_slice())?;
+    if !search.may_go_on(looks_among(left.as_slice(), firsts.as_slice())) {
+        return Ok(false);
+    }
+    let (some, others) = firsts.as_slice().split_at(firsts.len() / 2);
+    if !add_single_conflicts(alloc, problem, search, cut, some, conflicts)? {
+        return Ok(false);
+    }
+    add_single_conflicts(alloc, problem, search, cut, others, conflicts)
 }
 
 // Adds the conflict of another call, where it is one of this call too: whether the search goes on.

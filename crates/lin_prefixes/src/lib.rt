@@ -13,7 +13,7 @@
 //!   parts; `told_of_part`: what is told of one, by whatever decides problems or by a few of its calls that alone have no
 //!   linearization.
 //! - `conflicts`: groups of calls of which each run lacks one; `choices`: which calls are left out, by conflicts.
-//! - `twins`: calls that do what an earlier one did.
+//! - `twins`: calls that do what an earlier one did; `repeated_calls`: those among some calls.
 //! - `asked_groups`: groups of calls that are not asked of again.
 //! - `marks`: which calls a part has as they are, and which stay out.
 //! - `open_takers`: open dequeues and pops that may stay out of a run of a queue or a stack.
@@ -38,7 +38,8 @@
 //!   and a *yes* for all but these two. Which group is asked about is a hint.
 //! - If no run has an open call, none has a later one of the same operation and reply, which changes nothing: the first would fit right
 //!   before it. So for each of these *twins* no search is made (`PartSearch::is_repeated`). All calls that are in no run are left out at
-//!   once, however many there are.
+//!   once, however many there are. A call that only some runs have is left out with all its later twins: a run that lacks it and has one
+//!   of these has room for it, and so it is beaten by a run with one call more, which was tried before.
 //! - A pending `lock` or `unlock` of a mutex may have no step, but if it has one, its reply is `ok`. For the longest run each of
 //!   them returns with it behind all events (`only_replies`): the runs stay the same lists. So a run need not end with all of them.
 //! - If the processes of several acquires call no unlock after them up to k, a run of k has one of these acquires at most: nobody
@@ -54,7 +55,8 @@
 //!
 //! - `lin_prefixes` knows any search through one trait, compares what it makes, replays what it finds, and leaves calls out by
 //!   recursion, so no set of calls is a value. The whole is refuted first and on its own, since a linearization may be shorter than
-//!   a longest run. Beside those that are in no run it never leaves out more than 256 calls, since each is one level of the recursion.
+//!   a longest run. Beside those that are in no run it leaves out 256 calls at most, each with its later twins, since each is one level
+//!   of the recursion.
 //! - A part of a counter is asked for sums that leave no room (`lin_core`), and one of a queue or a stack for a core, before most of the
 //!   work of its search. The whole is often refuted by a core alone. Without one for each part, no prefix was refuted: the last call was the last
 //!   of all, and what was left out of the rest was in vain. A queue whose items go round, of 16 processes and 4,000 calls, with one
@@ -104,6 +106,7 @@ mod only_replies;
 mod open_takers;
 mod part_search;
 mod question;
+mod repeated_calls;
 mod told_of_part;
 mod twins;
 mod whole_answer;

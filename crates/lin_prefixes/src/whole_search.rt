@@ -53,9 +53,9 @@ pub fn longest_run_by_prefixes<D: Decide>(
 
 /// The least linearization of the problem; or, where it has none, the first of its longest runs, from smaller problems that are
 /// decided. `None` where what decides them ends first, or where that is not known: where a pending call of the longest run has no step,
-/// as an `add` beyond 64 bits, or where that run lacks more than 256 of the calls that are open at its end, beside those that
-/// are in no run or that an earlier one may stand in for. Work between two problems counts too. No configuration is kept from one to the next. `AllocError`
-/// where memory was refused.
+/// as an `add` beyond 64 bits, or where that run lacks more than 256 of the calls that are open at its end, beside those that are in no
+/// run, that an earlier one may stand in for, or that repeat one that it lacks. Work between two problems counts too. No configuration
+/// is kept from one to the next. `AllocError` where memory was refused.
 ///
 /// It is quick where such a problem is soon decided: one is made for each halving of the number of calls, and then a few for each call
 /// that the longest run lacks.

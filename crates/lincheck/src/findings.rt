@@ -12,7 +12,7 @@ use crate::object_fault::{calls_of_object, fault_of_object, sums_of_object};
 use crate::setting::Setting;
 use lin_decide::Ladder;
 use lin_effort::Work;
-use lin_effort::efforts::{ahead, is_small, work_of_searches};
+use lin_effort::efforts::{ahead, is_small, prefixes_at_first, work_of_searches};
 use lin_history::Problem;
 use lin_object::AnyObject;
 use lin_workers::{Gate, UntilUp, Watcher, Way};
@@ -42,7 +42,23 @@ pub(crate) fn look_for_sums<R: AllocGlobal, G: Gate, W: Watcher>(
     Ok(())
 }
 
-/// Asks once whether it shows that there is an order, while it is not known that there is none.
+// Whether a counter with many pending calls is found to have no order whatever these add, with as much work as searches of prefixes have
+// in the first turn.
+fn is_refuted_with_any_adds<R: AllocGlobal, G: Gate, W: Watcher>(
+    setting: &Setting<'_, '_, R, G, W>,
+    problem: &Problem<AnyObject>,
+) -> Result<bool, AllocError>
+    ensures { IfOk result (λ refuted. IsTrue refuted
+        → (l : List ℕ) → IsLinearization (any_problem problem.now) l → ⊥) }
+{
+    let lifts = prefixes_at_first(problem, false, setting.bounds.limit());
+    let mut stop = UntilUp::new(&setting.bounds);
+    let mut ladder = Ladder::new(problem, work_of_searches(lifts), &mut stop);
+    ladder.is_refuted_with_any_adds(setting.rt.alloc(), problem)
+}
+
+/// Asks once whether it shows that there is an order, while it is not known that there is none. Of a counter with many pending calls
+/// it may show first that there is none: that is soon told, where the search for an order would go on for long in vain.
 pub(crate) fn look_for_order<R: AllocGlobal, G: Gate, W: Watcher>(
     setting: &Setting<'_, '_, R, G, W>,
     problem: &Problem<AnyObject>,
@@ -56,6 +72,10 @@ pub(crate) fn look_for_order<R: AllocGlobal, G: Gate, W: Watcher>(
         return Ok(());
     }
     if is_small(limit) || setting.gate.wants_workers() {
+        return Ok(());
+    }
+    if is_refuted_with_any_adds(setting, problem)? {
+        known.is_refuted = true;
         return Ok(());
     }
     let mut stop = UntilUp::new(&setting.bounds);

@@ -8,7 +8,7 @@
 //!      |
 //!   +> full search --- its end -----------------------> yes, or no with its longest run
 //!   |     | no progress
-//!   |  an order that shows, once (not of a counter) --> there is one: no fault is looked for
+//!   |  an order that shows, once ---------------------> there is one: no fault is looked for
 //!   |     |
 //!   |  a fault, once --- found -----------------------> there is none: only the run is sought
 //!   |     |
@@ -18,8 +18,10 @@
 //!   +-----+ twice as far each time; then
 //!   full search to its end, by workers ---------------> yes, no, or undecided
 //!
-//! Where it is known that there is none and no run is asked for, that is the answer. How far each way goes stands in
-//! `lin_effort::efforts`; there is no number here. The full search keeps what it refuted, and goes on from there in its next turn.
+//! Where it is known that there is none and no run is asked for, that is the answer. A counter with many
+//! pending calls is asked whether it has none whatever these add, before an order is looked for; behind the full search none is looked
+//! for. How far each way goes stands in `lin_effort::efforts`; there is no number here. The full search keeps what it refuted, and goes
+//! on from there in its next turn.
 
 ghost use Rattle.std.specs.Prelude.{◌≡◌, ℕ, List, IfOk, IfSome, IsTrue};
 ghost use Rattle.std.specs.ControlFlow.{ForBreak};
@@ -373,11 +375,11 @@ pub(crate) fn answer_object<R: AllocGlobal + Threads + Sync, G: Gate, W: Watcher
         return Ok((ObjectAnswer::Yes(order), 0));
     }
     look_for_sums(setting, problem, known)?;
-    if known.is_refuted && asks_no_run(question) && !is_small(setting.bounds.limit()) {
-        return Ok((ObjectAnswer::No(None), 0));
-    }
     if has_order(setting, problem, question, known)? {
         return Ok((ObjectAnswer::HasOrder, 0));
+    }
+    if known.is_refuted && asks_no_run(question) && !is_small(setting.bounds.limit()) {
+        return Ok((ObjectAnswer::No(None), 0));
     }
     announce(setting, problem, question, known)?;
     by_searches(setting, problem, question, known)

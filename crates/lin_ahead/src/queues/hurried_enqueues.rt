@@ -1,16 +1,17 @@
 //! Enqueues of items that repeat whose item would have to be out by an event by which too few calls that may take it were called.
 
-ghost use Rattle.std.specs.Prelude.{◌≡◌, ◌≤◌, slice_get, IfOk, IsTrue};
+ghost use Rattle.std.specs.Prelude.{◌≡◌, ◌≤◌, IfOk, IsTrue};
 ghost use Rattle.std.specs.Ordering.{int_eq};
-ghost use Rattle.lin_ahead.specs.Items.Takers.{queue_of, called_by};
+ghost use Rattle.lin_ahead.specs.Items.Takers.{queue_of};
 ghost use Rattle.lin_laws.specs.Counting.{counted};
-ghost use Rattle.lin_ahead.specs.Queues.Slots.{calls_on, IsItemRow, AreItemRows};
-ghost use Rattle.lin_ahead.specs.Queues.Hurried.{times, times_until, left_taken, left_taken_after, left_takers, MoreAreOut, ComesHurried};
+ghost use Rattle.lin_ahead.specs.Queues.Slots.{calls_on};
+ghost use Rattle.lin_ahead.specs.Queues.CountedRows.{is_left_until, left_until, is_left_back_until, left_back_until, is_left_between, left_between, IsCountedRow, AreCountedRows};
+ghost use Rattle.lin_ahead.specs.Queues.Hurried.{times, times_until, left_takers, MoreAreOut, ComesHurried};
 
 use crate::items::calls::item_put;
-use crate::queues::early_enqueues::{is_taken_by, is_taker_by};
+use crate::queues::counted_rows::{Called, CountedRow, Taken};
+use crate::queues::early_enqueues::is_back_by;
 use crate::queues::inner_takers::Hurry;
-use crate::queues::item_rows::ItemRow;
 use lin_history::ProblemCall;
 use lin_object::{AnyObject, Items, Op, Reply};
 use lin_search::Config;
@@ -75,68 +76,60 @@ fn count_times_until(item: i64, other: i64, until: usize, items: &[i64]) -> usiz
     count
 }
 
-// Whether the call was called by this event.
-fn is_called_by(calls: &[ProblemCall<Op, Reply>], event: u64, call: usize) -> bool
-    ensures { result ≡ called_by event (slice_get calls.now call) }
+// Whether the call was called and returned by this event and is not lifted.
+fn is_left_back(config: &Config<AnyObject>, one: &Taken, event: u64) -> bool
+    ensures { result ≡ is_left_back_until config.now.lifted event one.now }
 {
-    call < calls.len() && u64::from(calls[call].called) <= event
+    is_back_by(one, event) && !config.has(one.call)
 }
 
-// How many of the calls are not lifted that were called and returned with the item by this event.
-fn count_left_taken(
-    calls: &[ProblemCall<Op, Reply>],
-    config: &Config<AnyObject>,
-    item: i64,
-    event: u64,
-    these: &[usize],
-) -> usize
-    ensures { result ≡ left_taken calls.now config.now.lifted item event these.now }
+// How many of the calls are so.
+fn count_left_back(config: &Config<AnyObject>, these: &[Taken], event: u64) -> usize
+    ensures { result ≡ left_back_until config.now.lifted event these.now }
 {
     let mut count = 0;
-    for call in these {
-        if !config.has(*call) && is_taken_by(calls, item, event, *call) {
+    for one in these {
+        if is_left_back(config, one, event) {
             count += 1;
         }
     }
     count
 }
 
-// How many of them were called after another event.
-fn count_left_taken_after(
-    calls: &[ProblemCall<Op, Reply>],
-    config: &Config<AnyObject>,
-    item: i64,
-    since: u64,
-    event: u64,
-    these: &[usize],
-) -> usize
-    ensures { result ≡ left_taken_after calls.now config.now.lifted item since event these.now }
+// Whether it was called after another event, too.
+fn is_left_between(config: &Config<AnyObject>, one: &Taken, since: u64, event: u64) -> bool
+    ensures { result ≡ is_left_between config.now.lifted since event one.now }
+{
+    one.called > since && is_left_back(config, one, event)
+}
+
+// How many of the calls are so.
+fn count_left_between(config: &Config<AnyObject>, these: &[Taken], since: u64, event: u64) -> usize
+    ensures { result ≡ left_between config.now.lifted since event these.now }
 {
     let mut count = 0;
-    for call in these {
-        if !is_called_by(calls, since, *call)
-            && !config.has(*call)
-            && is_taken_by(calls, item, event, *call)
-        {
+    for one in these {
+        if is_left_between(config, one, since, event) {
             count += 1;
         }
     }
     count
 }
 
-// How many of the calls are not lifted that may take the item and were called by this event.
-fn count_left_takers(
-    calls: &[ProblemCall<Op, Reply>],
-    config: &Config<AnyObject>,
-    item: i64,
-    event: u64,
-    these: &[usize],
-) -> usize
-    ensures { result ≡ left_takers calls.now config.now.lifted item event these.now }
+// Whether the call was called by this event and is not lifted.
+fn is_left_by(config: &Config<AnyObject>, one: &Called, event: u64) -> bool
+    ensures { result ≡ is_left_until config.now.lifted event one.now }
+{
+    one.at <= event && !config.has(one.call)
+}
+
+// How many of the calls are so.
+fn count_left(config: &Config<AnyObject>, these: &[Called], event: u64) -> usize
+    ensures { result ≡ left_until config.now.lifted event these.now }
 {
     let mut count = 0;
-    for call in these {
-        if !config.has(*call) && is_taker_by(calls, item, event, *call) {
+    for one in these {
+        if is_left_by(config, one, event) {
             count += 1;
         }
     }
@@ -147,20 +140,20 @@ fn count_left_takers(
 fn are_more_out(
     calls: &[ProblemCall<Op, Reply>],
     lying: &Lying,
-    first: &ItemRow,
-    row: &ItemRow,
+    first: &CountedRow,
+    row: &CountedRow,
     since: u64,
     event: u64,
 ) -> bool
-    requires first { IsItemRow calls.now first.now }
-    requires row { IsItemRow calls.now row.now }
+    requires first { IsCountedRow calls.now first.now }
+    requires row { IsCountedRow calls.now row.now }
     ensures { IsTrue result → MoreAreOut calls.now lying.now.config.now.lifted
         lying.now.items.now event }
 {
     let config = lying.config;
-    let out = count_left_taken(calls, config, first.item, since, first.calls.as_slice());
+    let out = count_left_back(config, first.taken.as_slice(), since);
     let in_front = count_times_until(row.item, first.item, out, lying.items);
-    let more = count_left_taken_after(calls, config, row.item, since, event, row.calls.as_slice());
+    let more = count_left_between(config, row.taken.as_slice(), since, event);
     since <= event && count_times(row.item, lying.items) < in_front.saturating_add(more)
 }
 
@@ -168,27 +161,27 @@ fn are_more_out(
 fn are_few_takers(
     calls: &[ProblemCall<Op, Reply>],
     lying: &Lying,
-    own: &ItemRow,
+    own: &CountedRow,
     event: u64,
 ) -> bool
-    requires { IsItemRow calls.now own.now }
+    requires { IsCountedRow calls.now own.now }
     ensures { IsTrue result → left_takers calls.now lying.now.config.now.lifted own.now.item
         event (calls_on own.now.item 0 calls.now) ≤ times own.now.item lying.now.items.now }
 {
-    let takers = count_left_takers(calls, lying.config, own.item, event, own.calls.as_slice());
+    let takers = count_left(lying.config, own.takers.as_slice(), event);
     takers <= count_times(own.item, lying.items)
 }
 
 /// Whether it is known that the call is an enqueue of the row's item that hurries it. The hint says by which events and items.
 pub(crate) fn comes_hurried(
     calls: &[ProblemCall<Op, Reply>],
-    rows: &[ItemRow],
+    rows: &[CountedRow],
     lying: &Lying,
     own: usize,
     hurry: Hurry,
     call: usize,
 ) -> bool
-    requires { AreItemRows calls.now rows.now }
+    requires { AreCountedRows calls.now rows.now }
     ensures { IsTrue result → ComesHurried (queue_of calls.now) lying.now.config.now.lifted
         lying.now.items.now call }
 {

@@ -5,7 +5,7 @@ ghost use Rattle.lin_history.specs.Problems.Configurations.{IsReachable};
 ghost use Rattle.lin_history.specs.Problems.Linearizations.{IsLinearization};
 ghost use Rattle.lin_ahead.specs.Behind.{IsRightOfQueue};
 ghost use Rattle.lin_ahead.specs.First.FirstProgress.{BeginsNone};
-ghost use Rattle.lin_ahead.specs.Queues.Slots.{AreItemRows};
+ghost use Rattle.lin_ahead.specs.Queues.CountedRows.{AreCountedRows};
 
 use crate::first::calls_in_turn::CallsInTurn;
 use crate::first::needed_calls::needed_in_turn;
@@ -15,10 +15,11 @@ use crate::items::late_pushes::comes_too_late;
 use crate::items::owed_replies::OwedReplies;
 use crate::items::taker_hints::TakerHints;
 use crate::items::takers::After;
+use crate::queues::counted_rows::{CountedRow, counted_rows};
 use crate::queues::early_enqueues::comes_too_early;
 use crate::queues::hurried_enqueues::{Lying, comes_hurried, listed};
 use crate::queues::inner_takers::InnerHints;
-use crate::queues::item_rows::{ItemRow, item_rows};
+use crate::queues::item_rows::item_rows;
 use crate::queues::lacking_enqueues::lacks_enqueues;
 use crate::queues::needs::left_out;
 use crate::queues::rows::QueueAhead;
@@ -39,7 +40,7 @@ pub(crate) struct QueueRules<'a> {
     owed: OwedReplies,
     late: LateHints,
     takers: TakerHints,
-    rows: Vec<ItemRow>,
+    rows: Vec<CountedRow>,
     slots: SlotHints,
     inner: InnerHints,
 }
@@ -52,12 +53,13 @@ impl<'a> QueueRules<'a> {
         ahead: &'a QueueAhead,
     ) -> Result<Self, AllocError>
         ensures ahead { IfOk result (λ rules. rules.ahead.now ≡ ahead.now) }
-        ensures rows { IfOk result (λ rules. AreItemRows problem.now.calls rules.rows.items) }
+        ensures rows { IfOk result (λ rules. AreCountedRows problem.now.calls rules.rows.items) }
     {
         let calls = problem.calls();
         let items = items_in_rows(alloc, &ahead.items)?;
         let rows = item_rows(alloc, calls, items.as_slice())?;
         let slots = SlotHints::new(alloc, calls, rows.as_slice())?;
+        let counted = counted_rows(alloc, calls, rows.as_slice())?;
         Ok(QueueRules {
             ahead,
             needed: needed_in_turn(alloc, &ahead.needs)?,
@@ -65,8 +67,8 @@ impl<'a> QueueRules<'a> {
             late: LateHints::new(alloc, problem, &ahead.late)?,
             takers: TakerHints::of_queue(alloc, problem.calls(), &ahead.items, ahead.needs.by())?,
             inner: InnerHints::new(alloc, calls, rows.as_slice(), &slots)?,
+            rows: counted,
             slots,
-            rows,
         })
     }
 
@@ -78,7 +80,7 @@ impl<'a> QueueRules<'a> {
         call: usize,
     ) -> bool
         requires right { IsRightOfQueue (any_problem problem.now) self.now.ahead.now }
-        requires rows { AreItemRows problem.now.calls self.now.rows.items }
+        requires rows { AreCountedRows problem.now.calls self.now.rows.items }
         requires reachable { IsReachable (any_problem problem.now) config.now.lifted
             config.now.state }
         ensures { IsTrue result → BeginsNone (any_problem problem.now) config.now.lifted
@@ -102,7 +104,7 @@ impl<'a> QueueRules<'a> {
     /// linearization.
     pub(crate) fn are_in_vain(&self, problem: &Problem<AnyObject>) -> bool
         requires right { IsRightOfQueue (any_problem problem.now) self.now.ahead.now }
-        requires rows { AreItemRows problem.now.calls self.now.rows.items }
+        requires rows { AreCountedRows problem.now.calls self.now.rows.items }
         ensures { IsTrue result → (l : List ℕ) → IsLinearization (any_problem problem.now) l → ⊥ }
     {
         let Some(lack) = self.slots.lack() else {
@@ -119,7 +121,7 @@ impl<'a> QueueRules<'a> {
         call: usize,
     ) -> Result<bool, AllocError>
         requires right { IsRightOfQueue (any_problem problem.now) self.now.ahead.now }
-        requires rows { AreItemRows problem.now.calls self.now.rows.items }
+        requires rows { AreCountedRows problem.now.calls self.now.rows.items }
         ensures { IfOk result (λ known. IsTrue known → BeginsNone (any_problem problem.now)
             config.now.lifted config.now.state call) }
     {
@@ -150,7 +152,7 @@ impl<'a> QueueRules<'a> {
 
 impl<'a> Rules<AnyObject> for QueueRules<'a> {
     ghost are_right = { λ rules p. IsRightOfQueue (any_problem p) rules.ahead.now
-        × AreItemRows p.calls rules.rows.items };
+        × AreCountedRows p.calls rules.rows.items };
 
     fn lifted(&mut self, config: &Config<AnyObject>, call: usize) -> Result<(), AllocError> {
         self.late.lifted(config);

@@ -10,7 +10,7 @@ use lin_object::{AnyObject, Op, Reply};
 use lin_search::Config;
 use std::alloc::{AllocError, Global};
 
-// Dequeues that are pending stand in each row: at most so many places are taken by them, which is eight megabytes.
+// Dequeues that are pending stand in each row: at most so many places are taken by them, which is sixteen megabytes.
 const MOST_PENDING: usize = 1 << 20;
 
 // So many calls of a row that return after a slot are looked at for such as are lifted already.

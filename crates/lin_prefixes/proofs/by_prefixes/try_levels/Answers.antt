@@ -2,6 +2,7 @@ use Rattle.std.proofs.Common.{ℕ, subst, arith, inl, inr}
 use Rattle.lin_history.specs.Problems.Problem.{problem_of}
 use Rattle.lin_prefixes.specs.Prefixes.{IsRunLacking}
 use Rattle.lin_prefixes.proofs.BeatenLemmas.{beaten_itself, beaten_chain}
+use Rattle.lin_prefixes.proofs.OneMoreLemmas.{one_more}
 use Rattle.lin_prefixes.proofs.SplitLemmas.{tried_enough}
 use Rattle.lin_parts.specs.ListLemmas.{last_or}
 use Rattle.lin_prefixes.proofs.by_prefixes.try_levels.Goals as goal
@@ -13,9 +14,6 @@ loop-lacking-init g c = record {
   conflicts = c.requires.conflicts;
   tried = λ d h r w. absurd (omega (arith, h));
 }
-
-pub returns-then-lacking-gt-MOST_LACKING-clause-better : goal.returns-then-lacking-gt-MOST_LACKING-clause-better
-returns-then-lacking-gt-MOST_LACKING-clause-better g c = c.loop-lacking.invariant.better
 
 pub returns-then-not-may_be_best-clause-known : goal.returns-then-not-may_be_best-clause-known
 returns-then-not-may_be_best-clause-known g c =
@@ -31,7 +29,12 @@ loop-lacking-preserved g c = record {
   conflicts = c.in_ok-try_open.ensures.conflicts;
   tried = λ d h r w. elim (last_or d c.loop-lacking.lacking h) [
     | inl less ↦ beaten_chain c.try_open.new.best c.loop-lacking.best r c.in_ok-try_open.ensures.better (c.loop-lacking.invariant.tried d less r w)
-    | inr same ↦ c.in_ok-try_open.ensures.known c.if-not-branch.false r (subst (λ (x : ℕ). IsRunLacking (problem_of g.O.SeqObject.after g.O.State.PartialEq.eq g.O.Reply.PartialEq.eq c.args.problem.now) c.args.cut.call c.args.cut.spared.now c.args.cut.others.now x r) same w)
+    | inr same ↦ (
+        let p = problem_of g.O.SeqObject.after g.O.State.PartialEq.eq g.O.Reply.PartialEq.eq c.args.problem.now in
+        let lacks = subst (λ (x : ℕ). IsRunLacking p c.args.cut.call c.args.cut.spared.now c.args.cut.others.now x r) same w in
+        c.in_ok-try_open.ensures.known c.if-not-branch.false r lacks
+        (one_more p c.args.cut.call c.args.cut.spared.now c.args.cut.others.now c.loop-lacking.best c.loop-lacking.lacking c.requires.split c.loop-lacking.invariant.tried r lacks)
+        )
   ];
 }
 

@@ -21,4 +21,4 @@ try_levels-requires-clause-split g c =
     subst (λ (l : List ℕ). AreSplit p c.args.cut.call l c.as_slice-3.result.now) (sym c.as_slice-2.ensures.value)
     (subst (λ (l : List ℕ). AreSplit p c.args.cut.call c.in_ok-parted.parted.gone.items l) (sym c.as_slice-3.ensures.value)
     (split_again p c.args.cut.call c.as_slice.result.now c.args.cut.spared.now c.args.cut.others.now c.in_ok-parted.parted
-    (subst (λ (l : List (List ℕ)). All (IsConflict p c.args.cut.call) l) (sym c.as_slice.ensures.value) c.in_ok-add_single_conflicts.ensures) c.requires.split c.in_ok-parted.ensures))
+    (subst (λ (l : List (List ℕ)). All (IsConflict p c.args.cut.call) l) (sym c.as_slice.ensures.value) c.in_ok-add_all_single.ensures) c.requires.split c.in_ok-parted.ensures))

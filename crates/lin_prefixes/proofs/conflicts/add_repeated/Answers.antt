@@ -1,6 +1,6 @@
-use Rattle.std.proofs.Common.{◌≡◌, ℕ, List, [], ◌∷◌, get_or, sym, ◌∙◌, subst}
+use Rattle.std.proofs.Common.{ℕ, [], ◌∷◌, get_or, sym, subst}
 use Rattle.std.proofs.lemmas.List.Elements.{All-push, All-same}
-use Rattle.lin_history.specs.Problems.Problem.{Problem, problem_of}
+use Rattle.lin_history.specs.Problems.Problem.{problem_of}
 use Rattle.lin_prefixes.specs.Prefixes.{AreCompletedUpTo, HasNoRunWith, IsConflict}
 use Rattle.lin_prefixes.proofs.LackLemmas.{conflict_of_one, none_behind}
 use Rattle.lin_prefixes.proofs.conflicts.add_repeated.Goals as goal

@@ -1,4 +1,4 @@
-use Rattle.std.proofs.Common.{get_or, arith}
+use Rattle.std.proofs.Common.{arith}
 use Rattle.lin_prefixes.proofs.PartedLemmas.{parting_gone, parting_left, parting_end}
 use Rattle.lin_prefixes.proofs.conflicts.parted.Goals as goal
 use Rattle.lin_prefixes.proofs.conflicts.parted.Goals.{then-is_in_no_run+in_ok-push, else-is_in_no_run+in_ok-push-2}

@@ -1,8 +1,7 @@
-use Rattle.std.proofs.Common.{ℕ, List, get_or, refl, drop, ◌⊎◌, inl, inr, arith}
+use Rattle.std.proofs.Common.{ℕ, get_or, refl, inl, inr, arith}
 use Rattle.std.specs.Prelude.{ℤ, IsTrue}
 use Rattle.std.specs.Ordering.{int_eq}
 use Rattle.indexmap.specs.IndexSet.{contains}
-use Rattle.lin_history.specs.Problems.Lists.{In}
 use Rattle.lin_history.specs.Problems.AnyProblem.{any_problem}
 use Rattle.lin_prefixes.specs.Freed.{TookOut}
 use Rattle.lin_prefixes.proofs.ListLemmas.{each_next, each_end}

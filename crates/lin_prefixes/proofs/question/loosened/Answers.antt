@@ -1,4 +1,4 @@
-use Rattle.std.proofs.Common.{◌≡◌, ◌≤◌, ap, subst, sym, ◌∙◌, arith}
+use Rattle.std.proofs.Common.{ap, subst, sym, ◌∙◌, arith}
 use Rattle.lin_object.specs.StepLemmas.{state_same}
 use Rattle.lin_history.specs.Problems.AnyProblem.{any_problem}
 use Rattle.lin_prefixes.specs.Questions.{IsLoosePrefix}

@@ -1,4 +1,4 @@
-use Rattle.std.proofs.Common.{inr, sym, ◌∙◌, rules}
+use Rattle.std.proofs.Common.{inr}
 use Rattle.lin_prefixes.proofs.QuestionLemmas.{idle_call}
 use Rattle.lin_prefixes.proofs.question.stays_out.Goals as goal
 

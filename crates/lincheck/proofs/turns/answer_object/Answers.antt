@@ -6,7 +6,7 @@ pub returns-in-Some-clause-answer : goal.returns-in-Some-clause-answer
 returns-in-Some-clause-answer g c = (rw c.in-Some.is at c.in_ok-order.ensures.order, nothing_stored _)
 
 pub returns-then-not-is_small-clause-answer : goal.returns-then-not-is_small-clause-answer
-returns-then-not-is_small-clause-answer g c = ((c.in_ok-look_for_sums.ensures.refuted c.if-known.true, λ asked. absurd (asks_one c.args.question (c.asks_no_run.ensures c.if-asks_no_run.true) asked)), nothing_stored _)
+returns-then-not-is_small-clause-answer g c = ((c.in_ok-has_order.ensures.known.refuted c.if-known.true, λ asked. absurd (asks_one c.args.question (c.asks_no_run.ensures c.if-asks_no_run.true) asked)), nothing_stored _)
 
 pub returns-then-branch-clause-answer : goal.returns-then-branch-clause-answer
 returns-then-branch-clause-answer g c = (c.in_ok-has_order.ensures.order c.if-branch.true, nothing_stored _)
