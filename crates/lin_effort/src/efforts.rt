@@ -138,13 +138,16 @@ fn most_by_prefixes(problem: &Problem<AnyObject>, limit: Option<u64>) -> u64
     within(MOST_BY_PREFIXES.saturating_mul(problem.len() as u64), limit)
 }
 
-// How many lifts the full search makes in its first turn.
+// How many lifts the full search makes in its first turn. Where it is known that there is no order it makes a quarter of them: it would
+// have every configuration to go through. Those of a mutex are few, so most of its searches end within the turn.
 fn full_at_first(problem: &Problem<AnyObject>, is_refuted: bool) -> u64 {
     let calls = problem.len() as u64;
     match problem.start() {
         ObjState::Map(_) | ObjState::Set(_) if is_refuted => {
             FIRST_TURN * KEYS_FOR_A_LIFT / calls.max(KEYS_FOR_A_LIFT)
         }
+        ObjState::Mutex(_) => FIRST_TURN.max(calls),
+        _ if is_refuted => (FIRST_TURN / 4).max(calls),
         _ => FIRST_TURN.max(calls),
     }
 }

@@ -7,14 +7,15 @@ ghost use Rattle.lin_history.specs.Problems.Problem.{problem_of};
 ghost use Rattle.lin_history.specs.Problems.Precedence.{Before, IsCompleted};
 ghost use Rattle.lin_history.specs.Problems.Linearizations.{IsRun};
 ghost use Rattle.lin_search.specs.LongestRun.{IsFirstLongest};
-ghost use Rattle.lin_prefixes.specs.Prefixes.{IsBeaten, IsConflict, IsRunOf, AreOpen, AreSplit, is_spared};
+ghost use Rattle.lin_prefixes.specs.Prefixes.{HasNoRunOf, IsBeaten, IsConflict, IsRunOf, AreOpen, AreSplit, is_spared};
 
 use crate::call_lists::among;
+use crate::candidate::try_part;
 use crate::choices::{Choice, try_open};
 use crate::conflicts::{Conflict, Cut, add_all_single, conflicts_again, parted};
 use crate::hint::Hint;
-use crate::last_call::calls_with_runs;
-use crate::part_search::PartSearch;
+use crate::last_call::{calls_by_hint, calls_with_runs};
+use crate::part_search::{PartSearch, RunsTold};
 use lin_history::{Order, Problem};
 use lin_object::SeqObject;
 use std::alloc::{AllocError, Global};
@@ -204,6 +205,61 @@ fn try_levels<O: SeqObject, S: PartSearch<O>>(
     Ok(true)
 }
 
+// Tries the longest runs that the cut's call can have, those that lack the spared calls alone: whether all its runs are known then. The
+// best run is then no worse than each of them. That is done where some conflicts are known: what is left mostly has an order.
+fn try_longest<O: SeqObject, S: PartSearch<O>>(
+    alloc: Global,
+    problem: &Problem<O>,
+    search: &mut S,
+    cut: Cut<'_>,
+    conflicts: &[Conflict],
+    best: &mut Order,
+) -> Result<bool, AllocError>
+    requires call { cut.call < length problem.now.calls }
+    requires few { cut.call + 1 < 2 ^ 64 }
+    requires split { AreSplit (problem_of O.after O.State.eq O.Reply.eq problem.now) cut.call
+        cut.spared.now cut.others.now }
+    requires run { IsRun (problem_of O.after O.State.eq O.Reply.eq problem.now) best.old }
+    ensures run { IsRun (problem_of O.after O.State.eq O.Reply.eq problem.now) best.new }
+    ensures better { IfOk result (λ known. IsBeaten best.new best.old) }
+    ensures known { IfOk result (λ known. IsTrue known → (r : List ℕ)
+        → IsRunOf (problem_of O.after O.State.eq O.Reply.eq problem.now) cut.entry.call r
+        → IsBeaten best.new r) }
+{
+    if conflicts.is_empty() {
+        return Ok(false);
+    }
+    if !try_part(alloc, problem, search, cut.call, cut.spared, best)? {
+        return Ok(false);
+    }
+    if may_be_best(best, cut.call, cut.spared.len() + 1) {
+        return Ok(false);
+    }
+    Ok(true)
+}
+
+// Whether the call has no run, where none is known of any call. What is tried last tells that too, but only after it was asked of each
+// open call.
+fn has_no_run<O: SeqObject, S: PartSearch<O>>(
+    alloc: Global,
+    problem: &Problem<O>,
+    search: &mut S,
+    call: usize,
+    best: &Order,
+) -> Result<bool, AllocError>
+    requires { call < length problem.now.calls }
+    ensures { IfOk result (λ none. IsTrue none
+        → HasNoRunOf (problem_of O.after O.State.eq O.Reply.eq problem.now) call) }
+{
+    if !best.calls().is_empty() {
+        return Ok(false);
+    }
+    match search.runs_with(alloc, problem, call, &[])? {
+        RunsTold::NoRun => Ok(true),
+        RunsTold::SomeRun | RunsTold::Nothing | RunsTold::Ended => Ok(false),
+    }
+}
+
 // Tries all runs of the cut's call: whether they are known. The best run is then no worse than each of them. Of the open calls, but for
 // the spared ones, those that no run has are looked for first.
 fn try_others<O: SeqObject, S: PartSearch<O>>(
@@ -228,6 +284,12 @@ fn try_others<O: SeqObject, S: PartSearch<O>>(
         → IsBeaten best.new r) }
 {
     if !may_be_best(best, cut.call, cut.spared.len()) {
+        return Ok(true);
+    }
+    if try_longest(alloc, problem, search, cut, conflicts.as_slice(), best)? {
+        return Ok(true);
+    }
+    if has_no_run(alloc, problem, search, cut.call, best)? {
         return Ok(true);
     }
     if !add_all_single(alloc, problem, search, cut, conflicts)? {
@@ -348,9 +410,10 @@ pub(crate) fn longest_by_prefixes<O: SeqObject, S: PartSearch<O>>(
     let _calls = problem.calls();
     let mut best = Order::new(Vec::new(alloc));
     let until = search.stand_ins(alloc, problem)?;
-    let Some(mut left) = calls_with_runs(alloc, problem, search, hint)? else {
+    let Some(mut left) = calls_by_hint(alloc, problem, search, hint)? else {
         return Ok(None);
     };
+    let mut is_checked = false;
     let mut hints = hinted_conflicts(alloc, problem, hint, left)?;
     while left > 0 && best.calls().len() <= left {
         left -= 1;
@@ -363,6 +426,14 @@ pub(crate) fn longest_by_prefixes<O: SeqObject, S: PartSearch<O>>(
         };
         if !try_call(alloc, problem, search, last, &mut hints, &mut best)? {
             return Ok(None);
+        }
+        if best.calls().is_empty() && !is_checked {
+            // the hint was wrong
+            is_checked = true;
+            let Some(count) = calls_with_runs(alloc, problem, search, hint, left)? else {
+                return Ok(None);
+            };
+            left = count;
         }
     }
     Ok(Some(best))

@@ -4,8 +4,6 @@ ghost use Rattle.lin_history.specs.Problems.Problem.{problem_of};
 ghost use Rattle.lin_prefixes.specs.Prefixes.{HasNoRunOf};
 ghost use Rattle.lin_prefixes.specs.RunsTold.{IsToldOfRuns};
 
-use crate::by_prefixes::open_calls;
-use crate::call_lists::without;
 use crate::hint::Hint;
 use crate::part_search::{PartSearch, RunsTold};
 use lin_history::Problem;
@@ -52,32 +50,39 @@ impl Near {
     }
 }
 
-// What is told of the runs of the call. Where it seems to be the last that has one, it is asked first whether one has all of its open calls
-// but for those of the hint: that tells as much, and need not be asked again.
-fn told_of_call<O: SeqObject, S: PartSearch<O>>(
+/// So many of the first calls that none of those behind them has a run, of so many calls. `None` where the search has come to its end. The hint
+/// says where they may end.
+pub(crate) fn calls_with_runs<O: SeqObject, S: PartSearch<O>>(
     alloc: Global,
     problem: &Problem<O>,
     search: &mut S,
-    call: usize,
     hint: &Hint,
-) -> Result<RunsTold, AllocError>
-    requires call { call < length problem.now.calls }
-    requires few { call + 1 < 2 ^ 64 }
-    ensures { IfOk result (IsToldOfRuns (problem_of O.after O.State.eq O.Reply.eq problem.now) call []) }
+    count: usize,
+) -> Result<Option<usize>, AllocError>
+    requires { count ≤ length problem.now.calls }
+    ensures within { IfOk result (λ answer. IfSome answer (λ n. n ≤ count)) }
+    ensures none { IfOk result (λ answer. IfSome answer (λ n. (k : ℕ) → n ≤ k → k < count
+        → HasNoRunOf (problem_of O.after O.State.eq O.Reply.eq problem.now) k)) }
 {
-    if hint.calls_with_runs(problem) == Some(call + 1) {
-        let open = open_calls(alloc, problem, call)?;
-        let others = without(alloc, problem.len(), open.as_slice(), hint.calls.as_slice())?;
-        if let RunsTold::SomeRun = search.runs_with(alloc, problem, call, others.as_slice())? {
-            return Ok(RunsTold::SomeRun);
+    let _calls = problem.calls();
+    let mut near = Near::new(hint, problem);
+    let mut low: usize = 0;
+    let mut high = count;
+    while low < high {
+        let asked = near.next_between(low, high);
+        near = near.further();
+        match search.runs_with(alloc, problem, asked, &[])? {
+            RunsTold::NoRun => high = asked,
+            RunsTold::SomeRun | RunsTold::Nothing => low = asked + 1,
+            RunsTold::Ended => return Ok(None),
         }
     }
-    search.runs_with(alloc, problem, call, &[])
+    Ok(Some(high))
 }
 
-/// A number of calls from which on no call has a run. `None` where the search has come to its end. Where the hint is right, two questions
-/// are enough: whether the last of these calls has a run, and whether the next one has none.
-pub(crate) fn calls_with_runs<O: SeqObject, S: PartSearch<O>>(
+/// So many of the first calls that none of those behind them has a run. `None` where the search has come to its end. Where the hint is
+/// right, one question is enough: whether the first of those behind them has none.
+pub(crate) fn calls_by_hint<O: SeqObject, S: PartSearch<O>>(
     alloc: Global,
     problem: &Problem<O>,
     search: &mut S,
@@ -88,17 +93,13 @@ pub(crate) fn calls_with_runs<O: SeqObject, S: PartSearch<O>>(
         → HasNoRunOf (problem_of O.after O.State.eq O.Reply.eq problem.now) k)) }
 {
     let _calls = problem.calls();
-    let mut near = Near::new(hint, problem);
-    let mut low: usize = 0;
-    let mut high = problem.len();
-    while low < high {
-        let asked = near.next_between(low, high);
-        near = near.further();
-        match told_of_call(alloc, problem, search, asked, hint)? {
-            RunsTold::NoRun => high = asked,
-            RunsTold::SomeRun | RunsTold::Nothing => low = asked + 1,
+    let place = hint.calls_with_runs(problem).unwrap_or(problem.len());
+    if place < problem.len() {
+        match search.runs_with(alloc, problem, place, &[])? {
+            RunsTold::NoRun => return Ok(Some(place)),
+            RunsTold::SomeRun | RunsTold::Nothing => {}
             RunsTold::Ended => return Ok(None),
         }
     }
-    Ok(Some(high))
+    calls_with_runs(alloc, problem, search, hint, problem.len())
 }
