@@ -12,8 +12,8 @@ use lin_object::{AnyObject, ObjState};
 
 // ---- limits
 
-// The least limit with which ways are gone that a limit does not speak of: searches of prefixes, one value for all that nobody saw,
-// and a verdict that is known ahead. A smaller one bounds the full search of the problem as it is, and that alone says `undecided`
+// The least limit with which ways are gone that a limit does not speak of: searches of prefixes, and a verdict that is known ahead. A
+// smaller one bounds the full search, and that alone says `undecided`
 // or `not linearizable`.
 const LEAST_LIMIT: u64 = 500_000;
 
@@ -86,19 +86,6 @@ pub fn lifts_at_once(calls: usize, limit: Option<u64>) -> u64
     ensures { IfSome limit (λ most. result ≤ most) }
 {
     within((calls as u64).saturating_mul(8), limit)
-}
-
-// ---- the full search over one value in place of all that nobody saw
-
-// How many calls an object has at least for whose full search one value is put in place of all that nobody saw. Fewer are soon
-// searched, and how many configurations they have shows more of them as they are.
-const MANY_CALLS: usize = 16;
-
-/// Whether one value is put in place of all that nobody saw, for a full search within this limit.
-pub fn makes_unseen_one(problem: &Problem<AnyObject>, limit: Option<u64>) -> bool
-    ensures { IsTrue result → IfSome limit (λ most. LEAST_LIMIT ≤ most) }
-{
-    !is_small(limit) && problem.len() >= MANY_CALLS
 }
 
 // ---- turns of the full search and of searches of prefixes

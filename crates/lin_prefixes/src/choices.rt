@@ -7,7 +7,7 @@ ghost use Rattle.lin_prefixes.specs.Prefixes.{IsBeaten, IsConflict, IsRunLacking
 
 use crate::call_lists::{with_more, without};
 use crate::candidate::try_part;
-use crate::conflicts::{Conflict, Cut, add_conflict, next_place, some_missed};
+use crate::conflicts::{Conflict, Cut, add_conflict, some_missed};
 use crate::part_search::PartSearch;
 use crate::repeated_calls::twins_of;
 use lin_history::{Order, Problem};
@@ -121,8 +121,7 @@ pub(crate) fn try_open<O: SeqObject, S: PartSearch<O>>(
         if some_missed(alloc, count, known, choice.dropped, late.as_slice())? {
             return Ok(true);
         }
-        let place = next_place(alloc, count, known, choice.dropped, late.as_slice())?;
-        let next = late.remove(place.min(late.len() - 1));
+        let next = late.remove(0);
         let twins = twins_of(alloc, problem, search, next, late.as_slice())?;
         if twins.again.len() >= choice.lacking {
             continue;

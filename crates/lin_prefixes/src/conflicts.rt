@@ -11,7 +11,7 @@ use crate::part_search::{PartSearch, RunsTold};
 use crate::repeated_calls::first_ones;
 use lin_history::Problem;
 use lin_object::SeqObject;
-use lin_parts::{flags_of, has_flag};
+use lin_parts::flags_of;
 use std::alloc::{AllocError, Global};
 use std::marker::Model;
 
@@ -447,43 +447,4 @@ pub(crate) fn some_missed(
         }
     }
     Ok(false)
-}
-
-// How many calls of the conflict have a flag.
-fn count_in(conflict: &Conflict, flags: &[bool]) -> usize {
-    conflict
-        .calls()
-        .iter()
-        .filter(|c| has_flag(flags, **c))
-        .count()
-}
-
-/// The place of a call in the list that is to be left out next: one of a conflict that has none of those dropped, of which few
-/// are in the list. That is a hint.
-pub(crate) fn next_place(
-    alloc: Global,
-    count: usize,
-    conflicts: &[Conflict],
-    dropped: &[usize],
-    late: &[usize],
-) -> Result<usize, AllocError> {
-    let dropped = flags_of(alloc, dropped, count)?;
-    let late_flags = flags_of(alloc, late, count)?;
-    let mut best: &[usize] = &[];
-    let mut fewest = usize::MAX;
-    for conflict in conflicts {
-        if count_in(conflict, dropped.as_slice()) == 0 {
-            let few = count_in(conflict, late_flags.as_slice());
-            if few < fewest {
-                fewest = few;
-                best = conflict.calls();
-            }
-        }
-    }
-    let flags = flags_of(alloc, best, count)?;
-    Ok(
-        late.iter()
-            .position(|c| has_flag(flags.as_slice(), *c))
-            .unwrap_or(0),
-    )
 }

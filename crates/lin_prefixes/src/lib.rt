@@ -25,9 +25,9 @@
 //! - `Found` is the least linearization; `Refuted` is returned only if there is none, with the first of the longest runs. That run
 //!   comes from searches of smaller problems for their least linearizations alone, whatever these do not know.
 //! - Let k be a call. A *run of k* has no call above k and every call that returned before k was called. Each run is a run of its
-//!   greatest call, and if k has none no later call has one. So the last call that has a run is found by halving, from near a hint
-//!   on. From there downwards, its *open* calls, the completed ones that do not precede it, are left out, none, one, two and so on, and each time
-//!   the rest is searched, as long as a run could be as long as the best one. If no return stands between k and the next call, each
+//!   greatest call, and if k has none no later call has one. So the last call that has a run is found by halving, or it is the one that a
+//!   hint names, where that is tried first. From there downwards, its *open* calls, the completed ones that do not precede it, are left
+//!   out, none, one, two and so on, and each time the rest is searched, as long as a run could be as long as the best one. If no return stands between k and the next call, each
 //!   run of k is a run of that call too: then k is passed over.
 //! - A *conflict* of k is a group of open calls that no run of k has all of, so a choice of calls to leave out that misses one is
 //!   passed over. Conflicts are found by halving: first single calls, and then, whenever a choice is tried, whether a run has all
@@ -62,8 +62,9 @@
 //!   of all, and what was left out of the rest was in vain. A queue whose items go round, of 16 processes and 4,000 calls, with one
 //!   pair out of order, had no answer, and a counter of 24 processes whose replicas parted took sixty times as long.
 //! - If some calls that returned by an event have no linearization, no call that was called after it has a run, and the last call before it
-//!   mostly has one. So who knows such calls hands them in (`Hint`): then two questions are asked in place of a dozen, and of the
-//!   conflicts that of these calls first. Nothing is proved of them, and whatever they are the run is the same.
+//!   mostly has one. So who knows such calls hands them in (`Hint`): then one question is asked in place of a dozen, and of the
+//!   conflicts that of these calls first. Where some are known, what is left without them is tried at once. Nothing is proved of
+//!   them, and whatever they are the run is the same.
 //! - A call that is tried after another has mostly the same conflicts. If these leave no room for a run that is as long as the best, it is
 //!   left at once: most calls below the last one are.
 //! - A bug that shows in several replies at once is found by conflicts. Without them every subset of the open calls would be tried.

@@ -20,7 +20,6 @@ mod searches;
 mod stalls;
 mod steps_back;
 mod tables;
-mod unseen;
 mod watched;
 mod work;
 mod workers;

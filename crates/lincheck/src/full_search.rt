@@ -1,4 +1,4 @@
-//! The full search of an object, over a memo that names a problem with the same runs, and what its end answers.
+//! The full search of an object, over a memo that names its problem, and what its end answers.
 //!
 //! A search that met the limit is not begun again: what follows are the tasks of workers, each with a limit of its own. What the
 //! time ends is answered by what is known then.
@@ -7,7 +7,6 @@ ghost use Rattle.std.specs.Prelude.{◌≡◌, IfOk, IfSome, IfNone, IsSome, IsT
 ghost use Rattle.std.specs.ControlFlow.{ForBreak};
 ghost use Rattle.lin_history.specs.Problems.Problem.{Problem as ProblemOf};
 ghost use Rattle.lin_history.specs.Problems.AnyProblem.{any_problem};
-ghost use Rattle.lin_unseen.specs.SameRuns.{HasRunsOf};
 ghost use Rattle.lin_workers.specs.Bounds.{Bounds as BoundsOf, without_time};
 ghost use Rattle.lin_workers.specs.Verdict.{IsNumberStored, IsObjectVerdict, IsToldAlone};
 ghost use Rattle.lincheck.specs.ObjectAnswer.{HasNoOrder, IsAnswered, IsObjectAnswer};
@@ -19,7 +18,7 @@ use lin_object::{AnyObject, ObjState, Op, Reply};
 use lin_search::OwnMemo;
 use lin_workers::{
     Alone, Bounds, Gate, ObjectVerdict, Patience, Watcher, Way, check_alone, check_over_table,
-    number_stored, patience_of,
+    patience_of,
 };
 use std::alloc::{AllocError, AllocGlobal};
 use std::ops::ControlFlow;
@@ -29,32 +28,28 @@ use std::thread::Threads;
 pub(crate) fn search_alone<R: AllocGlobal, G: Gate, W: Watcher>(
     setting: &Setting<'_, '_, R, G, W>,
     problem: &Problem<AnyObject>,
-    full: &Problem<AnyObject>,
     memo: &mut OwnMemo<'_, AnyObject>,
     patience: Patience,
     limit: Option<u64>,
 ) -> Result<Alone, AllocError>
-    requires runs { HasRunsOf (any_problem problem.now) (any_problem full.now) }
-    requires memo { memo.old.problem ≡ full.now }
+    requires { memo.old.problem ≡ problem.now }
     ensures told { IfOk result (IsToldAlone (any_problem problem.now) setting.now.bounds) }
     ensures memo { memo.new.problem ≡ memo.old.problem }
 {
     let bounds = Bounds::new(limit, setting.bounds.watcher());
     bounds.watcher().enter(Way::Full);
-    check_alone(setting.rt.alloc(), full, memo, patience, &bounds)
+    check_alone(setting.rt.alloc(), problem, memo, patience, &bounds)
 }
 
 // What workers tell, over what the memo has: no verdict where the time was up.
 fn search_shared<R: AllocGlobal + Threads + Sync, G: Gate, W: Watcher>(
     setting: &Setting<'_, '_, R, G, W>,
-    problem: &Problem<AnyObject>,
     memo: &OwnMemo<'_, AnyObject>,
 ) -> Result<(Option<ObjectVerdict>, u64), AllocError>
-    requires { HasRunsOf (any_problem problem.now) (any_problem memo.now.problem) }
-    ensures verdict { IfOk result (λ r. IfSome r.0 (IsObjectVerdict (any_problem problem.now)
+    ensures verdict { IfOk result (λ r. IfSome r.0 (IsObjectVerdict (any_problem memo.now.problem)
         (without_time setting.now.bounds))) }
     ensures time { IfOk result (λ r. IfNone r.0 (IsSome setting.now.bounds.seconds)) }
-    ensures stored { IfOk result (λ r. IsNumberStored (any_problem problem.now) r.1) }
+    ensures stored { IfOk result (λ r. IsNumberStored (any_problem memo.now.problem) r.1) }
 {
     setting.bounds.watcher().enter(Way::Full);
     check_over_table(
@@ -64,14 +59,6 @@ fn search_shared<R: AllocGlobal + Threads + Sync, G: Gate, W: Watcher>(
         &setting.bounds,
         setting.gate,
     )
-}
-
-// How many configurations the memo has, where that is told.
-pub(crate) fn stored_now(problem: &Problem<AnyObject>, memo: &OwnMemo<'_, AnyObject>) -> Option<u64>
-    requires { HasRunsOf (any_problem problem.now) (any_problem memo.now.problem) }
-    ensures { IfSome result (IsNumberStored (any_problem problem.now)) }
-{
-    number_stored(memo)
 }
 
 // What a verdict answers.
@@ -121,15 +108,13 @@ pub(crate) fn answer_alone(alone: Alone, is_refuted: bool) -> ControlFlow<(Objec
 // The answer by workers, over what the memo has.
 pub(crate) fn by_workers<R: AllocGlobal + Threads + Sync, G: Gate, W: Watcher>(
     setting: &Setting<'_, '_, R, G, W>,
-    problem: &Problem<AnyObject>,
     memo: &OwnMemo<'_, AnyObject>,
     is_refuted: bool,
 ) -> Result<(ObjectAnswer, u64), AllocError>
-    requires runs { HasRunsOf (any_problem problem.now) (any_problem memo.now.problem) }
-    requires refuted { IsTrue is_refuted → HasNoOrder (any_problem problem.now) }
-    ensures { (question : Question) → IfOk result (IsAnswered (any_problem problem.now) question setting.now.bounds) }
+    requires { IsTrue is_refuted → HasNoOrder (any_problem memo.now.problem) }
+    ensures { (question : Question) → IfOk result (IsAnswered (any_problem memo.now.problem) question setting.now.bounds) }
 {
-    let (verdict, stored) = search_shared(setting, problem, memo)?;
+    let (verdict, stored) = search_shared(setting, memo)?;
     Ok((answer_by(verdict, is_refuted), stored))
 }
 
@@ -137,22 +122,20 @@ pub(crate) fn by_workers<R: AllocGlobal + Threads + Sync, G: Gate, W: Watcher>(
 pub(crate) fn to_the_end<R: AllocGlobal + Threads + Sync, G: Gate, W: Watcher>(
     setting: &Setting<'_, '_, R, G, W>,
     problem: &Problem<AnyObject>,
-    full: &Problem<AnyObject>,
     memo: &mut OwnMemo<'_, AnyObject>,
     is_refuted: bool,
     limit: Option<u64>,
 ) -> Result<(ObjectAnswer, u64), AllocError>
-    requires runs { HasRunsOf (any_problem problem.now) (any_problem full.now) }
-    requires memo { memo.old.problem ≡ full.now }
+    requires memo { memo.old.problem ≡ problem.now }
     requires refuted { IsTrue is_refuted → HasNoOrder (any_problem problem.now) }
     ensures { (question : Question) → IfOk result (IsAnswered (any_problem problem.now) question setting.now.bounds) }
 {
     if limit != Some(0) {
         let patience = patience_of(&setting.options);
-        let alone = search_alone(setting, problem, full, memo, patience, limit)?;
+        let alone = search_alone(setting, problem, memo, patience, limit)?;
         if let ControlFlow::Break(answer) = answer_alone(alone, is_refuted) {
             return Ok(answer);
         }
     }
-    by_workers(setting, problem, memo, is_refuted)
+    by_workers(setting, memo, is_refuted)
 }

@@ -28,22 +28,20 @@ ghost use Rattle.std.specs.ControlFlow.{ForBreak};
 ghost use Rattle.lin_history.specs.Problems.AnyProblem.{any_problem};
 ghost use Rattle.lin_history.specs.Problems.Linearizations.{IsLinearization};
 ghost use Rattle.lin_history.specs.Problems.Lists.{IsLeast};
-ghost use Rattle.lin_unseen.specs.SameRuns.{HasRunsOf};
 ghost use Rattle.lincheck.specs.Known.{IsKnownOf};
 ghost use Rattle.lincheck.specs.ObjectAnswer.{HasNoOrder, IsAnswered, IsObjectAnswer};
 
 use crate::findings::{
     announce, has_order, look_for_fault, look_for_hint, look_for_order, look_for_sums,
 };
-use crate::full_search::{answer_alone, by_workers, search_alone, stored_now, to_the_end};
+use crate::full_search::{answer_alone, by_workers, search_alone, to_the_end};
 use crate::known::Known;
 use crate::object_answer::{ObjectAnswer, Question, asks_no_run};
 use crate::object_fault::hint_of;
 use crate::setting::Setting;
 use lin_decide::Ladder;
 use lin_effort::efforts::{
-    Turn, ahead, first_turn, is_small, makes_unseen_one, order, prefixes_at_first, turn_after,
-    work_of_searches,
+    Turn, ahead, first_turn, is_small, order, prefixes_at_first, turn_after, work_of_searches,
 };
 use lin_effort::{Decide, Decision, Effort, Work};
 use lin_fewer::has_many_pending;
@@ -51,8 +49,7 @@ use lin_history::{Order, Problem};
 use lin_object::{AnyObject, ObjState};
 use lin_prefixes::longest_run_by_prefixes;
 use lin_search::{OwnMemo, Told};
-use lin_unseen::unseen_made_one;
-use lin_workers::{Gate, Patience, UntilUp, Watcher, Way};
+use lin_workers::{Gate, Patience, UntilUp, Watcher, Way, number_stored};
 use std::alloc::{AllocError, AllocGlobal, Global};
 use std::ops::ControlFlow;
 use std::thread::Threads;
@@ -223,13 +220,13 @@ fn behind_full_search<R: AllocGlobal, G: Gate, W: Watcher>(
     turn: Turn,
     known: &mut Known,
 ) -> Result<ControlFlow<(ObjectAnswer, u64), u64>, AllocError>
-    requires runs { HasRunsOf (any_problem problem.now) (any_problem memo.now.problem) }
+    requires memo { memo.now.problem ≡ problem.now }
     requires known { IsKnownOf (any_problem problem.now) known.old }
     ensures answer { IfOk result (λ told. ForBreak told
         (IsAnswered (any_problem problem.now) question setting.now.bounds)) }
     ensures known { IsKnownOf (any_problem problem.now) known.new }
 {
-    let Some(stored) = stored_now(problem, memo) else {
+    let Some(stored) = number_stored(memo) else {
         return Ok(ControlFlow::Continue(turn.prefixes));
     };
     // Of such a counter the search by blocks goes first in what follows, and a refuted one would be asked for long in vain.
@@ -259,13 +256,11 @@ fn less(limit: Option<u64>, lifts: u64) -> Option<u64> {
 fn by_turns<R: AllocGlobal, G: Gate, W: Watcher>(
     setting: &Setting<'_, '_, R, G, W>,
     problem: &Problem<AnyObject>,
-    full: &Problem<AnyObject>,
     memo: &mut OwnMemo<'_, AnyObject>,
     question: Question,
     known: &mut Known,
 ) -> Result<ControlFlow<(ObjectAnswer, u64), Option<u64>>, AllocError>
-    requires runs { HasRunsOf (any_problem problem.now) (any_problem full.now) }
-    requires memo { memo.old.problem ≡ full.now }
+    requires memo { memo.old.problem ≡ problem.now }
     requires known { IsKnownOf (any_problem problem.now) known.old }
     ensures answer { IfOk result (λ told. ForBreak told
         (IsAnswered (any_problem problem.now) question setting.now.bounds)) }
@@ -279,7 +274,7 @@ fn by_turns<R: AllocGlobal, G: Gate, W: Watcher>(
     let mut turn = first_turn(problem, known.is_refuted, setting.bounds.limit());
     for _ in 0..u64::BITS {
         let patience = patience_for(problem, turn, known.is_refuted);
-        let alone = search_alone(setting, problem, full, memo, patience, limit)?;
+        let alone = search_alone(setting, problem, memo, patience, limit)?;
         match answer_alone(alone, known.is_refuted) {
             ControlFlow::Break(answer) => return Ok(ControlFlow::Break(answer)),
             ControlFlow::Continue(lifts) => limit = less(limit, lifts),
@@ -301,46 +296,6 @@ fn by_turns<R: AllocGlobal, G: Gate, W: Watcher>(
 
 // ---- the whole check of an object
 
-// The answer by a full search of the second problem, which has the same runs as the first, and by searches of prefixes of the first.
-fn answer_over<R: AllocGlobal + Threads + Sync, G: Gate, W: Watcher>(
-    setting: &Setting<'_, '_, R, G, W>,
-    problem: &Problem<AnyObject>,
-    full: &Problem<AnyObject>,
-    question: Question,
-    known: &mut Known,
-) -> Result<(ObjectAnswer, u64), AllocError>
-    requires runs { HasRunsOf (any_problem problem.now) (any_problem full.now) }
-    requires known { IsKnownOf (any_problem problem.now) known.old }
-    ensures answer { IfOk result (IsAnswered (any_problem problem.now) question setting.now.bounds) }
-    ensures known { IsKnownOf (any_problem problem.now) known.new }
-{
-    let mut memo = OwnMemo::new(setting.rt.alloc(), full);
-    if setting.gate.wants_workers() {
-        return by_workers(setting, problem, &memo, known.is_refuted);
-    }
-    match by_turns(setting, problem, full, &mut memo, question, known)? {
-        ControlFlow::Break(answer) => Ok(answer),
-        ControlFlow::Continue(limit) => {
-            to_the_end(setting, problem, full, &mut memo, known.is_refuted, limit)
-        }
-    }
-}
-
-// The problem with one value in place of all that nobody saw, where the full search goes over it.
-fn with_unseen_made_one(
-    alloc: Global,
-    problem: &Problem<AnyObject>,
-    limit: Option<u64>,
-) -> Result<Option<Problem<AnyObject>>, AllocError>
-    ensures { IfOk result (λ told. IfSome told (λ other. HasRunsOf (any_problem problem.now)
-        (any_problem other))) }
-{
-    if !makes_unseen_one(problem, limit) {
-        return Ok(None);
-    }
-    unseen_made_one(alloc, problem)
-}
-
 // The answer by searches.
 fn by_searches<R: AllocGlobal + Threads + Sync, G: Gate, W: Watcher>(
     setting: &Setting<'_, '_, R, G, W>,
@@ -352,15 +307,20 @@ fn by_searches<R: AllocGlobal + Threads + Sync, G: Gate, W: Watcher>(
     ensures answer { IfOk result (IsAnswered (any_problem problem.now) question setting.now.bounds) }
     ensures known { IsKnownOf (any_problem problem.now) known.new }
 {
-    match with_unseen_made_one(setting.rt.alloc(), problem, setting.bounds.limit())? {
-        Some(full) => answer_over(setting, problem, &full, question, known),
-        None => answer_over(setting, problem, problem, question, known),
+    let mut memo = OwnMemo::new(setting.rt.alloc(), problem);
+    if setting.gate.wants_workers() {
+        return by_workers(setting, &memo, known.is_refuted);
+    }
+    match by_turns(setting, problem, &mut memo, question, known)? {
+        ControlFlow::Break(answer) => Ok(answer),
+        ControlFlow::Continue(limit) => {
+            to_the_end(setting, problem, &mut memo, known.is_refuted, limit)
+        }
     }
 }
 
 /// The answer to what is asked of one object, and how many configurations were stored: none where it is known ahead. A gate that
-/// wants workers has them at once. In an object of 16 calls or more, with no limit below 500,000, one value stands in the full
-/// search for all that nobody saw. What was found out on the way is known then. `AllocError` where the calling thread was refused memory.
+/// wants workers has them at once. What was found out on the way is known then. `AllocError` where the calling thread was refused memory.
 pub(crate) fn answer_object<R: AllocGlobal + Threads + Sync, G: Gate, W: Watcher>(
     setting: &Setting<'_, '_, R, G, W>,
     problem: &Problem<AnyObject>,

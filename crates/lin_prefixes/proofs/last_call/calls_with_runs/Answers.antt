@@ -4,7 +4,7 @@ use Rattle.lin_prefixes.proofs.RunLemmas.{no_run_later}
 use Rattle.lin_prefixes.proofs.last_call.calls_with_runs.Goals as goal
 
 pub loop-low-init : goal.loop-low-init
-loop-low-init g c = record { order = omega arith; within = omega arith; none = λ k up within. absurd (omega (arith, up, within)); }
+loop-low-init g c = record { order = omega arith; within = omega arith; none = λ k up within. absurd (omega (arith, up, within)) }
 
 pub loop-low-preserved-in-NoRun : goal.loop-low-preserved-in-NoRun
 loop-low-preserved-in-NoRun g c = record {

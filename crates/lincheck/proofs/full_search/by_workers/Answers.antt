@@ -2,4 +2,4 @@ use Rattle.lin_history.specs.Problems.AnyProblem.{any_problem}
 use Rattle.lincheck.proofs.full_search.by_workers.Goals as goal
 
 pub returns : goal.returns
-returns g c = λ question. (c.answer_by.ensures.answer (any_problem c.args.problem.now) question c.args.setting.now.bounds c.in_ok-verdict.ensures.verdict c.in_ok-verdict.ensures.time c.requires.refuted, c.in_ok-verdict.ensures.stored)
+returns g c = λ question. (c.answer_by.ensures.answer (any_problem c.args.memo.now.problem) question c.args.setting.now.bounds c.in_ok-verdict.ensures.verdict c.in_ok-verdict.ensures.time c.requires, c.in_ok-verdict.ensures.stored)
