@@ -94,6 +94,10 @@ pub fn lifts_at_once(calls: usize, limit: Option<u64>) -> u64
 // milliseconds and 8 megabytes for so many, and small histories are decided before.
 const FIRST_TURN: u64 = 20_000;
 
+// How many it makes there at least, if it is known that there is no order: it would have every configuration to go through. A register
+// of which one wrong value was read mostly takes fewer.
+const FIRST_TURN_IF_REFUTED: u64 = 8_000;
+
 // How many keys a map or a set may have for which a lift of its full search counts as one: each copies all keys, so with more of them
 // fewer lifts are made in the first turn, if there is known to be no order.
 const KEYS_FOR_A_LIFT: u64 = 1_000;
@@ -125,8 +129,7 @@ fn most_by_prefixes(problem: &Problem<AnyObject>, limit: Option<u64>) -> u64
     within(MOST_BY_PREFIXES.saturating_mul(problem.len() as u64), limit)
 }
 
-// How many lifts the full search makes in its first turn. Where it is known that there is no order it makes a quarter of them: it would
-// have every configuration to go through. Those of a mutex are few, so most of its searches end within the turn.
+// How many lifts the full search makes in its first turn. A mutex has few configurations, so there most searches end within it.
 fn full_at_first(problem: &Problem<AnyObject>, is_refuted: bool) -> u64 {
     let calls = problem.len() as u64;
     match problem.start() {
@@ -134,7 +137,7 @@ fn full_at_first(problem: &Problem<AnyObject>, is_refuted: bool) -> u64 {
             FIRST_TURN * KEYS_FOR_A_LIFT / calls.max(KEYS_FOR_A_LIFT)
         }
         ObjState::Mutex(_) => FIRST_TURN.max(calls),
-        _ if is_refuted => (FIRST_TURN / 4).max(calls),
+        _ if is_refuted => FIRST_TURN_IF_REFUTED.max(calls),
         _ => FIRST_TURN.max(calls),
     }
 }
