@@ -144,7 +144,7 @@ fn what_shows_that_there_is_none_is_asked_before_a_search(rt: HostRuntime) {
     assert!(rt; are_refuted_within(alloc, Kind::Queue, &ITEM_THAT_NOBODY_PUT_IN, 200));
     assert!(rt; are_refuted_within(alloc, Kind::Queue, &ITEM_TAKEN_TWICE, 500));
     assert!(rt; are_refuted_within(alloc, Kind::Queue, &ITEMS_TAKEN_IN_ANOTHER_ORDER, 135));
-    assert!(rt; are_refuted_within(alloc, Kind::Stack, &FOUND_EMPTY_UNDER_AN_ITEM, 34));
+    assert!(rt; are_refuted_within(alloc, Kind::Stack, &FOUND_EMPTY_UNDER_AN_ITEM, 35));
 }
 
 // The call of a register's history that is wrong, and the number of the event at which it returns.
