@@ -1,4 +1,4 @@
-use Rattle.std.proofs.Common.{ℕ, ◌≡◌, arith, inr}
+use Rattle.std.proofs.Common.{arith, inr}
 use Rattle.lin_history.specs.Problems.Problem.{problem_of}
 use Rattle.lin_prefixes.proofs.BeatenLemmas.{beaten_itself}
 use Rattle.lin_prefixes.proofs.LackLemmas.{lacking_none}

@@ -1,4 +1,4 @@
-use Rattle.std.proofs.Common.{◌≡◌, ℕ, List, [], ◌∷◌, ◌++◌, length, ◌-◌, ◌∙◌, arith, inl, inr, subst}
+use Rattle.std.proofs.Common.{◌≡◌, ℕ, List, [], ◌∷◌, ◌++◌, ◌-◌, ◌∙◌, arith, inl, inr, subst}
 use Rattle.std.specs.Prelude.{not}
 use Rattle.lin_history.specs.Problems.Lists.{In}
 use Rattle.lin_history.specs.Problems.Problem.{problem_of}
