@@ -94,8 +94,8 @@ pub fn lifts_at_once(calls: usize, limit: Option<u64>) -> u64
 // milliseconds and 8 megabytes for so many, and small histories are decided before.
 const FIRST_TURN: u64 = 20_000;
 
-// How many it makes there at least, if it is known that there is no order: it would have every configuration to go through. A register
-// of which one wrong value was read mostly takes fewer.
+// How many it makes there at least, if it is known that there is no order, or two for each call: it would have every configuration to go
+// through. A register of which one wrong value was read mostly takes fewer.
 const FIRST_TURN_IF_REFUTED: u64 = 8_000;
 
 // How many keys a map or a set may have for which a lift of its full search counts as one: each copies all keys, so with more of them
@@ -137,7 +137,7 @@ fn full_at_first(problem: &Problem<AnyObject>, is_refuted: bool) -> u64 {
             FIRST_TURN * KEYS_FOR_A_LIFT / calls.max(KEYS_FOR_A_LIFT)
         }
         ObjState::Mutex(_) => FIRST_TURN.max(calls),
-        _ if is_refuted => FIRST_TURN_IF_REFUTED.max(calls),
+        _ if is_refuted => FIRST_TURN_IF_REFUTED.max(calls.saturating_mul(2)),
         _ => FIRST_TURN.max(calls),
     }
 }
