@@ -27,8 +27,8 @@
 //! - Let k be a call. A *run of k* has no call above k and every call that returned before k was called. Each run is a run of its
 //!   greatest call, and if k has none no later call has one. So the last call that has a run is found by halving, or it is the one that a
 //!   hint names, where that is tried first. From there downwards, its *open* calls, the completed ones that do not precede it, are left
-//!   out, none, one, two and so on, and each time the rest is searched, as long as a run could be as long as the best one. If no return stands between k and the next call, each
-//!   run of k is a run of that call too: then k is passed over.
+//!   out, none, one, two and so on, and each time the rest is searched, as long as a run could be as long as the best one. If no return
+//!   stands between k and the next call, each run of k is a run of that call too: then k is passed over.
 //! - A *conflict* of k is a group of open calls that no run of k has all of, so a choice of calls to leave out that misses one is
 //!   passed over. Conflicts are found by halving: first single calls, and then, whenever a choice is tried, whether a run has all
 //!   the other open calls. In such a question each call outside the group may stay out, but if it is in a run it has its reply: those
