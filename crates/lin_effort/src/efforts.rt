@@ -13,8 +13,7 @@ use lin_object::{AnyObject, ObjState};
 // ---- limits
 
 // The least limit with which ways are gone that a limit does not speak of: searches of prefixes, and a verdict that is known ahead. A
-// smaller one bounds the full search, and that alone says `undecided`
-// or `not linearizable`.
+// smaller one bounds the full search, and that alone says `undecided` or `not linearizable`.
 const LEAST_LIMIT: u64 = 500_000;
 
 /// Whether the limit is one of the full search alone.

@@ -46,8 +46,8 @@ fn is_open<O: SeqObject>(problem: &Problem<O>, call: usize, other: usize) -> boo
     }
 }
 
-/// The completed calls up to this one that do not precede it.
-pub(crate) fn open_calls<O: SeqObject>(
+// The completed calls up to this one that do not precede it.
+fn open_calls<O: SeqObject>(
     alloc: Global,
     problem: &Problem<O>,
     call: usize,

@@ -1,8 +1,7 @@
 //! The last call that has a run: near a hint at first, and then by halving.
-ghost use Rattle.std.specs.Prelude.{◌+◌, ◌≤◌, ◌<◌, ◌^◌, [], ℕ, length, IfOk, IfSome};
+ghost use Rattle.std.specs.Prelude.{◌≤◌, ◌<◌, ℕ, length, IfOk, IfSome};
 ghost use Rattle.lin_history.specs.Problems.Problem.{problem_of};
 ghost use Rattle.lin_prefixes.specs.Prefixes.{HasNoRunOf};
-ghost use Rattle.lin_prefixes.specs.RunsTold.{IsToldOfRuns};
 
 use crate::hint::Hint;
 use crate::part_search::{PartSearch, RunsTold};
@@ -50,8 +49,8 @@ impl Near {
     }
 }
 
-/// So many of the first calls that none of those behind them has a run, of so many calls. `None` where the search has come to its end. The hint
-/// says where they may end.
+/// How many of the first `count` calls may have a run: none of the others among these has one. `None` where the search has come to its
+/// end. It asks near the hint at first, and then by halving.
 pub(crate) fn calls_with_runs<O: SeqObject, S: PartSearch<O>>(
     alloc: Global,
     problem: &Problem<O>,
@@ -80,8 +79,8 @@ pub(crate) fn calls_with_runs<O: SeqObject, S: PartSearch<O>>(
     Ok(Some(high))
 }
 
-/// So many of the first calls that none of those behind them has a run. `None` where the search has come to its end. Where the hint is
-/// right, one question is enough: whether the first of those behind them has none.
+/// How many of the first calls may have a run: none behind them has one. `None` where the search has come to its end. Where the hint is
+/// right, one question is enough: whether the first call behind them has none.
 pub(crate) fn calls_by_hint<O: SeqObject, S: PartSearch<O>>(
     alloc: Global,
     problem: &Problem<O>,
