@@ -312,6 +312,19 @@ class Adding(Counter):
         return ("get", None) if chance.random() < 0.3 else ("add", chance.randrange(1, 101))
 
 
+class Semaphore(Counter):
+    """The same, but each `add` is of 1 or -1, as the permits of a semaphore are given back and taken: there are 8 of them."""
+
+    permits = 8
+
+    def choose(self, chance, number):
+        if chance.random() < 0.3:
+            return "get", None
+        if 0 < self.value < self.permits:
+            return "add", chance.choice([-1, 1])
+        return "add", 1 if self.value <= 0 else -1
+
+
 class ForgetfulCounter(Adding):
     """The same, which forgets one `add` at nine tenths of the history."""
 
@@ -858,6 +871,11 @@ def unknown_adds(processes, share):
     return lambda calls: lines("c", "counter", timing_out(Adding(), processes, calls, share))
 
 
+def semaphore(processes, unknown):
+    """A counter that is kept within bounds, about so many of whose calls never return."""
+    return lambda calls: lines("c", "counter", timing_out(Semaphore(), processes, calls, 100 * unknown / calls))
+
+
 def forgotten_add(processes, share):
     """The same, of which one `add` was forgotten."""
     return lambda calls: lines("c", "counter", timing_out(ForgetfulCounter(calls), processes, calls, share))
@@ -1376,6 +1394,10 @@ FAMILIES = {
         )
         for processes in (5, 8, 10, 16)
         for share in (1, 5)
+    },
+    **{
+        f"semaphore_16_{count}": Family(f"a counter, adds of 1 and -1, 16 clients, about {count} of the calls never return", "calls", [4000], 0, semaphore(16, count))
+        for count in (40, 70)
     },
     **{
         f"unknown_adds_{processes}_{share}_no": Family("the same, of which one add was forgotten", "calls", [500, 1000, 2000], 1, forgotten_add(processes, share))

@@ -4,8 +4,8 @@
 
 use std::alloc::{AllocError, Global};
 
-// To how many places keys lead.
-const PLACES: usize = 1 << 11;
+// To how many places keys lead at first. There are always at least as many as nodes: a block may have a hundred thousand.
+const PLACES: usize = 1 << 6;
 
 // The number of no node.
 const NONE: u32 = u32::MAX;
@@ -25,11 +25,6 @@ pub(crate) struct States {
     last: Vec<u32>,
 }
 
-// The place to which a key leads.
-fn place_of(key: u64) -> usize {
-    ((key ^ (key >> 32)) % PLACES as u64) as usize
-}
-
 impl States {
     /// None. It takes no memory.
     pub(crate) fn new(alloc: Global) -> Self {
@@ -39,9 +34,15 @@ impl States {
         }
     }
 
+    // The place to which a key leads. The number of places is a power of two.
+    fn place_of(&self, key: u64) -> usize {
+        (key ^ (key >> 32)) as usize & self.last.len().saturating_sub(1)
+    }
+
     /// The last one whose key leads to the same place.
     pub(crate) fn last_of(&self, key: u64) -> u32 {
-        self.last.get(place_of(key)).copied().unwrap_or(NONE)
+        let place = self.place_of(key);
+        self.last.get(place).copied().unwrap_or(NONE)
     }
 
     /// The one of this number.
@@ -51,19 +52,42 @@ impl States {
 
     /// Adds the node, whose number is above those of all others.
     pub(crate) fn add(&mut self, node: usize, key: u64) -> Result<(), AllocError> {
-        let place = place_of(key);
-        for _ in self.last.len()..PLACES {
-            self.last.push(NONE)?;
+        let number = self.nodes.len();
+        if number >= self.last.len() {
+            self.make_places()?;
         }
-        let number = usize::min(self.nodes.len(), NONE as usize);
-        let earlier = self.last_of(key);
+        let earlier = NONE;
         self.nodes.push(Found { node, key, earlier })?;
-        self.put(place, number as u32);
+        self.link(number);
         Ok(())
     }
 
-    // Makes the one of this number the last of the place.
-    fn put(&mut self, place: usize, number: u32) {
+    // Makes twice as many places, and has the keys lead to them.
+    fn make_places(&mut self) -> Result<(), AllocError> {
+        let places = usize::max(PLACES, self.last.len().saturating_mul(2));
+        self.last.clear();
+        self.last.resize(places, NONE)?;
+        for number in 0..self.nodes.len() {
+            self.link(number);
+        }
+        Ok(())
+    }
+
+    // Makes the one of this number the last of its place.
+    fn link(&mut self, number: usize) {
+        let Some(found) = self.nodes.get(number).copied() else {
+            return;
+        };
+        let earlier = self.last_of(found.key);
+        if let Some(node) = self.nodes.get_mut(number) {
+            node.earlier = earlier;
+        }
+        self.put(found.key, usize::min(number, NONE as usize) as u32);
+    }
+
+    // Makes the one of this number the last of the place to which the key leads.
+    fn put(&mut self, key: u64, number: u32) {
+        let place = self.place_of(key);
         if let Some(last) = self.last.get_mut(place) {
             *last = number;
         }
@@ -78,7 +102,7 @@ impl States {
             if found.node < node {
                 return;
             }
-            self.put(place_of(found.key), found.earlier);
+            self.put(found.key, found.earlier);
             self.nodes.pop();
         }
     }
