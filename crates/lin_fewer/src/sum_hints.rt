@@ -1,9 +1,73 @@
 //! Which `get` of a counter to look at. Nothing is proved of it but that it ends: what it says is asked of the configuration.
 
+use crate::waiting::Waiting;
 use lin_history::{Problem, ProblemCall};
 use lin_object::{AnyObject, Op, Reply};
 use lin_search::Config;
 use std::alloc::{AllocError, Global};
+
+/// The least and the greatest number that a `get` may find.
+#[derive(Clone, Copy)]
+pub(crate) struct Reach {
+    pub(crate) least: i64,
+    pub(crate) greatest: i64,
+}
+
+impl Reach {
+    // The same with a call that is left: an `add` that returned before the `get` was called stands in front of it, any other one may.
+    fn with(self, call: &ProblemCall<Op, Reply>, called: u32) -> Self {
+        let Op::Add(number) = &call.op else {
+            return self;
+        };
+        let is_before = returned_at(call) < called;
+        let down = if is_before {
+            *number
+        } else {
+            i64::min(*number, 0)
+        };
+        let up = if is_before {
+            *number
+        } else {
+            i64::max(*number, 0)
+        };
+        Reach {
+            least: self.least.saturating_add(down),
+            greatest: self.greatest.saturating_add(up),
+        }
+    }
+}
+
+/// What a `get` that was called and returned at these events may find, where the counter holds the number and the first completed call
+/// that is left is this one.
+pub(crate) fn reach_of(
+    waiting: &Waiting<'_, AnyObject>,
+    config: &Config<AnyObject>,
+    first: usize,
+    (called, returned): (u32, u32),
+    number: i64,
+) -> Reach {
+    let problem = waiting.problem();
+    let _calls = problem.calls();
+    let mut reach = Reach {
+        least: number,
+        greatest: number,
+    };
+    let mut call = waiting.next_left(first, 0);
+    for _ in 0..problem.len() {
+        if call >= problem.len() {
+            return reach;
+        }
+        let made = problem.call(call);
+        if made.called > returned {
+            return reach;
+        }
+        if !config.has(call) {
+            reach = reach.with(made, called);
+        }
+        call = waiting.next_left(first, call + 1);
+    }
+    reach
+}
 
 // How much room a call leaves that is no completed `get`.
 const NO_GET: i64 = i64::MAX;

@@ -20,7 +20,7 @@ ghost use Rattle.lin_fewer.specs.Adds.{part_in, part_of, IsGot, AddBefore, IsAdd
 use crate::front::{is_completed, is_later};
 use crate::laws::fewer_law;
 use crate::rules::Rules;
-use crate::sum_hints::SumHints;
+use crate::sum_hints::{SumHints, reach_of};
 use crate::waiting::Waiting;
 use lin_history::{Problem, ProblemCall};
 use lin_object::{AnyObject, ObjState, Op, Reply, lawful};
@@ -253,30 +253,24 @@ fn next_got(
 // How many `get`s are asked about at a configuration where adds have both signs: each takes a look at every pending call.
 const GETS: usize = 4;
 
-// Whether one of the next `get`s leaves no room, in one direction or the other.
-fn some_leaves_no_room(
+// One of the next `get`s that seems to leave no room, where the counter holds the number, and in which direction. It is a hint.
+fn suspect_of_both(
     waiting: &Waiting<'_, AnyObject>,
     config: &Config<AnyObject>,
     first: usize,
-) -> bool
-    requires below { HasCompletedBelow (any_problem waiting.now) config.now.lifted first }
-    ensures { IsTrue result → HasNoCompletion (any_problem waiting.now) config.now.lifted
-        config.now.state }
-{
+    number: i64,
+) -> Option<(usize, bool)> {
     let mut from = first;
     for _ in 0..GETS {
-        let Some(get) = next_got(waiting.problem(), config, from) else {
-            return false;
-        };
-        if leaves_no_room(waiting, config, first, get, true) {
-            return true;
-        }
-        if leaves_no_room(waiting, config, first, get, false) {
-            return true;
+        let get = next_got(waiting.problem(), config, from)?;
+        let got = got_at(waiting.problem(), get)?;
+        let reach = reach_of(waiting, config, first, (got.called, got.returned), number);
+        if reach.least > got.value || reach.greatest < got.value {
+            return Some((get, reach.least > got.value));
         }
         from = get.saturating_add(1);
     }
-    false
+    None
 }
 
 // Whether the call adds in the direction, or nothing.
@@ -408,6 +402,22 @@ impl SumRules {
             has_both_signs,
         })
     }
+
+    // A `get` that the configuration seems to leave no room for, where the counter holds the number, and in which direction.
+    fn suspect(
+        &self,
+        waiting: &Waiting<'_, AnyObject>,
+        config: &Config<AnyObject>,
+        first: usize,
+        number: i64,
+    ) -> Option<(usize, bool)> {
+        if self.has_both_signs {
+            return suspect_of_both(waiting, config, first, number);
+        }
+        let hints = self.hints.as_ref()?;
+        let get = hints.suspect(waiting.problem(), config, first, number)?;
+        Some((get, self.up))
+    }
 }
 
 impl Rules<AnyObject> for SumRules {
@@ -417,19 +427,13 @@ impl Rules<AnyObject> for SumRules {
         config: &Config<AnyObject>,
         first: usize,
     ) -> bool {
-        let Some(hints) = &self.hints else {
-            return false;
-        };
-        if self.has_both_signs {
-            return some_leaves_no_room(waiting, config, first);
-        }
         let Some(number) = number_of(config.state()) else {
             return false;
         };
-        let Some(get) = hints.suspect(waiting.problem(), config, first, number) else {
+        let Some((get, up)) = self.suspect(waiting, config, first, number) else {
             return false;
         };
-        leaves_no_room(waiting, config, first, get, self.up)
+        leaves_no_room(waiting, config, first, get, up)
     }
 
     fn comes_first(
