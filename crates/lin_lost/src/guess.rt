@@ -1,8 +1,9 @@
 //! A guess of what became of items that are put in more often than they came out, and of calls that never returned; and what is left of a
 //! queue or a stack by it. All of it is a hint.
 
+use crate::in_turn::judge_in_turn;
 use lin_history::{Problem, ProblemCall, ProblemFault};
-use lin_object::{AnyObject, Op, Reply, SeqObject};
+use lin_object::{AnyObject, ObjState, Op, Reply, SeqObject};
 use std::alloc::{AllocError, Global};
 
 /// The time of a return that never comes.
@@ -14,7 +15,7 @@ pub(crate) fn time_of(event: u32) -> u64 {
 }
 
 /// The time of the return; `NEVER` of a pending call.
-fn returned_at(call: &ProblemCall<Op, Reply>) -> u64 {
+pub(crate) fn returned_at(call: &ProblemCall<Op, Reply>) -> u64 {
     match &call.returned {
         Some((event, _)) => time_of(*event),
         None => NEVER,
@@ -100,6 +101,8 @@ pub struct Guess {
     pub(crate) lost: Vec<usize>,
     /// The pending calls that may take an item.
     pub(crate) takers: Vec<usize>,
+    /// Whether no other calls can have lost their items.
+    pub(crate) is_sure: bool,
 }
 
 impl Guess {
@@ -110,6 +113,7 @@ impl Guess {
             is_out: Vec::with_capacity(alloc, problem.len())?,
             lost: Vec::new(alloc),
             takers: Vec::new(alloc),
+            is_sure: true,
         };
         for (call, made) in problem.calls().iter().enumerate() {
             guess.returns.push(returned_at(made))?;
@@ -121,8 +125,8 @@ impl Guess {
         Ok(guess)
     }
 
-    // The call stays, and returned at this time.
-    fn keep_until(&mut self, call: usize, time: u64) {
+    /// The call stays, and returned at this time.
+    pub(crate) fn keep_until(&mut self, call: usize, time: u64) {
         if let Some(slot) = self.returns.get_mut(call) {
             *slot = time;
         }
@@ -131,8 +135,8 @@ impl Guess {
         }
     }
 
-    // The call's item is lost.
-    fn lose(&mut self, call: usize) -> Result<(), AllocError> {
+    /// The call's item is lost.
+    pub(crate) fn lose(&mut self, call: usize) -> Result<(), AllocError> {
         if let Some(slot) = self.is_out.get_mut(call) {
             *slot = true;
         }
@@ -159,6 +163,7 @@ impl Guess {
             }
         }
         let mut left = puts.saturating_add(used).saturating_sub(takes);
+        self.is_sure = self.is_sure && (left == 0 || takes == 0);
         for mark in marks.iter().rev() {
             if left > 0 && !mark.is_take {
                 self.lose(mark.call)?;
@@ -198,12 +203,22 @@ impl Guess {
     }
 }
 
+// Whether it is a queue.
+fn is_queue(problem: &Problem<AnyObject>) -> bool {
+    matches!(problem.start(), ObjState::Queue(_))
+}
+
 /// What is guessed of the calls of the problem.
 pub(crate) fn guess_of(alloc: Global, problem: &Problem<AnyObject>) -> Result<Guess, AllocError> {
     let mut guess = Guess::new(alloc, problem)?;
     let marks = marks_of(alloc, problem)?;
     guess.judge_items(&marks)?;
-    Ok(guess)
+    if guess.is_sure || !is_queue(problem) {
+        return Ok(guess);
+    }
+    let mut in_turn = Guess::new(alloc, problem)?;
+    judge_in_turn(alloc, problem, &mut in_turn)?;
+    Ok(in_turn)
 }
 
 // An event of what is left.

@@ -3,8 +3,9 @@
 //! - `item_counts`: how many calls put each item in, and how many returned with it.
 //! - `rest`: the problem without lost items and without pending calls that take one.
 //! - `laws`: what that leaves of a linearization.
-//! - `guess`: what may have become of items and of pending calls; `insertion`: an order of what is left, with lost items put in again.
-//!   Both are hints. `walk`: whether a list of calls is a linearization; `remainder`: whether an order of what is left shows one.
+//! - `guess`: what may have become of items and of pending calls; `in_turn`: the same where items of a queue repeat; `insertion`: an order
+//!   of what is left, with lost items put in again. All three are hints. `walk`: whether a list of calls is a linearization; `remainder`:
+//!   whether an order of what is left shows one.
 //!
 //! What it promises the crates above, by the contracts of `without_lost`, `lost_law` and `Remainder::shows_order`:
 //!
@@ -21,10 +22,13 @@
 //!   outcome is unknown took lost items, or found none. An item that nobody takes, and the one that a pending call takes, change no reply.
 //! - A linearization of the rest is not always one of the whole: a lost item in front of another must be taken out first. So each lost
 //!   item is put in again where it may stay longest, and pending calls take the items out that must go, in the order of their calls.
-//! - Of items that repeat it is not known which were lost. The guess is that the last were, which is often wrong in a queue.
+//! - Of items that repeat it is not known which were lost. On a stack the guess is that the last were. In a queue it goes by time: each
+//!   dequeue, in the order of the returns, took what the first enqueue put in that is not behind what is out already; that the last were
+//!   lost is almost always wrong there.
 #![tactic(auto)]
 
 mod guess;
+mod in_turn;
 mod insertion;
 mod item_counts;
 mod laws;
