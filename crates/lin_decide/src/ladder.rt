@@ -31,7 +31,7 @@ use lin_fewer::{
     SumRules, has_many_pending, is_refuted_with_any_adds, least_linearization, shows_linearization,
 };
 use lin_history::{Order, Problem};
-use lin_lost::{Remainder, without_lost};
+use lin_lost::{Guessing, Remainder, without_lost};
 use lin_object::{AnyObject, ObjState, Op, Reply};
 use lin_search::{Stop, Told, search_for_order};
 use std::alloc::{AllocError, Global};
@@ -311,7 +311,27 @@ impl<'a, S: Stop> Ladder<'a, S> {
         has_none_in_order(alloc, &rest, effort.lifts, &mut self.meter)
     }
 
-    // Whether an order of what is left of a queue or a stack without lost items shows one of the whole.
+    // Whether an order of what is left of a queue or a stack without lost items, by a guess of this way, shows one of the whole.
+    fn shows_order_by_guess(
+        &mut self,
+        alloc: Global,
+        problem: &Problem<AnyObject>,
+        effort: &Effort,
+        way: Guessing,
+    ) -> Result<bool, AllocError>
+        ensures { IfOk result (λ shown. IsTrue shown
+            → (l : List ℕ) × IsLinearization (any_problem problem.now) l) }
+    {
+        let Some(left) = Remainder::of(alloc, problem, way)? else {
+            return Ok(false);
+        };
+        match order_of(alloc, left.rest(), effort.lifts, &mut self.meter)? {
+            Some(order) => left.shows_order(alloc, problem, order.calls()),
+            None => Ok(false),
+        }
+    }
+
+    // Whether it does so by either way.
     fn shows_order_by_rest(
         &mut self,
         alloc: Global,
@@ -321,13 +341,10 @@ impl<'a, S: Stop> Ladder<'a, S> {
         ensures { IfOk result (λ shown. IsTrue shown
             → (l : List ℕ) × IsLinearization (any_problem problem.now) l) }
     {
-        let Some(left) = Remainder::of(alloc, problem)? else {
-            return Ok(false);
-        };
-        match order_of(alloc, left.rest(), effort.lifts, &mut self.meter)? {
-            Some(order) => left.shows_order(alloc, problem, order.calls()),
-            None => Ok(false),
+        if self.shows_order_by_guess(alloc, problem, effort, Guessing::LastLost)? {
+            return Ok(true);
         }
+        self.shows_order_by_guess(alloc, problem, effort, Guessing::InTurn)
     }
 
     // Whether a search soon finds that there is an order that tries pending calls only between completed ones: it makes as many steps as for

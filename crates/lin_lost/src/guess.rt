@@ -6,6 +6,15 @@ use lin_history::{Problem, ProblemCall, ProblemFault};
 use lin_object::{AnyObject, ObjState, Op, Reply, SeqObject};
 use std::alloc::{AllocError, Global};
 
+/// How it is guessed which of equal items were lost.
+#[derive(Clone, Copy, PartialEq, Eq, Drop)]
+pub enum Guessing {
+    /// The last ones that were put in.
+    LastLost,
+    /// By the times of the calls, where items of a queue repeat.
+    InTurn,
+}
+
 /// The time of a return that never comes.
 pub(crate) const NEVER: u64 = u64::MAX;
 
@@ -208,17 +217,24 @@ fn is_queue(problem: &Problem<AnyObject>) -> bool {
     matches!(problem.start(), ObjState::Queue(_))
 }
 
-/// What is guessed of the calls of the problem.
-pub(crate) fn guess_of(alloc: Global, problem: &Problem<AnyObject>) -> Result<Guess, AllocError> {
+/// What is guessed of the calls of the problem this way. `None` where that is what the first way guesses.
+pub(crate) fn guess_of(
+    alloc: Global,
+    problem: &Problem<AnyObject>,
+    way: Guessing,
+) -> Result<Option<Guess>, AllocError> {
     let mut guess = Guess::new(alloc, problem)?;
     let marks = marks_of(alloc, problem)?;
     guess.judge_items(&marks)?;
+    if way == Guessing::LastLost {
+        return Ok(Some(guess));
+    }
     if guess.is_sure || !is_queue(problem) {
-        return Ok(guess);
+        return Ok(None);
     }
     let mut in_turn = Guess::new(alloc, problem)?;
     judge_in_turn(alloc, problem, &mut in_turn)?;
-    Ok(in_turn)
+    Ok(Some(in_turn))
 }
 
 // An event of what is left.

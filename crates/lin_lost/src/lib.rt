@@ -22,9 +22,9 @@
 //!   outcome is unknown took lost items, or found none. An item that nobody takes, and the one that a pending call takes, change no reply.
 //! - A linearization of the rest is not always one of the whole: a lost item in front of another must be taken out first. So each lost
 //!   item is put in again where it may stay longest, and pending calls take the items out that must go, in the order of their calls.
-//! - Of items that repeat it is not known which were lost. On a stack the guess is that the last were. In a queue it goes by time: each
-//!   dequeue, in the order of the returns, took what the first enqueue put in that is not behind what is out already; that the last were
-//!   lost is almost always wrong there.
+//! - Of items that repeat it is not known which were lost (`Guessing`). That the last were is often right where few calls returned, and
+//!   almost never in a long queue. There it goes by time: each dequeue, in the order of the returns, took what the first enqueue put in that is
+//!   not behind what is out already.
 #![tactic(auto)]
 
 mod guess;
@@ -36,6 +36,7 @@ mod remainder;
 mod rest;
 mod walk;
 
+pub use guess::Guessing;
 pub use laws::lost_law;
 pub use remainder::Remainder;
 pub use rest::without_lost;

@@ -4,7 +4,7 @@ ghost use Rattle.std.specs.Prelude.{ℕ, List, IfOk, IsTrue};
 ghost use Rattle.lin_history.specs.Problems.AnyProblem.{any_problem};
 ghost use Rattle.lin_history.specs.Problems.Linearizations.{IsLinearization};
 
-use crate::guess::{Guess, guess_of, rest_of};
+use crate::guess::{Guess, Guessing, guess_of, rest_of};
 use crate::insertion::with_lost;
 use crate::walk::is_linearization;
 use lin_history::Problem;
@@ -21,13 +21,19 @@ pub struct Remainder {
 }
 
 impl Remainder {
-    /// What is left of the problem by a guess. `None` where it is no queue or stack. Nothing is promised of it. `AllocError` where memory
-    /// was refused. The time is O(n log n) for n calls.
-    pub fn of(alloc: Global, problem: &Problem<AnyObject>) -> Result<Option<Self>, AllocError> {
+    /// What is left of the problem by a guess of this way. `None` where it is no queue or stack, or the first way guesses the same. Nothing is
+    /// promised of it. `AllocError` where memory was refused. The time is O(n log n) for n calls.
+    pub fn of(
+        alloc: Global,
+        problem: &Problem<AnyObject>,
+        way: Guessing,
+    ) -> Result<Option<Self>, AllocError> {
         if !matches!(problem.start(), ObjState::Queue(_) | ObjState::Stack(_)) {
             return Ok(None);
         }
-        let guess = guess_of(alloc, problem)?;
+        let Some(guess) = guess_of(alloc, problem, way)? else {
+            return Ok(None);
+        };
         let kept = guess.kept(alloc)?;
         let Some(rest) = rest_of(alloc, problem, &guess, kept.as_slice())? else {
             return Ok(None);
