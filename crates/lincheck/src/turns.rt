@@ -14,7 +14,7 @@
 //!   |     |
 //!   |  searches of prefixes --- an order, or a run ---> yes, or no with its longest run
 //!   |     |
-//!   |  by blocks, where an order showed --------------> yes
+//!   |  by blocks, where an order showed, of no queue or stack ---> yes
 //!   +-----+ twice as far each time; then
 //!   full search to its end, by workers ---------------> yes, no, or undecided
 //!
@@ -98,7 +98,13 @@ fn order_ahead<R: AllocGlobal, G: Gate, W: Watcher>(
     decided(setting, problem, &effort, Work::ANY, known)
 }
 
-// The order, where it showed that there is one, by a search with so much work that tries pending calls only between completed ones.
+// Whether the problem is that of a queue or a stack.
+fn has_items(problem: &Problem<AnyObject>) -> bool {
+    matches!(problem.start(), ObjState::Queue(_) | ObjState::Stack(_))
+}
+
+// The order, where it showed that there is one, by a search with so much work that tries pending calls only between completed ones: not of
+// a queue or a stack, of which an order mostly shows without such a search, and the least one takes it long.
 fn order_by_blocks<R: AllocGlobal, G: Gate, W: Watcher>(
     setting: &Setting<'_, '_, R, G, W>,
     problem: &Problem<AnyObject>,
@@ -107,7 +113,7 @@ fn order_by_blocks<R: AllocGlobal, G: Gate, W: Watcher>(
 ) -> Result<Option<Order>, AllocError>
     ensures { IfOk result (λ found. IfSome found (IsLeast (IsLinearization (any_problem problem.now)))) }
 {
-    if !known.shows_order() {
+    if !known.shows_order() || has_items(problem) {
         return Ok(None);
     }
     let mut stop = UntilUp::new(&setting.bounds);
