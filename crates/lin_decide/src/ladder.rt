@@ -28,7 +28,8 @@ use lin_ahead::{KnownAhead, held_until, known_ahead, search_first};
 use lin_effort::efforts::{bound, lifts_within, may_take_steps};
 use lin_effort::{Decide, Decision, Effort, Keys, Meter, Work};
 use lin_fewer::{
-    SumRules, has_many_pending, is_refuted_with_any_adds, least_linearization, shows_linearization,
+    ItemRules, SumRules, has_many_pending, is_refuted_with_any_adds, least_linearization,
+    shows_linearization,
 };
 use lin_history::{Order, Problem};
 use lin_lost::{Guessing, Remainder, without_lost};
@@ -49,6 +50,11 @@ fn is_mutex(problem: &Problem<AnyObject>) -> bool {
 // Whether it is a set.
 fn is_set(problem: &Problem<AnyObject>) -> bool {
     matches!(problem.start(), ObjState::Set(_))
+}
+
+// Whether it is a queue or a stack.
+fn has_items(problem: &Problem<AnyObject>) -> bool {
+    matches!(problem.start(), ObjState::Queue(_) | ObjState::Stack(_))
 }
 
 // Whether some call is pending.
@@ -77,8 +83,30 @@ fn told_in_steps<S: Stop>(
 ) -> Result<Told, AllocError>
     ensures { IfOk result (IsRightOf (any_problem problem.now)) }
 {
+    if has_items(problem) {
+        let rules = ItemRules::of(alloc, problem)?;
+        return least_linearization(alloc, problem, &rules, steps, stop);
+    }
     let rules = SumRules::of(alloc, problem)?;
     least_linearization(alloc, problem, &rules, steps, stop)
+}
+
+// Whether such a search finds in so many steps that there is an order.
+fn shows_order_in_steps<S: Stop>(
+    alloc: Global,
+    problem: &Problem<AnyObject>,
+    steps: u64,
+    stop: &mut S,
+) -> Result<bool, AllocError>
+    ensures { IfOk result (λ shown. IsTrue shown
+        → (l : List ℕ) × IsLinearization (any_problem problem.now) l) }
+{
+    if has_items(problem) {
+        let rules = ItemRules::of(alloc, problem)?;
+        return shows_linearization(alloc, problem, &rules, steps, stop);
+    }
+    let rules = SumRules::of(alloc, problem)?;
+    shows_linearization(alloc, problem, &rules, steps, stop)
 }
 
 // What a search tells that keeps what it refuted: key by key before it, where the effort says so.
@@ -360,10 +388,9 @@ impl<'a, S: Stop> Ladder<'a, S> {
         if !self.has_many_pending {
             return Ok(false);
         }
-        let rules = SumRules::of(alloc, problem)?;
         self.meter.take_each(Work::STEP);
         let steps = steps_to_show(problem.len());
-        let shown = shows_linearization(alloc, problem, &rules, steps, &mut self.meter)?;
+        let shown = shows_order_in_steps(alloc, problem, steps, &mut self.meter)?;
         self.meter.take_each(Work::LIFT);
         Ok(shown)
     }

@@ -21,7 +21,6 @@ use Rattle.lin_history.specs.Problems.Precedence.{Before, IsCompleted}
 use Rattle.lin_history.specs.Problems.Continuations.{has, IsCompletion}
 use Rattle.lin_search.specs.CallSet.{with_call}
 use Rattle.lin_search.specs.CallSetLemmas.{below_or_last, has_with, length_calls}
-use Rattle.std.proofs.lemmas.Option.{slice_get_cases}
 use Rattle.lin_fewer.specs.Fronts.{IsFirstLeft, IsLater, IsLeastReturn}
 use Rattle.lin_fewer.proofs.NodeLemmas.{incomplete}
 use Rattle.lin_search.specs.Configuration.{Configuration}

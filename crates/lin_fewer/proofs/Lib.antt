@@ -9,3 +9,4 @@ pub mod LeastLemmas
 pub mod TurnLemmas
 pub mod AddLemmas
 pub mod AnyAddsLemmas
+pub mod ItemLemmas

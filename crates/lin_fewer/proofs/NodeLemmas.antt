@@ -15,6 +15,7 @@ use Rattle.lin_search.specs.Answer.{HasNoCompletion}
 use Rattle.lin_fewer.specs.Fewer.{FewerLaw}
 use Rattle.lin_fewer.specs.Knowledge.{HasEarlier}
 use Rattle.lin_fewer.specs.Fronts.{IsFirstLeft}
+use Rattle.lin_fewer.specs.Turns.{IsNeedless}
 use Rattle.lin_fewer.specs.Nodes.{Node, NoneBegins, HasShorter, IsCovered, HasNoWorse, IsChild}
 
 module _ {State Op Reply : Type 0} (p : Problem State Op Reply) where
@@ -56,6 +57,9 @@ module _ {State Op Reply : Type 0} (p : Problem State Op Reply) where
     pub covered_identical : AreAlike p p → (same : HasEarlier p x.lifted c) → IsCovered p nodes low high x same.earlier → IsCovered p nodes low high x c
     covered_identical alike same covered l k =
         subst (λ (n : ℕ). HasShorter p nodes low high n) (exchange_length same.earlier c l) (covered (exchange same.earlier c l) (begins_earlier alike x.lifted x.state c same l k))
+
+  pub covered_needless : (nodes : List (Node State)) (low high k : ℕ) (x : Node State) (c : ℕ) → low ≤ k → k < high → slice_get nodes k ≡ Some x → IsNeedless p x.config c → IsCovered p nodes low high x.config c
+  covered_needless nodes low high k x c up within at needless l h = let m = needless l h in (k, x, up, within, at, (m.0, m.1, m.2))
 
   pub shorter_wider : (old new : List (Node State)) (low high more n : ℕ) → ((k : ℕ) (z : Node State) → k < high → slice_get old k ≡ Some z → slice_get new k ≡ Some z) → high ≤ more → HasShorter p old low high n → HasShorter p new low more n
   shorter_wider old new low high more n keeps up h = (h.0, h.1, h.2, (let less = h.3 in omega (arith, less, up)), keeps h.0 h.1 h.3 h.4, h.5)

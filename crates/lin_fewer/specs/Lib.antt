@@ -6,3 +6,4 @@ pub mod Turns
 pub mod Adds
 pub mod AnyAdds
 pub mod Answers
+pub mod Items

@@ -1,5 +1,5 @@
--- Pending calls that need not be tried in front of completed ones (this project's own).
-use Rattle.std.specs.Prelude.{ℕ, List, ◌∷◌}
+-- Pending calls that need not be tried (this project's own).
+use Rattle.std.specs.Prelude.{ℕ, ◌≤◌, List, ◌∷◌, length}
 use Rattle.lin_history.specs.Problems.Problem.{Problem}
 use Rattle.lin_history.specs.Problems.Precedence.{IsCompleted}
 use Rattle.lin_history.specs.Problems.Continuations.{IsCompletion}
@@ -14,3 +14,7 @@ ComesFirst p x e c = (l : List ℕ) → IsCompletion p x.lifted x.state (e ∷ c
 -- Where the configuration has a completion, one begins with a completed call.
 abbrev pub BeginsCompleted : {State Op Reply : Type 0} → Problem State Op Reply → Configuration State → Type 0
 BeginsCompleted p x = ((c : ℕ) → IsCompleted p c → NoneBegins p x.lifted x.state c) → HasNoCompletion p x.lifted x.state
+
+-- A completion that begins with the call has one that is shorter.
+abbrev pub IsNeedless : {State Op Reply : Type 0} → Problem State Op Reply → Configuration State → ℕ → Type 0
+IsNeedless p x e = (l : List ℕ) → IsCompletion p x.lifted x.state (e ∷ l) → (m : List ℕ) × IsCompletion p x.lifted x.state m × (length m ≤ length l)

@@ -175,6 +175,7 @@ pub fn shows_linearization<O: SeqObject, R: Rules<O>, S: Stop>(
     steps: u64,
     stop: &mut S,
 ) -> Result<bool, AllocError>
+    requires { R.suits rules.now problem.now }
     ensures some { IfOk result (λ yes. IsTrue yes → (l : List ℕ)
         × IsLinearization (problem_of O.after O.State.eq O.Reply.eq problem.now) l) }
     ensures stop { S.follows stop.old stop.new }
@@ -199,6 +200,7 @@ pub fn least_linearization<O: SeqObject, R: Rules<O>, S: Stop>(
     steps: u64,
     stop: &mut S,
 ) -> Result<Told, AllocError>
+    requires { R.suits rules.now problem.now }
     ensures told { IfOk result (IsRightOf (problem_of O.after O.State.eq O.Reply.eq problem.now)) }
     ensures stop { S.follows stop.old stop.new }
 {

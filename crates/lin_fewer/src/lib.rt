@@ -8,11 +8,12 @@
 //! - `node`: the configurations that a search has open; `states`: those of a block, found by their states; `search`: what it knows;
 //!   `known`: configurations found by keys; `seen` and `verdict`: what is known of one configuration.
 //! - `twins`: pending calls that are identical.
+//! - `sums`: what may be passed over of a counter; `items`: of a queue or a stack.
 //! - `any_adds`: orders of a counter's completed calls, whatever the pending ones add.
 //! - `front`: which calls may be next; `laws`: the law that all this rests on.
 //!
 //! What it promises the crates above, by the contracts of `fewer_law`, `least_linearization`, `shows_linearization`, `Rules`, `SumRules`,
-//! `is_refuted_with_any_adds`:
+//! `ItemRules`, `is_refuted_with_any_adds`:
 //!
 //! - `fewer_law`: take two configurations with the same completed calls and equal states, such that each pending call that the
 //!   first used was used by the second too. Then what can follow the second can follow the first, and completes it if it completes
@@ -34,13 +35,17 @@
 //!   `has_many_pending` says when the search is a good bet.
 //! - What more may be passed over for some kind of object stands in `Rules`, each method of which says what it shows of
 //!   completions: that a configuration has none; that a completion which begins with a pending call and a completed one has its
-//!   like that begins with the completed one; that a configuration with a completion has one that begins with a completed call. The
-//!   search itself knows no kind. `NoRules` shows nothing.
+//!   like that begins with the completed one; that a configuration with a completion has one that begins with a completed call; that a
+//!   completion which begins with a pending call has one that is shorter. The search itself knows no kind. Rules are made for one
+//!   problem (`suits`). `NoRules` shows nothing.
 //! - `SumRules` are those of a counter. A `get` finds all that was added before it: a configuration has no completion if what it holds,
 //!   with what is left and precedes a `get` that is left, is more than that returned with, even with all that is left, may stand in
 //!   front of it and takes something off; or less, the other way round. Where all adds have one sign, an add shows only in a `get`: a
 //!   pending call directly in front of an add can stand behind it, so pending adds are tried only where a completed `get` may be next.
 //!   Which `get` to ask about is a hint (`sum_hints.rt`; of both signs, the next ones).
+//! - `ItemRules` are those of a queue or a stack. An item with which no call that is left returned need not be put in: if a pending call
+//!   took it, neither need be made; and whoever took another item, or found none, did so without it. The least linearization may
+//!   have such calls all the same: they are candidates there, and what follows them is asked for without further ones.
 //! - `is_refuted_with_any_adds` answers yes only if a counter from which nothing is taken off has no linearization, whatever its
 //!   pending calls add. Pending adds may then make up any difference in front of a `get`, so with the same completed calls it is
 //!   never worse to have grown by less, and one number for each set of completed calls is enough. It goes over these sets in
@@ -70,6 +75,7 @@ mod bearing;
 mod borne;
 mod completed_calls;
 mod front;
+mod items;
 mod known;
 mod laws;
 mod least;
@@ -86,6 +92,7 @@ mod verdict;
 mod waiting;
 
 pub use any_adds::is_refuted_with_any_adds;
+pub use items::ItemRules;
 pub use laws::fewer_law;
 pub use least::{has_many_pending, least_linearization, shows_linearization};
 pub use rules::{NoRules, Rules};

@@ -165,6 +165,12 @@ fn add_call<O: SeqObject, R: Rules<O>>(
     if search.has_earlier(from.config().lifted(), call) {
         return Ok(());
     }
+    if search
+        .rules()
+        .is_needless(search.waiting(), from.config(), from.first(), call)
+    {
+        return Ok(());
+    }
     let Some(child) = child_of(search.alloc(), search.problem(), from.config(), call)? else {
         return Ok(());
     };

@@ -1,11 +1,13 @@
 //! What a search may pass over by what is known of its object.
 
 ghost use Rattle.std.specs.Prelude.{◌≡◌, ◌<◌, length, IsTrue};
+ghost use Rattle.lin_history.specs.Problems.ProblemParts.{ProblemParts};
 ghost use Rattle.lin_history.specs.Problems.Problem.{problem_of};
+ghost use Rattle.lin_history.specs.Problems.Precedence.{IsCompleted};
 ghost use Rattle.lin_history.specs.Problems.Configurations.{IsReachable};
 ghost use Rattle.lin_search.specs.Answer.{HasNoCompletion};
 ghost use Rattle.lin_fewer.specs.Fronts.{HasCompletedBelow, IsFirstLeft, IsLeastReturn};
-ghost use Rattle.lin_fewer.specs.Turns.{ComesFirst, BeginsCompleted};
+ghost use Rattle.lin_fewer.specs.Turns.{ComesFirst, BeginsCompleted, IsNeedless};
 
 use crate::waiting::Waiting;
 use lin_history::Problem;
@@ -14,8 +16,12 @@ use lin_search::Config;
 
 /// What a search may pass over by what is known of its object. Each method may always answer `false`.
 pub trait Rules<O: SeqObject> {
+    // What makes them rules for a problem.
+    ghost suits: { Self → ProblemParts O O.State O.Op O.Reply → Type 0 };
+
     /// Whether it is found that the configuration has no completion. Condition: its completed calls below this one are lifted.
     fn refutes(&self, waiting: &Waiting<'_, O>, config: &Config<O>, first: usize) -> bool
+        requires suits { suits self.now waiting.now }
         requires reachable { IsReachable (problem_of O.after O.State.eq O.Reply.eq waiting.now)
             config.now.lifted config.now.state }
         requires below { HasCompletedBelow (problem_of O.after O.State.eq O.Reply.eq waiting.now)
@@ -33,6 +39,7 @@ pub trait Rules<O: SeqObject> {
         pending: usize,
         completed: usize,
     ) -> bool
+        requires suits { suits self.now problem.now }
         requires reachable { IsReachable (problem_of O.after O.State.eq O.Reply.eq problem.now)
             config.now.lifted config.now.state }
         requires pending { pending < length problem.now.calls }
@@ -49,6 +56,7 @@ pub trait Rules<O: SeqObject> {
         first: usize,
         bound: u32,
     ) -> bool
+        requires suits { suits self.now waiting.now }
         requires reachable { IsReachable (problem_of O.after O.State.eq O.Reply.eq waiting.now)
             config.now.lifted config.now.state }
         requires first { IsFirstLeft (problem_of O.after O.State.eq O.Reply.eq waiting.now)
@@ -57,6 +65,26 @@ pub trait Rules<O: SeqObject> {
             config.now.lifted bound }
         ensures { IsTrue result → BeginsCompleted
             (problem_of O.after O.State.eq O.Reply.eq waiting.now) config.now };
+
+    /// Whether the pending call need not be made at the configuration: a completion that begins with it has one that is shorter.
+    /// Condition: the completed calls below this one are lifted.
+    fn is_needless(
+        &self,
+        waiting: &Waiting<'_, O>,
+        config: &Config<O>,
+        first: usize,
+        pending: usize,
+    ) -> bool
+        requires suits { suits self.now waiting.now }
+        requires reachable { IsReachable (problem_of O.after O.State.eq O.Reply.eq waiting.now)
+            config.now.lifted config.now.state }
+        requires below { HasCompletedBelow (problem_of O.after O.State.eq O.Reply.eq waiting.now)
+            config.now.lifted first }
+        requires call { pending < length waiting.now.calls }
+        requires pending { IsCompleted (problem_of O.after O.State.eq O.Reply.eq waiting.now)
+            pending → ⊥ }
+        ensures { IsTrue result → IsNeedless
+            (problem_of O.after O.State.eq O.Reply.eq waiting.now) config.now pending };
 }
 
 /// No rules: every call is tried.
@@ -64,6 +92,8 @@ pub trait Rules<O: SeqObject> {
 pub struct NoRules;
 
 impl<O: SeqObject> Rules<O> for NoRules {
+    ghost suits = { λ r p. Unit {0} };
+
     fn refutes(&self, _waiting: &Waiting<'_, O>, _config: &Config<O>, _first: usize) -> bool {
         false
     }
@@ -84,6 +114,16 @@ impl<O: SeqObject> Rules<O> for NoRules {
         _config: &Config<O>,
         _first: usize,
         _bound: u32,
+    ) -> bool {
+        false
+    }
+
+    fn is_needless(
+        &self,
+        _waiting: &Waiting<'_, O>,
+        _config: &Config<O>,
+        _first: usize,
+        _pending: usize,
     ) -> bool {
         false
     }

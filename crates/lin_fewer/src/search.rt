@@ -27,7 +27,7 @@ const LOOKS: usize = 1 << 12;
 /// What a search knows of its problem: its pending calls, for each call an identical one, the configurations found to have no
 /// completion and those found to have one, and how many steps are left. Contracts see the problem.
 #[derive(Drop)]
-pub(crate) struct Search<'p, O: SeqObject, R> {
+pub(crate) struct Search<'p, O: SeqObject, R: Rules<O>> {
     alloc: Global,
     problem: &'p Problem<O>,
     rules: &'p R,
@@ -40,7 +40,7 @@ pub(crate) struct Search<'p, O: SeqObject, R> {
     left: u64,
 }
 
-impl<'p, O: SeqObject, R> Model for Search<'p, O, R> {
+impl<'p, O: SeqObject, R: Rules<O>> Model for Search<'p, O, R> {
     ghost use Rattle.lin_history.specs.Problems.ProblemParts.{ProblemParts};
     ghost use Rattle.lin_history.specs.Problems.Problem.{problem_of};
     ghost use Rattle.std.specs.Prelude.{◌≡◌};
@@ -51,7 +51,8 @@ impl<'p, O: SeqObject, R> Model for Search<'p, O, R> {
     ghost view = { λ s. s.problem.now };
 
     ghost invariant = { λ s. IsKnowledge (problem_of O.after O.State.eq O.Reply.eq s.problem.now)
-        s.pending s.all s.refuted s.good × (s.waiting ≡ s.problem.now) };
+        s.pending s.all s.refuted s.good × (s.waiting ≡ s.problem.now)
+        × R.suits s.rules.now s.problem.now };
 }
 
 // A number whose bits all depend on all of this one's.
@@ -122,6 +123,7 @@ impl<'p, O: SeqObject, R: Rules<O>> Search<'p, O, R> {
         rules: &'p R,
         steps: u64,
     ) -> Result<Self, AllocError>
+        requires { R.suits rules.now problem.now }
         ensures { IfOk result (λ search. search ≡ problem.now) }
     {
         let all = every_call(alloc, problem)?;
@@ -154,7 +156,9 @@ impl<'p, O: SeqObject, R: Rules<O>> Search<'p, O, R> {
     }
 
     /// What may be passed over.
-    pub(crate) fn rules(&self) -> &'p R {
+    pub(crate) fn rules(&self) -> &'p R
+        ensures { R.suits result.now self.now }
+    {
         self.rules
     }
 

@@ -421,6 +421,8 @@ impl SumRules {
 }
 
 impl Rules<AnyObject> for SumRules {
+    ghost suits = { λ r p. Unit {0} };
+
     fn refutes(
         &self,
         waiting: &Waiting<'_, AnyObject>,
@@ -468,5 +470,15 @@ impl Rules<AnyObject> for SumRules {
             return false;
         }
         all_may_come_late(waiting, config, first, bound, self.up)
+    }
+
+    fn is_needless(
+        &self,
+        _waiting: &Waiting<'_, AnyObject>,
+        _config: &Config<AnyObject>,
+        _first: usize,
+        _pending: usize,
+    ) -> bool {
+        false
     }
 }
