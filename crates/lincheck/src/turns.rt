@@ -206,10 +206,10 @@ fn is_counter_with_many_pending(problem: &Problem<AnyObject>) -> bool {
     }
 }
 
-// How long the full search goes on in a turn: where there may be an order, as long as it makes progress towards it; but of such a counter
-// not in the first turn.
+// How long the full search goes on in a turn: where there may be an order, as long as it makes progress towards it; but not of such a
+// counter.
 fn patience_for(problem: &Problem<AnyObject>, turn: Turn, is_refuted: bool) -> Patience {
-    if is_refuted || turn.is_first && is_counter_with_many_pending(problem) {
+    if is_refuted || is_counter_with_many_pending(problem) {
         Patience::ForLifts(turn.full)
     } else {
         Patience::UntilStalled(turn.full)
