@@ -166,35 +166,6 @@ impl<'p> ItemRules<'p> {
 impl<'p> Rules<AnyObject> for ItemRules<'p> {
     ghost suits = { λ rules p. rules ≡ p };
 
-    fn refutes(
-        &self,
-        _waiting: &Waiting<'_, AnyObject>,
-        _config: &Config<AnyObject>,
-        _first: usize,
-    ) -> bool {
-        false
-    }
-
-    fn comes_first(
-        &self,
-        _problem: &Problem<AnyObject>,
-        _config: &Config<AnyObject>,
-        _pending: usize,
-        _completed: usize,
-    ) -> bool {
-        false
-    }
-
-    fn begins_completed(
-        &self,
-        _waiting: &Waiting<'_, AnyObject>,
-        _config: &Config<AnyObject>,
-        _first: usize,
-        _bound: u32,
-    ) -> bool {
-        false
-    }
-
     fn is_needless(
         &self,
         waiting: &Waiting<'_, AnyObject>,

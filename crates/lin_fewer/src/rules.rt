@@ -11,10 +11,11 @@ ghost use Rattle.lin_fewer.specs.Turns.{ComesFirst, BeginsCompleted, IsNeedless}
 
 use crate::waiting::Waiting;
 use lin_history::Problem;
-use lin_object::SeqObject;
+use lin_object::{AnyObject, SeqObject};
 use lin_search::Config;
 
-/// What a search may pass over by what is known of its object. Each method may always answer `false`.
+/// What a search may pass over by what is known of its object. Each method answers `false` where an impl has no body of
+/// its own: nothing is passed over then.
 pub trait Rules<O: SeqObject> {
     // What makes them rules for a problem.
     ghost suits: { Self → ProblemParts O O.State O.Op O.Reply → Type 0 };
@@ -28,7 +29,10 @@ pub trait Rules<O: SeqObject> {
             config.now.lifted first }
         ensures { IsTrue result → HasNoCompletion
             (problem_of O.after O.State.eq O.Reply.eq waiting.now) config.now.lifted
-            config.now.state };
+            config.now.state }
+    {
+        false
+    }
 
     /// Whether the completed call need not be tried directly behind the pending one, which follows the configuration: a completion
     /// that begins with the two has its like that begins with the completed one.
@@ -45,7 +49,10 @@ pub trait Rules<O: SeqObject> {
         requires pending { pending < length problem.now.calls }
         requires completed { completed < length problem.now.calls }
         ensures { IsTrue result → ComesFirst
-            (problem_of O.after O.State.eq O.Reply.eq problem.now) config.now pending completed };
+            (problem_of O.after O.State.eq O.Reply.eq problem.now) config.now pending completed }
+    {
+        false
+    }
 
     /// Whether no pending call need be tried at the configuration: where it has a completion, it has one that begins with a completed
     /// call. Conditions: this is its first completed call that is left, and this the least number of a return event that is left.
@@ -64,7 +71,10 @@ pub trait Rules<O: SeqObject> {
         requires bound { IsLeastReturn (problem_of O.after O.State.eq O.Reply.eq waiting.now)
             config.now.lifted bound }
         ensures { IsTrue result → BeginsCompleted
-            (problem_of O.after O.State.eq O.Reply.eq waiting.now) config.now };
+            (problem_of O.after O.State.eq O.Reply.eq waiting.now) config.now }
+    {
+        false
+    }
 
     /// Whether the pending call need not be made at the configuration: a completion that begins with it has one that is shorter.
     /// Condition: the completed calls below this one are lifted.
@@ -84,47 +94,16 @@ pub trait Rules<O: SeqObject> {
         requires pending { IsCompleted (problem_of O.after O.State.eq O.Reply.eq waiting.now)
             pending → ⊥ }
         ensures { IsTrue result → IsNeedless
-            (problem_of O.after O.State.eq O.Reply.eq waiting.now) config.now pending };
+            (problem_of O.after O.State.eq O.Reply.eq waiting.now) config.now pending }
+    {
+        false
+    }
 }
 
 /// No rules: every call is tried.
 #[derive(Clone, Copy, Drop)]
 pub struct NoRules;
 
-impl<O: SeqObject> Rules<O> for NoRules {
+impl Rules<AnyObject> for NoRules {
     ghost suits = { λ r p. Unit {0} };
-
-    fn refutes(&self, _waiting: &Waiting<'_, O>, _config: &Config<O>, _first: usize) -> bool {
-        false
-    }
-
-    fn comes_first(
-        &self,
-        _problem: &Problem<O>,
-        _config: &Config<O>,
-        _pending: usize,
-        _completed: usize,
-    ) -> bool {
-        false
-    }
-
-    fn begins_completed(
-        &self,
-        _waiting: &Waiting<'_, O>,
-        _config: &Config<O>,
-        _first: usize,
-        _bound: u32,
-    ) -> bool {
-        false
-    }
-
-    fn is_needless(
-        &self,
-        _waiting: &Waiting<'_, O>,
-        _config: &Config<O>,
-        _first: usize,
-        _pending: usize,
-    ) -> bool {
-        false
-    }
 }

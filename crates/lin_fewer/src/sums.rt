@@ -471,14 +471,4 @@ impl Rules<AnyObject> for SumRules {
         }
         all_may_come_late(waiting, config, first, bound, self.up)
     }
-
-    fn is_needless(
-        &self,
-        _waiting: &Waiting<'_, AnyObject>,
-        _config: &Config<AnyObject>,
-        _first: usize,
-        _pending: usize,
-    ) -> bool {
-        false
-    }
 }
