@@ -3,6 +3,7 @@ pub mod Names
 pub mod Events
 pub mod RecordedHistory
 pub mod Recording
+pub mod Found
 pub mod Parts
 pub mod NextEvents
 pub mod Views

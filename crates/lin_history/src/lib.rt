@@ -47,5 +47,5 @@ mod verifier;
 pub use limits::{MAX_CALLS, MAX_CALLS_ON_OBJECT, MAX_NAME_BYTES, MAX_OBJECTS};
 pub use locality::{Placed, WholeOrder, join, locality_law, place};
 pub use problems::{NeedRows, Order, Problem, ProblemCall, ProblemEvent, ProblemFault};
-pub use recorder::{BuildFault, Builder, CallInfo, History, ObjectInfo, is_name};
+pub use recorder::{BuildFault, Builder, CallInfo, FoundObject, History, ObjectInfo, is_name};
 pub use verifier::verify;

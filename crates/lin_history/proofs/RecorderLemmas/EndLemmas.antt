@@ -3,14 +3,17 @@ use Rattle.std.proofs.Common.{◌≡◌, ℕ, ◌+◌, true, Option, Some, None,
 use Rattle.std.proofs.lemmas.Bool.{eq-eqb}
 use Rattle.lin_object.specs.declared.op.Op.{Op}
 use Rattle.lin_object.specs.declared.reply.Reply.{Reply}
+use Rattle.lin_history.specs.declared.recorder.found.FoundObject.{FoundObject}
 use Rattle.lin_history.specs.declared.recorder.history.CallInfo.{CallInfo}
 use Rattle.lin_history.specs.declared.recorder.history.Mark.{Mark}
 use Rattle.lin_history.specs.declared.recorder.history.Mark.TheVariants.{Unmarked, Failed, Ended}
 use Rattle.lin_history.specs.Refusals.{first_that_holds}
 use Rattle.lin_history.specs.Recorder.Events.{Event, returns_, fails, ends, numbered, Made, Outcome, pending, unknown, failed, replied}
 use Rattle.lin_history.specs.Recorder.RecordedHistory.{DeclaredObject}
-use Rattle.lin_history.specs.Recorder.Recording.{is_pending_of, settled, index_named, end_refusals}
-use Rattle.lin_history.specs.Recorder.BuilderState.{outcome_by, made_view, recorded, has_no_reply, IsBuilderState, IsPendingAt}
+use Rattle.lin_history.specs.Recorder.Recording.{is_pending_of, last_call, settled, index_named, end_refusals}
+use Rattle.lin_history.specs.Recorder.Names.{is_name}
+use Rattle.lin_history.specs.Recorder.Found.{IsFound}
+use Rattle.lin_history.specs.Recorder.BuilderState.{outcome_by, made_view, recorded, has_no_reply, IsBuilderState, IsPendingOn}
 use Rattle.lin_history.specs.Recorder.NextEvents.{Adds}
 use Rattle.lin_history.proofs.ListLemmas.{length_filter-same, length_filter-less}
 use Rattle.lin_history.proofs.RecorderLemmas.EventLemmas.{Settles, return_settles, fail_settles, end_settles}
@@ -34,6 +37,27 @@ replied_by Ended number reply = refl
 
 abbrev with_outcome : CallInfo → Outcome Reply → Made Op Reply
 with_outcome c x = record (made_view c) { outcome = x }
+
+-- The call of this index is the pending one of the process, on the object of this name.
+pub record IsPendingAt (objects : List DeclaredObject) (calls : List CallInfo) (process : ℕ) (name : List ℕ) (i : ℕ) : Type 0 where
+  pub call : CallInfo
+  pub there : slice_get calls i ≡ Some call
+  pub pends : is_pending_of process (made_view call) ≡ true
+  pub valid : is_name name ≡ true
+  pub named : index_named (recorded objects calls 0) name ≡ Some call.object
+  pub found : last_call (recorded objects calls 0) process ≡ Some (made_view call)
+
+-- So it is where the object was found by that name.
+pub pending_at : (objects : List DeclaredObject) (calls : List CallInfo) (events process : ℕ) (found : FoundObject) (i : ℕ) → IsFound (recorded objects calls events) found
+    → IsPendingOn calls process found.index i → IsPendingAt objects calls process found.name.now i
+pending_at objects calls events process found i is on = record {
+  call = on.call;
+  there = on.there;
+  pends = on.pends;
+  valid = is.valid;
+  named = is.named ∙ ap Some (sym on.on);
+  found = on.found;
+}
 
 -- What a step tells that ends the pending call of a process by an event on the named object.
 pub record IsEnded (objects : List DeclaredObject) (made : List CallInfo) (events : ℕ) (last : ℕ → Option ℕ) (counts : List ℕ) (p : ℕ) (name : List ℕ)

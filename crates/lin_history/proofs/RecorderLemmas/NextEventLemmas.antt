@@ -11,7 +11,9 @@ use Rattle.lin_history.specs.Refusals.{first_that_holds}
 use Rattle.lin_history.specs.Recorder.Names.{is_name}
 use Rattle.lin_history.specs.Recorder.Events.{Event, calls, returns_, fails, ends, Made, Outcome, pending, unknown, failed, replied, process_of, IsWellFormed, numbered, made_from}
 use Rattle.lin_history.specs.Recorder.Recording.{Recording, IsRecordingOf, is_pending, is_unknown, is_pending_of, is_last_of, last_call, has_ended, is_elsewhere, index_named, is_full, call_refusals, end_refusals, settled, with_object, with_call}
-use Rattle.lin_history.specs.Recorder.BuilderState.{process_refusals}
+use Rattle.lin_history.specs.Recorder.BuilderState.{process_refusals, pending_refusals}
+use Rattle.lin_history.specs.Recorder.Found.{IsFound}
+use Rattle.lin_history.specs.declared.recorder.found.FoundObject.{FoundObject}
 use Rattle.lin_history.specs.Recorder.NextEvents.{Adds, AddsNone, CannotFollow}
 use Rattle.lin_history.proofs.ListLemmas.{slice_get-push, slice_get-mapped}
 use Rattle.lin_history.proofs.RecorderLemmas.EventLemmas.{idle, busy, over, Next, stage_of, Settles, made-call, made-end, numbered-append, may_follow, follows_by}
@@ -186,3 +188,8 @@ pub call_refused : (r : Recording) (p : ℕ) (name : List ℕ) (object : ℕ) (f
     → first_that_holds (process_refusals (last_call r p) p) ≡ Some fault → first_that_holds (call_refusals r p name) ≡ Some fault
 call_refused r p name object fault valid named refused =
     rw (valid, named) (refused_more (has_ended (last_call r p)) (is_some (last_call r p)) (ProcessEnded p) (Busy p) fault (if is_full r (Some object) then Some TooManyCalls else None) refused)
+
+-- and why there is no call to end on the object is why its end is refused
+pub end_refused : (r : Recording) (p : ℕ) (found : FoundObject) (fault : BuildFault) → IsFound r found → first_that_holds (pending_refusals (last_call r p) p found.index) ≡ Some fault
+    → first_that_holds (end_refusals r p found.name.now) ≡ Some fault
+end_refused r p found fault is refused = rw (is.valid, is.named) refused

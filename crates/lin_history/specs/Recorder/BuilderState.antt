@@ -1,5 +1,5 @@
 -- What a builder keeps beside what is recorded so far.
-use Rattle.std.specs.Prelude.{◌≡◌, ℕ, ◌+◌, ◌≤◌, Bool, true, not, Option, Some, None, is_none, is_some, List, [], ◌∷◌, map, length, slice_get, filter}
+use Rattle.std.specs.Prelude.{◌≡◌, ℕ, ◌+◌, ◌≤◌, Bool, true, not, Option, Some, None, is_none, is_some, List, [], ◌∷◌, map, length, slice_get, filter, find}
 use Rattle.lin_object.specs.declared.op.Op.{Op}
 use Rattle.lin_object.specs.declared.reply.Reply.{Reply}
 use Rattle.lin_history.specs.declared.limits.TheConstants.{MAX_CALLS, MAX_CALLS_ON_OBJECT}
@@ -7,11 +7,11 @@ use Rattle.lin_history.specs.declared.recorder.history.CallInfo.{CallInfo}
 use Rattle.lin_history.specs.declared.recorder.history.Mark.{Mark}
 use Rattle.lin_history.specs.declared.recorder.history.Mark.TheVariants.{Unmarked, Failed, Ended}
 use Rattle.lin_history.specs.declared.recorder.fault.BuildFault.{BuildFault}
-use Rattle.lin_history.specs.declared.recorder.fault.BuildFault.TheVariants.{BadName, UnknownObject, ProcessEnded, Busy}
+use Rattle.lin_history.specs.declared.recorder.fault.BuildFault.TheVariants.{BadName, UnknownObject, ProcessEnded, Busy, NoCall, OtherObject}
 use Rattle.lin_history.specs.Recorder.Names.{is_name}
 use Rattle.lin_history.specs.Recorder.Events.{Outcome, pending, unknown, failed, replied, Made}
 use Rattle.lin_history.specs.Recorder.RecordedHistory.{DeclaredObject}
-use Rattle.lin_history.specs.Recorder.Recording.{Recording, IsRecording, index_named, is_pending_of, is_last_of, last_call, has_ended, count_made_on}
+use Rattle.lin_history.specs.Recorder.Recording.{Recording, IsRecording, index_named, is_pending_of, is_last_of, has_ended, is_elsewhere, count_made_on}
 
 -- How a call went on, by its mark and its return.
 abbrev pub outcome_by : Mark → Option (ℕ × Reply) → Outcome Reply
@@ -40,6 +40,10 @@ name_refusals r name = (not (is_name name), BadName) ∷ (is_none (index_named r
 abbrev pub process_refusals : Option (Made Op Reply) → ℕ → List (Bool × BuildFault)
 process_refusals last process = (has_ended last, ProcessEnded process) ∷ (is_some last, Busy process) ∷ []
 
+-- Why a process that has this as its last call has none to end on the object of this index, in order.
+abbrev pub pending_refusals : Option (Made Op Reply) → ℕ → ℕ → List (Bool × BuildFault)
+pending_refusals last process object = (has_ended last, ProcessEnded process) ∷ (is_none last, NoCall process) ∷ (is_elsewhere (Some object) last, OtherObject process) ∷ []
+
 -- A call that has neither returned nor failed is the last call of its process.
 abbrev pub KnowsLast : (ℕ → Option ℕ) → List CallInfo → Type 0
 KnowsLast last calls = (i : ℕ) (c : CallInfo) → slice_get calls i ≡ Some c → is_last_of c.process (made_view c) ≡ true → last c.process ≡ Some i
@@ -63,11 +67,10 @@ pub record IsBuilderState (objects : List DeclaredObject) (calls : List CallInfo
   -- each call has an event, and one more where it has returned
   pub events_are : events + length (filter has_no_reply calls) ≡ length calls + length calls
 
--- The call of this index is the pending one of the process, on the object of this name.
-pub record IsPendingAt (objects : List DeclaredObject) (calls : List CallInfo) (process : ℕ) (name : List ℕ) (i : ℕ) : Type 0 where
+-- The call of this index is the pending one of the process, on the object of this index.
+pub record IsPendingOn (calls : List CallInfo) (process : ℕ) (object : ℕ) (i : ℕ) : Type 0 where
   pub call : CallInfo
   pub there : slice_get calls i ≡ Some call
   pub pends : is_pending_of process (made_view call) ≡ true
-  pub valid : is_name name ≡ true
-  pub named : index_named (recorded objects calls 0) name ≡ Some call.object
-  pub found : last_call (recorded objects calls 0) process ≡ Some (made_view call)
+  pub on : call.object ≡ object
+  pub found : find (is_last_of process) (map made_view calls) ≡ Some (made_view call)

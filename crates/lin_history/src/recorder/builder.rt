@@ -6,11 +6,13 @@ ghost use Rattle.lin_history.specs.Refusals.{first_that_holds};
 ghost use Rattle.lin_history.specs.Recorder.Events.{calls, returns_, fails, ends, is_kept, calls_of};
 ghost use Rattle.lin_history.specs.Recorder.Names.{is_name};
 ghost use Rattle.lin_history.specs.Recorder.Recording.{is_pending, is_unknown, is_last_of, count_made_on, index_named, kind_named, declaration_refusals, end_refusals};
+ghost use Rattle.lin_history.specs.Recorder.Found.{IsFound};
 ghost use Rattle.lin_history.specs.Recorder.Views.{object_view, call_view, AreFinished};
-ghost use Rattle.lin_history.specs.Recorder.BuilderState.{recorded, made_view, name_refusals, process_refusals, KnowsLast, AreCounts, IsPendingAt};
+ghost use Rattle.lin_history.specs.Recorder.BuilderState.{recorded, made_view, name_refusals, process_refusals, pending_refusals, KnowsLast, AreCounts, IsPendingOn};
 
 use crate::limits::{MAX_CALLS, MAX_CALLS_ON_OBJECT, MAX_OBJECTS};
 use crate::recorder::fault::BuildFault;
+use crate::recorder::found::FoundObject;
 use crate::recorder::history::{CallInfo, Declaration, History, Mark};
 use crate::recorder::name::is_name;
 use indexmap::IndexMap;
@@ -86,26 +88,6 @@ fn index_near(objects: &IndexMap<String, Declaration>, likely: usize, name: &str
     }
 }
 
-// The index of the object of this name, or why an event may not name it. The object at `likely` is looked at first.
-fn find_object(
-    objects: &IndexMap<String, Declaration>,
-    likely: usize,
-    name: &str,
-) -> Result<usize, BuildFault>
-    ensures named { IfOk result (λ object. index_named
-        (recorded (map object_view objects.now.entries) [] 0) name.now ≡ Some object) }
-    ensures valid { OnOk result (is_name name.now ≡ true) }
-    ensures err { IfErr result (λ fault. first_that_holds
-        (name_refusals (recorded (map object_view objects.now.entries) [] 0) name.now)
-        ≡ Some fault) }
-{
-    if is_name(name) {
-        index_near(objects, likely, name).ok_or(BuildFault::UnknownObject)
-    } else {
-        Err(BuildFault::BadName)
-    }
-}
-
 // Why a declaration of this name is refused.
 fn declaration_fault(objects: &IndexMap<String, Declaration>, name: &str) -> Option<BuildFault>
     ensures fault { result ≡ first_that_holds (declaration_refusals
@@ -124,13 +106,25 @@ fn declaration_fault(objects: &IndexMap<String, Declaration>, name: &str) -> Opt
     }
 }
 
-// The kind of the object of this name. The object at `likely` is looked at first.
-fn kind_in(objects: &IndexMap<String, Declaration>, likely: usize, name: &str) -> Option<Kind>
-    ensures { result ≡ kind_named (recorded (map object_view objects.now.entries) [] 0) name.now }
+// The object of this name. The object at `likely` is looked at first.
+fn find_in<'n>(
+    objects: &IndexMap<String, Declaration>,
+    likely: usize,
+    name: &'n str,
+) -> Option<FoundObject<'n>>
+    ensures name { IfSome result (λ found. found.name.now ≡ name.now) }
+    ensures index { option_map (λ found. found.index) result
+        ≡ index_named (recorded (map object_view objects.now.entries) [] 0) name.now }
+    ensures kind { option_map (λ found. found.kind) result
+        ≡ kind_named (recorded (map object_view objects.now.entries) [] 0) name.now }
 {
     match index_near(objects, likely, name) {
-        Some(object) => match objects.get_index(object) {
-            Some((_, declaration)) => Some(declaration.kind()),
+        Some(index) => match objects.get_index(index) {
+            Some((_, declaration)) => Some(FoundObject {
+                name,
+                index,
+                kind: declaration.kind(),
+            }),
             None => None,
         },
         None => None,
@@ -222,39 +216,20 @@ fn process_fault(
     }
 }
 
-// The object that a call is on; the first one where there is no call.
-fn object_of(calls: &[CallInfo], call: Option<usize>) -> usize {
-    match call {
-        Some(call) => match calls.get(call) {
-            Some(call) => call.object,
-            None => 0,
-        },
-        None => 0,
-    }
-}
-
-// The index of the pending call of the process on the object of this name, or why it has none there.
+// The index of the pending call of the process on the object of this index, or why it has none there.
 fn find_pending(
-    objects: &IndexMap<String, Declaration>,
     calls: &[CallInfo],
     last: &IndexMap<u32, usize>,
     process: u32,
-    name: &str,
+    object: usize,
 ) -> Result<usize, BuildFault>
     requires { KnowsLast (get nat_eq last.now) calls.now }
-    ensures ok { IfOk result (IsPendingAt (map object_view objects.now.entries) calls.now process
-        name.now) }
+    ensures ok { IfOk result (IsPendingOn calls.now process object) }
     ensures within { IfOk result (λ call. call < length calls.now) }
-    ensures err { IfErr result (λ fault. first_that_holds (end_refusals
-        (recorded (map object_view objects.now.entries) calls.now 0) process name.now)
-        ≡ Some fault) }
+    ensures err { IfErr result (λ fault. first_that_holds (pending_refusals
+        (find (is_last_of process) (map made_view calls.now)) process object) ≡ Some fault) }
 {
-    let last = last_in(calls, last, process);
-    let object = match find_object(objects, object_of(calls, last), name) {
-        Ok(object) => object,
-        Err(fault) => return Err(fault),
-    };
-    let Some(call) = last else {
+    let Some(call) = last_in(calls, last, process) else {
         return Err(BuildFault::NoCall(process));
     };
     if has_ended(&calls[call]) {
@@ -530,14 +505,49 @@ impl Builder {
             → CannotFollow self.old (calls process object op)) }
         ensures same { OnErr result (self.new ≡ self.old) }
     {
-        let object = find_object(&self.objects, self.recent, name)?;
+        let found = self.find_named(name)?;
+        self.call_on(process, found, op)
+    }
+
+    /// Records the call of an operation of an object by a process, where the object was found in this
+    /// builder: `call` for one that is named. Refusals, in order: `ProcessEnded`, `Busy`, `TooManyCalls`
+    /// and `OutOfMemory` as those of `call`. After a refusal nothing has changed.
+    pub fn call_on(
+        &mut self,
+        process: u32,
+        found: FoundObject<'_>,
+        op: Op,
+    ) -> Result<(), BuildFault>
+        requires { IsFound self.old found }
+        ensures sound { OnOk result (first_that_holds (call_refusals self.old process found.entry.name.now)
+            ≡ None) }
+        ensures ok { OnOk result (IsSomeAnd (index_named self.old found.entry.name.now)
+            (λ object. self.new ≡ with_call self.old process object op)) }
+        ensures history { OnOk result (IsSomeAnd (index_named self.old found.entry.name.now)
+            (λ object. Adds self.old (calls process object op) self.new)) }
+        ensures err { IfErr result (λ fault. fault ≢ BuildFault.OutOfMemory
+            → first_that_holds (call_refusals self.old process found.entry.name.now) ≡ Some fault) }
+        ensures memory { IfErr result (λ fault. fault ≡ BuildFault.OutOfMemory
+            → first_that_holds (call_refusals self.old process found.entry.name.now) ≡ None) }
+        ensures ended { IfErr result (λ fault. fault ≡ BuildFault.ProcessEnded process
+            → (object : ℕ) → CannotFollow self.old (calls process object op)) }
+        ensures busy { IfErr result (λ fault. fault ≡ BuildFault.Busy process → (object : ℕ)
+            → CannotFollow self.old (calls process object op)) }
+        ensures same { OnErr result (self.new ≡ self.old) }
+    {
         if let Some(fault) = process_fault(self.calls.as_slice(), &self.last, process) {
             return Err(fault);
         }
-        if is_full(self.calls.as_slice(), self.counts.as_slice(), object) {
+        if is_full(self.calls.as_slice(), self.counts.as_slice(), found.index) {
             return Err(BuildFault::TooManyCalls);
         }
-        let call = next_call(self.counts.as_slice(), self.events, process, object, op);
+        let call = next_call(
+            self.counts.as_slice(),
+            self.events,
+            process,
+            found.index,
+            op,
+        );
         if add(
             &mut self.calls,
             &mut self.last,
@@ -549,7 +559,7 @@ impl Builder {
         {
             return Err(BuildFault::OutOfMemory);
         }
-        self.recent = object;
+        self.recent = found.index;
         Ok(())
     }
 
@@ -574,13 +584,37 @@ impl Builder {
             (λ object. CannotFollow self.old (returns_ process object reply))) }
         ensures same { OnErr result (self.new ≡ self.old) }
     {
-        match find_pending(
-            &self.objects,
-            self.calls.as_slice(),
-            &self.last,
-            process,
-            name,
-        ) {
+        let found = self.find_named(name)?;
+        self.ret_on(process, found, reply)
+    }
+
+    /// Records the return of the pending call of a process from an object that was found in this builder,
+    /// with its reply: `ret` for one that is named. Refusals, in order: `ProcessEnded`, `NoCall` and
+    /// `OtherObject` as those of `ret`. After a refusal nothing has changed. It takes no memory.
+    pub fn ret_on(
+        &mut self,
+        process: u32,
+        found: FoundObject<'_>,
+        reply: Reply,
+    ) -> Result<(), BuildFault>
+        requires { IsFound self.old found }
+        ensures sound { OnOk result (first_that_holds (end_refusals self.old process found.entry.name.now)
+            ≡ None) }
+        ensures ok { OnOk result (self.new ≡ with_return self.old process reply) }
+        ensures history { OnOk result (IsSomeAnd (index_named self.old found.entry.name.now)
+            (λ object. Adds self.old (returns_ process object reply) self.new)) }
+        ensures err { IfErr result (λ fault. first_that_holds
+            (end_refusals self.old process found.entry.name.now) ≡ Some fault) }
+        ensures ended { IfErr result (λ fault. fault ≡ BuildFault.ProcessEnded process
+            → (object : ℕ) → CannotFollow self.old (returns_ process object reply)) }
+        ensures no_call { IfErr result (λ fault. fault ≡ BuildFault.NoCall process → (object : ℕ)
+            → CannotFollow self.old (returns_ process object reply)) }
+        ensures other_object { IfErr result (λ fault. fault ≡ BuildFault.OtherObject process
+            → IsSomeAnd (index_named self.old found.entry.name.now)
+            (λ object. CannotFollow self.old (returns_ process object reply))) }
+        ensures same { OnErr result (self.new ≡ self.old) }
+    {
+        match find_pending(self.calls.as_slice(), &self.last, process, found.index) {
             Ok(call) => {
                 complete(&mut self.calls, &mut self.events, call, reply);
                 Ok(())
@@ -609,13 +643,32 @@ impl Builder {
             (λ object. CannotFollow self.old (fails process object))) }
         ensures same { OnErr result (self.new ≡ self.old) }
     {
-        match find_pending(
-            &self.objects,
-            self.calls.as_slice(),
-            &self.last,
-            process,
-            name,
-        ) {
+        let found = self.find_named(name)?;
+        self.fail_on(process, found)
+    }
+
+    /// Records that the pending call of a process on an object that was found in this builder failed:
+    /// `fail` for one that is named. Refusals as those of `ret_on`. After a refusal nothing has changed.
+    /// It takes no memory.
+    pub fn fail_on(&mut self, process: u32, found: FoundObject<'_>) -> Result<(), BuildFault>
+        requires { IsFound self.old found }
+        ensures sound { OnOk result (first_that_holds (end_refusals self.old process found.entry.name.now)
+            ≡ None) }
+        ensures ok { OnOk result (self.new ≡ with_fail self.old process) }
+        ensures history { OnOk result (IsSomeAnd (index_named self.old found.entry.name.now)
+            (λ object. Adds self.old (fails process object) self.new)) }
+        ensures err { IfErr result (λ fault. first_that_holds
+            (end_refusals self.old process found.entry.name.now) ≡ Some fault) }
+        ensures ended { IfErr result (λ fault. fault ≡ BuildFault.ProcessEnded process
+            → (object : ℕ) → CannotFollow self.old (fails process object)) }
+        ensures no_call { IfErr result (λ fault. fault ≡ BuildFault.NoCall process → (object : ℕ)
+            → CannotFollow self.old (fails process object)) }
+        ensures other_object { IfErr result (λ fault. fault ≡ BuildFault.OtherObject process
+            → IsSomeAnd (index_named self.old found.entry.name.now)
+            (λ object. CannotFollow self.old (fails process object))) }
+        ensures same { OnErr result (self.new ≡ self.old) }
+    {
+        match find_pending(self.calls.as_slice(), &self.last, process, found.index) {
             Ok(call) => {
                 mark_call(&mut self.calls, call, Mark::Failed);
                 Ok(())
@@ -644,13 +697,32 @@ impl Builder {
             (λ object. CannotFollow self.old (ends process object))) }
         ensures same { OnErr result (self.new ≡ self.old) }
     {
-        match find_pending(
-            &self.objects,
-            self.calls.as_slice(),
-            &self.last,
-            process,
-            name,
-        ) {
+        let found = self.find_named(name)?;
+        self.info_on(process, found)
+    }
+
+    /// Records that nobody will know whether the pending call of a process, on an object that was found
+    /// in this builder, was done: `info` for one that is named. Refusals as those of `ret_on`. After a
+    /// refusal nothing has changed. It takes no memory.
+    pub fn info_on(&mut self, process: u32, found: FoundObject<'_>) -> Result<(), BuildFault>
+        requires { IsFound self.old found }
+        ensures sound { OnOk result (first_that_holds (end_refusals self.old process found.entry.name.now)
+            ≡ None) }
+        ensures ok { OnOk result (self.new ≡ with_end self.old process) }
+        ensures history { OnOk result (IsSomeAnd (index_named self.old found.entry.name.now)
+            (λ object. Adds self.old (ends process object) self.new)) }
+        ensures err { IfErr result (λ fault. first_that_holds
+            (end_refusals self.old process found.entry.name.now) ≡ Some fault) }
+        ensures ended { IfErr result (λ fault. fault ≡ BuildFault.ProcessEnded process
+            → (object : ℕ) → CannotFollow self.old (ends process object)) }
+        ensures no_call { IfErr result (λ fault. fault ≡ BuildFault.NoCall process → (object : ℕ)
+            → CannotFollow self.old (ends process object)) }
+        ensures other_object { IfErr result (λ fault. fault ≡ BuildFault.OtherObject process
+            → IsSomeAnd (index_named self.old found.entry.name.now)
+            (λ object. CannotFollow self.old (ends process object))) }
+        ensures same { OnErr result (self.new ≡ self.old) }
+    {
+        match find_pending(self.calls.as_slice(), &self.last, process, found.index) {
             Ok(call) => {
                 mark_call(&mut self.calls, call, Mark::Ended);
                 Ok(())
@@ -659,11 +731,27 @@ impl Builder {
         }
     }
 
-    /// The kind of the declared object of this name; `None` where no object of that name is declared.
-    pub fn kind_of(&self, name: &str) -> Option<Kind>
-        ensures { result ≡ kind_named self.now name.now }
+    /// The declared object of this name; `None` where no object of that name is declared.
+    pub fn find<'n>(&self, name: &'n str) -> Option<FoundObject<'n>>
+        ensures name { IfSome result (λ found. found.name.now ≡ name.now) }
+        ensures index { option_map (λ found. found.index) result ≡ index_named self.now name.now }
+        ensures kind { option_map (λ found. found.kind) result ≡ kind_named self.now name.now }
     {
-        kind_in(&self.objects, self.recent, name)
+        find_in(&self.objects, self.recent, name)
+    }
+
+    // The object of this name, or why an event may not name it.
+    fn find_named<'n>(&self, name: &'n str) -> Result<FoundObject<'n>, BuildFault>
+        ensures found { IfOk result (IsFound self.now) }
+        ensures name { IfOk result (λ found. found.name.now ≡ name.now) }
+        ensures err { IfErr result (λ fault. first_that_holds (name_refusals self.now name.now)
+            ≡ Some fault) }
+    {
+        if is_name(name) {
+            self.find(name).ok_or(BuildFault::UnknownObject)
+        } else {
+            Err(BuildFault::BadName)
+        }
     }
 
     /// The history of the events that were accepted. It takes no memory.

@@ -1,59 +1,10 @@
-use Rattle.std.proofs.Common.{◌≡◌, ℕ, Some, None, IsSomeAnd, map, nat_eq, subst}
-use Rattle.indexmap.specs.IndexMap.{get}
-use Rattle.lin_history.specs.Refusals.{first_that_holds}
-use Rattle.lin_history.specs.Recorder.Events.{ends, unknown}
-use Rattle.lin_history.specs.Recorder.Recording.{index_named, end_refusals}
-use Rattle.lin_history.specs.Recorder.Views.{object_view}
-use Rattle.lin_history.specs.Recorder.BuilderState.{recorded, IsPendingAt}
-use Rattle.lin_history.specs.Recorder.NextEvents.{Adds, CannotFollow}
-use Rattle.lin_history.proofs.RecorderLemmas.NextEventLemmas.{end_ends, no_end-ended, no_end-none, no_end-elsewhere}
-use Rattle.lin_history.proofs.RecorderLemmas.EndLemmas.{IsEnded, is_over}
+use Rattle.std.proofs.Common.{OnOk, IsSomeAnd, subst}
+use Rattle.lin_history.specs.Recorder.Events.{ends}
+use Rattle.lin_history.specs.Recorder.Recording.{index_named}
+use Rattle.lin_history.specs.Recorder.NextEvents.{Adds}
 use Rattle.lin_history.proofs.recorder.builder.Builder.info.Goals as goal
 
-pub invariant_of-self : goal.invariant_of-self
-invariant_of-self c =
-    let at : IsPendingAt (map object_view c.self.inside.objects.entries) c.self.inside.calls.items c.args.process c.args.name.now c.in-Ok.call = rw c.as_slice.ensures.value at c.in-Ok.ensures.ok in
-    let step : IsEnded (map object_view c.self.inside.objects.entries) c.self.inside.calls.items c.self.inside.events (get nat_eq c.self.inside.last) c.self.inside.counts.items c.args.process c.args.name.now (λ o. ends c.args.process o) unknown c.mark_call.new.calls.items c.self.inside.events = is_over (map object_view c.self.inside.objects.entries) c.self.inside.calls.items c.self.inside.events (get nat_eq c.self.inside.last) c.self.inside.counts.items c.self.invariant c.args.process c.args.name.now c.in-Ok.call at c.mark_call.new.calls.items c.mark_call.ensures in
-    step.kept
-
-pub returns-in-Ok-clause-sound : goal.returns-in-Ok-clause-sound
-returns-in-Ok-clause-sound c =
-    let at : IsPendingAt (map object_view c.self.inside.objects.entries) c.self.inside.calls.items c.args.process c.args.name.now c.in-Ok.call = rw c.as_slice.ensures.value at c.in-Ok.ensures.ok in
-    let step : IsEnded (map object_view c.self.inside.objects.entries) c.self.inside.calls.items c.self.inside.events (get nat_eq c.self.inside.last) c.self.inside.counts.items c.args.process c.args.name.now (λ o. ends c.args.process o) unknown c.mark_call.new.calls.items c.self.inside.events = is_over (map object_view c.self.inside.objects.entries) c.self.inside.calls.items c.self.inside.events (get nat_eq c.self.inside.last) c.self.inside.counts.items c.self.invariant c.args.process c.args.name.now c.in-Ok.call at c.mark_call.new.calls.items c.mark_call.ensures in
-    subst (λ h. first_that_holds (end_refusals h c.args.process c.args.name.now) ≡ None) c.self.view_is step.sound
-
-pub returns-in-Ok-clause-ok : goal.returns-in-Ok-clause-ok
-returns-in-Ok-clause-ok c =
-    let at : IsPendingAt (map object_view c.self.inside.objects.entries) c.self.inside.calls.items c.args.process c.args.name.now c.in-Ok.call = rw c.as_slice.ensures.value at c.in-Ok.ensures.ok in
-    let step : IsEnded (map object_view c.self.inside.objects.entries) c.self.inside.calls.items c.self.inside.events (get nat_eq c.self.inside.last) c.self.inside.counts.items c.args.process c.args.name.now (λ o. ends c.args.process o) unknown c.mark_call.new.calls.items c.self.inside.events = is_over (map object_view c.self.inside.objects.entries) c.self.inside.calls.items c.self.inside.events (get nat_eq c.self.inside.last) c.self.inside.counts.items c.self.invariant c.args.process c.args.name.now c.in-Ok.call at c.mark_call.new.calls.items c.mark_call.ensures in
-    rw (← c.self.view_is) step.same
-
-pub returns-in-Ok-clause-history : goal.returns-in-Ok-clause-history
-returns-in-Ok-clause-history c =
-    let at : IsPendingAt (map object_view c.self.inside.objects.entries) c.self.inside.calls.items c.args.process c.args.name.now c.in-Ok.call = rw c.as_slice.ensures.value at c.in-Ok.ensures.ok in
-    let step : IsEnded (map object_view c.self.inside.objects.entries) c.self.inside.calls.items c.self.inside.events (get nat_eq c.self.inside.last) c.self.inside.counts.items c.args.process c.args.name.now (λ o. ends c.args.process o) unknown c.mark_call.new.calls.items c.self.inside.events = is_over (map object_view c.self.inside.objects.entries) c.self.inside.calls.items c.self.inside.events (get nat_eq c.self.inside.last) c.self.inside.counts.items c.self.invariant c.args.process c.args.name.now c.in-Ok.call at c.mark_call.new.calls.items c.mark_call.ensures in
-    subst (λ h. IsSomeAnd (index_named h c.args.name.now) (λ object. Adds h (ends c.args.process object) (recorded (map object_view c.self.inside.objects.entries) c.mark_call.new.calls.items c.self.inside.events))) c.self.view_is (step.added)
-
-pub returns-in-Err-clause-err : goal.returns-in-Err-clause-err
-returns-in-Err-clause-err c =
-    let old = recorded (map object_view c.self.inside.objects.entries) c.self.inside.calls.items c.self.inside.events in
-    let refused : first_that_holds (end_refusals old c.args.process c.args.name.now) ≡ Some c.in-Err.fault = rw c.as_slice.ensures.value at c.in-Err.ensures.err in
-    subst (λ h. first_that_holds (end_refusals h c.args.process c.args.name.now) ≡ Some c.in-Err.fault) c.self.view_is refused
-
-pub returns-in-Err-clause-ended : goal.returns-in-Err-clause-ended
-returns-in-Err-clause-ended c is =
-    let old = recorded (map object_view c.self.inside.objects.entries) c.self.inside.calls.items c.self.inside.events in
-    let refused : first_that_holds (end_refusals old c.args.process c.args.name.now) ≡ Some c.in-Err.fault = rw c.as_slice.ensures.value at c.in-Err.ensures.err in
-    subst (λ h. (object : ℕ) → CannotFollow h (ends c.args.process object)) c.self.view_is (no_end-ended (λ o. ends c.args.process o) c.args.process (end_ends c.args.process) old c.args.name.now c.in-Err.fault refused is)
-
-pub returns-in-Err-clause-no_call : goal.returns-in-Err-clause-no_call
-returns-in-Err-clause-no_call c is =
-    let old = recorded (map object_view c.self.inside.objects.entries) c.self.inside.calls.items c.self.inside.events in
-    let refused : first_that_holds (end_refusals old c.args.process c.args.name.now) ≡ Some c.in-Err.fault = rw c.as_slice.ensures.value at c.in-Err.ensures.err in
-    subst (λ h. (object : ℕ) → CannotFollow h (ends c.args.process object)) c.self.view_is (no_end-none (λ o. ends c.args.process o) c.args.process (end_ends c.args.process) old c.args.name.now c.in-Err.fault refused is)
-
-pub returns-in-Err-clause-other_object : goal.returns-in-Err-clause-other_object
-returns-in-Err-clause-other_object c is =
-    let old = recorded (map object_view c.self.inside.objects.entries) c.self.inside.calls.items c.self.inside.events in
-    let refused : first_that_holds (end_refusals old c.args.process c.args.name.now) ≡ Some c.in-Err.fault = rw c.as_slice.ensures.value at c.in-Err.ensures.err in
-    subst (λ h. IsSomeAnd (index_named h c.args.name.now) (λ object. CannotFollow h (ends c.args.process object))) c.self.view_is (no_end-elsewhere (λ o. ends c.args.process o) c.args.process (end_ends c.args.process) old c.args.name.now c.in-Err.fault refused is)
+pub returns-clause-history : goal.returns-clause-history
+returns-clause-history c =
+    subst (λ name. OnOk c.info_on.result (IsSomeAnd (index_named c.args.self.now name) (λ object. Adds c.args.self.now (ends c.args.process object) c.info_on.new.self)))
+    c.in_ok-found.ensures.name c.info_on.ensures.history
