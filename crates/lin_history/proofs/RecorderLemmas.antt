@@ -3,6 +3,7 @@ pub mod EventLemmas
 pub mod OutcomeLemmas
 pub mod ObjectLemmas
 pub mod NamedAtLemmas
+pub mod FoundLemmas
 pub mod NextEventLemmas
 pub mod BuilderLemmas
 pub mod KeptLemmas

@@ -9,6 +9,7 @@ use Rattle.lin_object.specs.declared.op.Op.{Op}
 use Rattle.lin_object.specs.declared.reply.Reply.{Reply}
 use Rattle.lin_history.specs.declared.recorder.history.CallInfo.{CallInfo}
 use Rattle.lin_history.specs.declared.recorder.history.Mark.TheVariants.{Unmarked}
+use Rattle.lin_history.specs.Recorder.Names.{is_name}
 use Rattle.lin_history.specs.Recorder.Events.{Event, calls, numbered, Made, Outcome}
 use Rattle.lin_history.specs.Recorder.RecordedHistory.{DeclaredObject}
 use Rattle.lin_history.specs.Recorder.Recording.{Recording, IsRecordingOf, is_pending_of, is_last_of, last_call, is_made_on, count_made_on, settled, with_call}
@@ -110,8 +111,8 @@ count-call made p object number called op q =
     ap (λ ms. length (filter (is_made_on q) ms)) (map-append made_view made (new ∷ [])) ∙ length_filter-push (is_made_on q) (map made_view made) (made_view new)
 
 module _ (objects : List DeclaredObject) (made : List CallInfo) (events : ℕ) (last : ℕ → Option ℕ) (counts : List ℕ) (kept : IsBuilderState objects made events last counts) where
-  pub kept-object : (o : DeclaredObject) → IsBuilderState (objects ++ o ∷ []) made events last (counts ++ 0 ∷ [])
-  kept-object o =
+  pub kept-object : (o : DeclaredObject) → is_name o.name ≡ true → IsBuilderState (objects ++ o ∷ []) made events last (counts ++ 0 ∷ [])
+  kept-object o valid =
       let was = kept.recording in
       record {
         recording = (was.0, adds-object (recorded objects made events) o.name o.kind o.start was.0 was.1);
@@ -126,6 +127,7 @@ module _ (objects : List DeclaredObject) (made : List CallInfo) (events : ℕ) (
         few = kept.few;
         limited = kept.limited;
         events_are = kept.events_are;
+        named = λ i x there. elim (slice_get-push objects o i x there) [ inl old ↦ kept.named i x old | inr new ↦ ap (λ (y : DeclaredObject). is_name y.name) (sym new.1) ∙ valid ];
       }
 
   -- another last call of a process that has none
@@ -139,6 +141,7 @@ module _ (objects : List DeclaredObject) (made : List CallInfo) (events : ℕ) (
         few = kept.few;
         limited = kept.limited;
         events_are = kept.events_are;
+        named = kept.named;
       }
     where
       busy : (i : ℕ) (c : CallInfo) → slice_get made i ≡ Some c → is_last_of c.process (made_view c) ≡ true → c.process ≡ p → ⊥
@@ -206,6 +209,7 @@ module _ (objects : List DeclaredObject) (made : List CallInfo) (events : ℕ) (
           few = omega (arith, more, room);
           limited = limited-call counted room_on;
           events_are = (let more_left = length_filter-push has_no_reply made new in let were = kept.events_are in omega (arith, more, more_left, were));
+          named = kept.named;
         }
 
   -- the pending call of the process went on so
@@ -273,4 +277,5 @@ module _ (objects : List DeclaredObject) (made : List CallInfo) (events : ℕ) (
             few = (let few = kept.few in omega (arith, few, same));
             limited = λ q. (let count = count-end q in let old = kept.limited q in omega (arith, count, old));
             events_are = (let were = kept.events_are in omega (arith, balance, same, were));
+            named = kept.named;
           }

@@ -56,6 +56,10 @@ AreCounts counts calls = (object : ℕ) (n : ℕ) → slice_get counts object �
 abbrev pub AreMadeWithinLimit : List CallInfo → Type 0
 AreMadeWithinLimit calls = (object : ℕ) → count_made_on object (map made_view calls) ≤ MAX_CALLS_ON_OBJECT
 
+-- Each object has a name that is one.
+abbrev pub AreNamed : List DeclaredObject → Type 0
+AreNamed objects = (i : ℕ) (o : DeclaredObject) → slice_get objects i ≡ Some o → is_name o.name ≡ true
+
 -- What holds of all that a builder keeps: the last call of each process, and how many calls were made on each object.
 pub record IsBuilderState (objects : List DeclaredObject) (calls : List CallInfo) (events : ℕ) (last : ℕ → Option ℕ) (counts : List ℕ) : Type 0 where
   pub recording : IsRecording (recorded objects calls events)
@@ -66,6 +70,7 @@ pub record IsBuilderState (objects : List DeclaredObject) (calls : List CallInfo
   pub limited : AreMadeWithinLimit calls
   -- each call has an event, and one more where it has returned
   pub events_are : events + length (filter has_no_reply calls) ≡ length calls + length calls
+  pub named : AreNamed objects
 
 -- The call of this index is the pending one of the process, on the object of this index.
 pub record IsPendingOn (calls : List CallInfo) (process : ℕ) (object : ℕ) (i : ℕ) : Type 0 where

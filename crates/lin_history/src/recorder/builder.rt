@@ -92,6 +92,7 @@ fn index_near(objects: &IndexMap<String, Declaration>, likely: usize, name: &str
 fn declaration_fault(objects: &IndexMap<String, Declaration>, name: &str) -> Option<BuildFault>
     ensures fault { result ≡ first_that_holds (declaration_refusals
         (recorded (map object_view objects.now.entries) [] 0) name.now) }
+    ensures valid { IfNone result (is_name name.now ≡ true) }
     ensures absent { IfNone result (index_named
         (recorded (map object_view objects.now.entries) [] 0) name.now ≡ None) }
 {
@@ -733,6 +734,7 @@ impl Builder {
 
     /// The declared object of this name; `None` where no object of that name is declared.
     pub fn find<'n>(&self, name: &'n str) -> Option<FoundObject<'n>>
+        ensures found { IfSome result (IsFound self.now) }
         ensures name { IfSome result (λ found. found.name.now ≡ name.now) }
         ensures index { option_map (λ found. found.index) result ≡ index_named self.now name.now }
         ensures kind { option_map (λ found. found.kind) result ≡ kind_named self.now name.now }
@@ -747,10 +749,10 @@ impl Builder {
         ensures err { IfErr result (λ fault. first_that_holds (name_refusals self.now name.now)
             ≡ Some fault) }
     {
-        if is_name(name) {
-            self.find(name).ok_or(BuildFault::UnknownObject)
-        } else {
-            Err(BuildFault::BadName)
+        match self.find(name) {
+            Some(found) => Ok(found),
+            None if is_name(name) => Err(BuildFault::UnknownObject),
+            None => Err(BuildFault::BadName),
         }
     }
 

@@ -15,7 +15,7 @@ invariant_of-self-2 c =
     let declared : c.new-declaration.result ≡ record { kind = c.args.kind; start = c.args.start } = search rules in
     let ok = sym c.is_err.ensures.value ∙ c.if-is_err.false in
     rw (not_err c.put.result _ c.put.ensures.objects ok, not_err c.put.result _ c.put.ensures.counts ok, declared)
-    (kept-object (map object_view c.self.inside.objects.entries) c.self.inside.calls.items c.self.inside.events (get nat_eq c.self.inside.last) c.self.inside.counts.items c.self.invariant new)
+    (kept-object (map object_view c.self.inside.objects.entries) c.self.inside.calls.items c.self.inside.events (get nat_eq c.self.inside.last) c.self.inside.counts.items c.self.invariant new c.in_default.ensures.valid)
 
 pub returns-clause-history : goal.returns-clause-history
 returns-clause-history c =
