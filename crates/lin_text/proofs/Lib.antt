@@ -3,6 +3,7 @@ pub mod FlatLemmas
 pub mod CauseLemmas
 pub mod JsonLemmas
 pub mod LineLemmas
+pub mod NamingLemmas
 pub mod TextLemmas
 pub mod MeaningLemmas
 pub mod EventLineLemmas

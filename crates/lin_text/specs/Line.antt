@@ -8,6 +8,8 @@ use Rattle.lin_object.specs.declared.kind.Kind.{Kind}
 use Rattle.lin_object.specs.declared.op.Op.{Op}
 use Rattle.lin_object.specs.declared.reply.Reply.{Reply}
 use Rattle.lin_history.specs.Refusals.{first_that_holds}
+use Rattle.lin_history.specs.Recorder.Recording.{Recording}
+use Rattle.lin_history.specs.Recorder.Found.{IsFound}
 use Rattle.lin_text.specs.declared.line.EventKind.{EventKind}
 use Rattle.lin_text.specs.declared.line.EventKind.TheVariants.{Header, Declaration, Call, Return, Fail, Info}
 use Rattle.lin_text.specs.declared.line.Format.{Format}
@@ -71,9 +73,13 @@ conditions_as kind known d =
     ∷ (is_kind Return kind && is_none (reply_in d), BadResult)
     ∷ []
 
--- The causes of what an event of a process names, in order: its process, the name of its object, and that the object is declared.
+-- The causes of the object that an event of a process names, in order: its name, and that the object is declared.
+abbrev pub object_conditions : (List ℕ → Option Kind) → Data → List (Bool × Cause)
+object_conditions known d = (is_none (name_in d), BadObject) ∷ (is_none (declared_kind known d), UnknownObject) ∷ []
+
+-- The causes of what an event of a process names, in order: its process, and its object.
 abbrev pub naming_conditions : (List ℕ → Option Kind) → Data → List (Bool × Cause)
-naming_conditions known d = (is_none (process_in d), BadProcess) ∷ (is_none (name_in d), BadObject) ∷ (is_none (declared_kind known d), UnknownObject) ∷ []
+naming_conditions known d = (is_none (process_in d), BadProcess) ∷ object_conditions known d
 
 -- The causes of a line that is this JSON value, in a text of this format.
 abbrev pub conditions_in : Format → (List ℕ → Option Kind) → Data → List (Bool × Cause)
@@ -116,10 +122,19 @@ pub record IsLineEventIn (format : Format) (known : List ℕ → Option Kind) (d
 abbrev pub seen : Line → LineEvent
 seen lines.Header = states
 seen (lines.Declare name kind start) = declares name.now kind start
-seen (lines.Call process name op) = calls process name.now op
-seen (lines.Return process name reply) = returns_ process name.now reply
-seen (lines.Fail process name) = fails process name.now
-seen (lines.Info process name) = ends process name.now
+seen (lines.Call process found op) = calls process found.name.now op
+seen (lines.Return process found reply) = returns_ process found.name.now reply
+seen (lines.Fail process found) = fails process found.name.now
+seen (lines.Info process found) = ends process found.name.now
+
+-- The object of the line, where it is an event of a process, was found in the recording.
+abbrev pub IsFoundIn : Recording → Line → Type 0
+IsFoundIn r lines.Header = Unit {0}
+IsFoundIn r (lines.Declare name kind start) = Unit {0}
+IsFoundIn r (lines.Call process found op) = IsFound r found
+IsFoundIn r (lines.Return process found reply) = IsFound r found
+IsFoundIn r (lines.Fail process found) = IsFound r found
+IsFoundIn r (lines.Info process found) = IsFound r found
 
 -- The cause is the first that holds of the value, unless memory ran out.
 abbrev pub Fails : Format → (List ℕ → Option Kind) → Data → Cause → Type 0

@@ -1,7 +1,7 @@
 //! The fields of a line's JSON value.
 
-ghost use Rattle.std.specs.Prelude.{◌≡◌, ◌≢◌, option_map, IfOk, IfErr, Ok, Err};
-ghost use Rattle.lin_text.specs.Fields.{is_header, kind_by_word, has_kind, event_kind_in, states_two, process_in, name_in, kind_in, start_at, reply_in, arguments_in, op_at};
+ghost use Rattle.std.specs.Prelude.{◌≡◌, ◌≢◌, codes, option_map, IfOk, IfErr, Ok, Err};
+ghost use Rattle.lin_text.specs.Fields.{text_at, is_header, kind_by_word, has_kind, event_kind_in, states_two, process_in, name_in, kind_in, start_at, reply_in, arguments_in, op_at};
 
 use crate::cause::Cause;
 use crate::line::{EventKind, Format};
@@ -88,12 +88,19 @@ pub(crate) fn process_of<V: LineValue>(value: &V) -> Option<u32>
     u32::try_from(number).ok()
 }
 
+/// The text where the name of the object is.
+pub(crate) fn named_text_of<V: LineValue>(value: &V) -> Option<&str>
+    ensures { option_map (λ text. text.now) result ≡ text_at (codes "object") (V.json value.now) }
+{
+    value.text_at("object")
+}
+
 /// The name of the object.
 #[tactic(auto, unfolding(crate::specs::Fields::name_in))]
 pub(crate) fn name_of<V: LineValue>(value: &V) -> Option<&str>
     ensures { option_map (λ name. name.now) result ≡ name_in (V.json value.now) }
 {
-    let name = value.text_at("object")?;
+    let name = named_text_of(value)?;
     if is_name(name) { Some(name) } else { None }
 }
 

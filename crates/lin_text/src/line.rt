@@ -1,5 +1,6 @@
 //! What a line may be.
 
+use lin_history::FoundObject;
 use lin_object::{Kind, Op, Reply};
 
 /// Which format a text has. Its first line that is not skipped shows.
@@ -29,8 +30,8 @@ pub(crate) enum EventKind {
 pub(crate) enum Line<'v> {
     Header,
     Declare(&'v str, Kind, i64),
-    Call(u32, &'v str, Op),
-    Return(u32, &'v str, Reply),
-    Fail(u32, &'v str),
-    Info(u32, &'v str),
+    Call(u32, FoundObject<'v>, Op),
+    Return(u32, FoundObject<'v>, Reply),
+    Fail(u32, FoundObject<'v>),
+    Info(u32, FoundObject<'v>),
 }

@@ -3,7 +3,7 @@
 ghost use Rattle.std.specs.Prelude.{position, IfSome, ◌≡◌, ◌≢◌, ℕ, ◌<◌, ◌≤◌, ◌&&◌, ◌∷◌, [], List, length, Some, None, Ok, Err, IfOk, IfErr, IsTrue, OnOk, OnErr};
 ghost use Rattle.serde_json.specs.View.{view};
 ghost use Rattle.lin_text.specs.FlatObject.{object_of};
-ghost use Rattle.lin_text.specs.Line.{json, seen};
+ghost use Rattle.lin_text.specs.Line.{json, seen, IsFoundIn};
 ghost use Rattle.lin_history.specs.Recorder.Recording.{no_event};
 ghost use Rattle.lin_text.specs.Events.{TextEvents, IsTold, format_after, told_with};
 ghost use Rattle.lin_text.specs.EventLines.{has_number, count_with, lines_with, AreEventLines};
@@ -51,8 +51,9 @@ fn json_of(alloc: Global, line: &[u8]) -> Result<Value, Cause>
     }
 }
 
-// Gives an event to the builder. An `Err` changes nothing.
+// Gives an event to the builder, in which its object was found. An `Err` changes nothing.
 fn take_event(alloc: Global, builder: &mut Builder, event: Line<'_>) -> Result<(), BuildFault>
+    requires { IsFoundIn builder.old event }
     ensures sound { OnOk result (first_that_holds (refusals builder.old (seen event.entry))
         ≡ None) }
     ensures history { OnOk result ((told : TextEvents) → (format : _)
@@ -67,10 +68,10 @@ fn take_event(alloc: Global, builder: &mut Builder, event: Line<'_>) -> Result<(
     match event {
         Line::Header => Ok(()),
         Line::Declare(name, kind, start) => builder.declare(alloc, name, kind, start),
-        Line::Call(process, name, op) => builder.call(process, name, op),
-        Line::Return(process, name, reply) => builder.ret(process, name, reply),
-        Line::Fail(process, name) => builder.fail(process, name),
-        Line::Info(process, name) => builder.info(process, name),
+        Line::Call(process, found, op) => builder.call_on(process, found, op),
+        Line::Return(process, found, reply) => builder.ret_on(process, found, reply),
+        Line::Fail(process, found) => builder.fail_on(process, found),
+        Line::Info(process, found) => builder.info_on(process, found),
     }
 }
 
