@@ -1,10 +1,9 @@
 -- The object that a value names, by the text where its name is.
-use Rattle.std.proofs.Common.{◌≡◌, ℕ, Bool, true, false, codes, List, Option, Some, None, is_none, option_and_then, if◌then◌else◌, refl, sym, ap, subst, ◌∙◌}
+use Rattle.std.proofs.Common.{◌≡◌, ℕ, true, false, codes, List, Option, Some, None, option_and_then, refl, sym, ap, ◌∙◌}
 use Rattle.serde_json.specs.Data.{Data}
 use Rattle.lin_object.specs.declared.kind.Kind.{Kind}
 use Rattle.lin_history.specs.Refusals.{first_that_holds}
 use Rattle.lin_history.specs.Recorder.Names.{is_name}
-use Rattle.lin_text.specs.declared.cause.Cause.{Cause}
 use Rattle.lin_text.specs.declared.cause.Cause.TheVariants.{BadObject, UnknownObject}
 use Rattle.lin_text.specs.Fields.{when, text_at, name_in, declared_kind}
 use Rattle.lin_text.specs.Line.{object_conditions}

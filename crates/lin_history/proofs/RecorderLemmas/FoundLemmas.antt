@@ -1,5 +1,5 @@
 -- What is found by a name has a name that is one.
-use Rattle.std.proofs.Common.{◌≡◌, ℕ, true, pos, Option, Some, None, IfSome, option_map, List, [], get_or, bytes_eq, sym, ap, subst, ◌∙◌, inl, inr}
+use Rattle.std.proofs.Common.{◌≡◌, ℕ, true, pos, Option, Some, None, IfSome, option_map, List, [], get_or, bytes_eq, sym, ap, subst, ◌∙◌}
 use Rattle.std.proofs.lemmas.List.Quantifiers.{position-Some}
 use Rattle.std.proofs.lemmas.Option.{slice_get-get_or}
 use Rattle.std.proofs.lemmas.Slice.Eq.{bytes_eq-Decides}

@@ -1,19 +1,16 @@
 -- The calls of a part, taken from the calls of the history by their indices.
 use Rattle.std.proofs.Common.{◌≡◌, ℕ, suc, ◌+◌, ◌<◌, ◌≤◌, ◌==◌, Bool, true, false, cond, List, [], ◌∷◌, ◌++◌, length, map, filter, drop, get_or, Some, refl, sym, subst, ap, ◌∙◌, append_assoc, append-nil, add-one, arith}
 use Rattle.std.specs.List.{slice_get}
-use Rattle.std.specs.Option.{option_map}
 use Rattle.std.proofs.lemmas.List.{drop_all, length-map}
 use Rattle.std.proofs.lemmas.Option.{slice_get-get_or, slice_get_within}
 use Rattle.lin_history.specs.declared.limits.TheConstants.{MAX_CALLS_ON_OBJECT}
 use Rattle.lin_object.specs.declared.op.Op.{Op}
 use Rattle.lin_object.specs.declared.reply.Reply.{Reply}
-use Rattle.lin_object.specs.declared.state.ObjState.{ObjState}
 use Rattle.lin_history.specs.declared.problems.problem.ProblemCall.{ProblemCall}
 use Rattle.lin_history.specs.Recorder.Events.{Call}
-use Rattle.lin_history.specs.Recorder.RecordedHistory.{RecordedHistory, is_on}
+use Rattle.lin_history.specs.Recorder.RecordedHistory.{is_on}
 use Rattle.lin_history.specs.Recorder.Views.{count_on}
-use Rattle.lin_history.specs.Problems.ProblemParts.{ProblemParts}
-use Rattle.lin_history.specs.Recorder.Parts.{start_of, problem_call, part_calls}
+use Rattle.lin_history.specs.Recorder.Parts.{problem_call}
 use Rattle.lin_history.specs.Locality.JoinedOrder.{indices_from}
 use Rattle.lin_history.specs.Locality.PlaceLemmas.{calls_of_part, at_number}
 use Rattle.lin_history.proofs.ListLemmas.{drop_at}
