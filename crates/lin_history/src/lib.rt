@@ -10,6 +10,8 @@
 //!
 //! - The builder accepts exactly the events with which a well-formed history can go on. Each refusal is the first in its order that
 //!   applies, and leaves the builder unchanged.
+//! - `Builder::find` finds an object by its name. `call_on`, `ret_on`, `fail_on` and `info_on` take what it found, so that a reader
+//!   looks up each name once.
 //! - `fail` takes the pending call out of the history, and its process goes on; after `info` the process has ended and its call
 //!   stays pending. Neither has an event number or takes memory.
 //! - `History::problem` is the part on one object: its calls in the order of their call events, with the event numbers of the

@@ -10,13 +10,12 @@
 //!
 //! Why it is so:
 //!
-//! - The object of a line is looked up twice, by the reader for its kind and by the builder. The builder's promise holds for any
-//!   name, but it compares the name with that of a likely object first: of the last call, or of the call that returns. *To change:*
-//!   its promise would depend on where an index came from.
-//! - Reading keeps to the kit's JSON reader and to names. A third of what a line costs is the reader's tokens. A key told once to
-//!   an enum would still be compared once, which is most of what it costs; the object's index in place of its name would give four
-//!   calls of `Builder` a second form each, for one in a hundred; and a vector that lines share would have to outlive what it
-//!   borrows from each.
+//! - The object of a line is looked up once, and compared with that of the last call first. The builder is given what it found
+//!   itself, and requires that: the four calls of `Builder` for events have a second form each, which needs no name. It saves a
+//!   twentieth of the time of reading where objects alternate. *To change:* a line would hold its object's name again.
+//! - Reading keeps to the kit's JSON reader. A third of what a line costs is the reader's tokens. A key told once to an enum would
+//!   still be compared once, which is most of what it costs; and a vector that lines share would have to outlive what it borrows
+//!   from each.
 //! - A flat line is read by the pull parser, any other into an owned value. The first may give up, so only what it finds is proved:
 //!   a body that always gives up would be proved too. It halves the time of reading.
 //! - The builder's refusals are causes of a line with their own words. The words are a hand-written `Display` with a contract; a

@@ -56,11 +56,12 @@ AreCounts counts calls = (object : ℕ) (n : ℕ) → slice_get counts object �
 abbrev pub AreMadeWithinLimit : List CallInfo → Type 0
 AreMadeWithinLimit calls = (object : ℕ) → count_made_on object (map made_view calls) ≤ MAX_CALLS_ON_OBJECT
 
--- Each object has a name that is one.
+-- What each object is declared by is a name.
 abbrev pub AreNamed : List DeclaredObject → Type 0
 AreNamed objects = (i : ℕ) (o : DeclaredObject) → slice_get objects i ≡ Some o → is_name o.name ≡ true
 
--- What holds of all that a builder keeps: the last call of each process, and how many calls were made on each object.
+-- What holds of all that a builder keeps: the last call of each process, how many calls were made on each object, and that
+-- each object has a name.
 pub record IsBuilderState (objects : List DeclaredObject) (calls : List CallInfo) (events : ℕ) (last : ℕ → Option ℕ) (counts : List ℕ) : Type 0 where
   pub recording : IsRecording (recorded objects calls events)
   pub last_known : KnowsLast last calls

@@ -26,7 +26,9 @@ struct Declaring {
 impl Attempt for Declaring {
     fn attempt(&mut self) -> Result<bool, AllocError> {
         match self.builder.declare(self.alloc, "x", Kind::Register, 0) {
-            Ok(()) => Ok(self.builder.find("x").map(|found| found.kind) == Some(Kind::Register)),
+            Ok(()) => Ok(
+                matches!(self.builder.find("x"), Some(found) if found.kind == Kind::Register),
+            ),
             Err(BuildFault::OutOfMemory) if self.builder.find("x").is_none() => Err(AllocError),
             Err(_) => Ok(false),
         }
