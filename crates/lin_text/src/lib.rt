@@ -11,8 +11,8 @@
 //! Why it is so:
 //!
 //! - The object of a line is looked up once, and compared with that of the last call first. The builder is given what it found
-//!   itself, and requires that: the four calls of `Builder` for events have a second form each, which needs no name. It saves a
-//!   twentieth of the time of reading where objects alternate. *To change:* a line would hold its object's name again.
+//!   itself, and requires that: the four calls of `Builder` for events have a second form each, which needs no name. It saves 4 of
+//!   100 instructions of reading where objects alternate. *To change:* a line would hold its object's name alone again.
 //! - Reading keeps to the kit's JSON reader. A third of what a line costs is the reader's tokens. A key told once to an enum would
 //!   still be compared once, which is most of what it costs; and a vector that lines share would have to outlive what it borrows
 //!   from each.
