@@ -1,9 +1,7 @@
 //! Checks of one object: the same verdict by every number of workers, over every number of shards.
 
 use super::random::random_history;
-use super::searches::{
-    Part, READ_OF_NO_WRITTEN_VALUE, READ_OF_THE_LAST_VALUE, plainly_searched, posed_by,
-};
+use super::searches::{Part, plainly_searched};
 use lin_object::Kind;
 use lin_search::Outcome;
 use lin_workers::{Gate, ObjectVerdict, Options, check_object};
@@ -48,62 +46,6 @@ fn found<R: AllocGlobal + Threads + Clock + Sync>(
     let options = Options::new(workers, shards, None, false).ok()?;
     let (verdict, _) = check_object(rt, problem, &options, &Eager).ok()?;
     Some(verdict)
-}
-
-// Whether it found that there is no linearization, with this longest run.
-fn is_refuted_with(found: Option<ObjectVerdict>, run: &[usize]) -> bool {
-    let Some(ObjectVerdict::No(order)) = found else {
-        return false;
-    };
-    order.calls() == run
-}
-
-// Whether every number of workers and shards finds the problem refuted, with this longest run.
-fn all_refute<R: AllocGlobal + Threads + Clock + Sync>(
-    rt: &R,
-    problem: &Part,
-    run: &[usize],
-) -> bool {
-    for (workers, shards) in &WORKERS_AND_SHARDS {
-        if !is_refuted_with(found(rt, problem, *workers, *shards), run) {
-            return false;
-        }
-    }
-    true
-}
-
-#[test]
-fn every_number_of_workers_finds_the_same_longest_run(rt: HostRuntime) {
-    let problem = posed_by(rt.alloc(), Kind::Register, &READ_OF_NO_WRITTEN_VALUE);
-    assert!(rt; all_refute(&rt, &problem, &[0, 1, 2]));
-}
-
-// Whether it found this least linearization.
-fn is_found_with(found: Option<ObjectVerdict>, least: &[usize]) -> bool {
-    let Some(ObjectVerdict::Yes(order)) = found else {
-        return false;
-    };
-    order.calls() == least
-}
-
-// Whether every number of workers and shards finds this least linearization.
-fn all_find<R: AllocGlobal + Threads + Clock + Sync>(
-    rt: &R,
-    problem: &Part,
-    least: &[usize],
-) -> bool {
-    for (workers, shards) in &WORKERS_AND_SHARDS {
-        if !is_found_with(found(rt, problem, *workers, *shards), least) {
-            return false;
-        }
-    }
-    true
-}
-
-#[test]
-fn every_number_of_workers_finds_the_same_linearization(rt: HostRuntime) {
-    let problem = posed_by(rt.alloc(), Kind::Register, &READ_OF_THE_LAST_VALUE);
-    assert!(rt; all_find(&rt, &problem, &[0, 1, 2, 3]));
 }
 
 // Whether it found what a search answered.

@@ -28,14 +28,6 @@ fn explains(alloc: Global, words: &[&str], wanted: &Options) -> Result<bool, All
     }
 }
 
-// Whether they ask for a line for each object, with these options.
-fn asks_of_each(alloc: Global, words: &[&str], wanted: &Options) -> Result<bool, AllocError> {
-    match &request(alloc, words)? {
-        Request::Each(options) => Ok(options == wanted),
-        _ => Ok(false),
-    }
-}
-
 // Whether they are refused.
 fn is_refused(alloc: Global, words: &[&str]) -> Result<bool, AllocError> {
     Ok(matches!(&request(alloc, words)?, Request::Refused(_)))
@@ -72,25 +64,6 @@ fn no_words_run(alloc: Global) -> Result<bool, AllocError> {
     runs(alloc, &[], &usual)
 }
 
-// Whether the greatest number of seconds is taken.
-fn seconds_run(alloc: Global) -> Result<bool, AllocError> {
-    let Ok(usual) = Options::new(4, 16, None, false) else {
-        return Ok(false);
-    };
-    let Ok(timed) = usual.with_seconds(Some(86_400)) else {
-        return Ok(false);
-    };
-    runs(alloc, &["--seconds", "86400"], &timed)
-}
-
-// Whether it is taken that progress is shown.
-fn progress_run(alloc: Global) -> Result<bool, AllocError> {
-    let Ok(usual) = Options::new(4, 16, None, false) else {
-        return Ok(false);
-    };
-    runs(alloc, &["--progress"], &usual.with_progress(true))
-}
-
 // Whether the greatest numbers are taken.
 fn greatest_run(alloc: Global) -> Result<bool, AllocError> {
     let Ok(greatest) = Options::new(64, 256, Some(1_000_000_000_000), true) else {
@@ -99,37 +72,10 @@ fn greatest_run(alloc: Global) -> Result<bool, AllocError> {
     explains(alloc, &GREATEST, &greatest)
 }
 
-// Whether a line for each object is taken.
-fn each_run(alloc: Global) -> Result<bool, AllocError> {
-    let Ok(usual) = Options::new(4, 16, None, false) else {
-        return Ok(false);
-    };
-    asks_of_each(alloc, &["--each"], &usual)
-}
-
-// Whether an explanation of each object is taken.
-fn explained_each_run(alloc: Global) -> Result<bool, AllocError> {
-    let Ok(usual) = Options::new(4, 16, None, false) else {
-        return Ok(false);
-    };
-    match &request(alloc, &["--each", "--explain"])? {
-        Request::ExplainEach(options) => Ok(options == &usual),
-        _ => Ok(false),
-    }
-}
-
-#[test]
-fn words_ask_for_each_object(rt: HostRuntime) {
-    assert!(rt; matches!(each_run(rt.alloc()), Ok(true)));
-    assert!(rt; matches!(explained_each_run(rt.alloc()), Ok(true)));
-}
-
 #[test]
 fn words_ask_for_a_run(rt: HostRuntime) {
     assert!(rt; matches!(no_words_run(rt.alloc()), Ok(true)));
     assert!(rt; matches!(greatest_run(rt.alloc()), Ok(true)));
-    assert!(rt; matches!(seconds_run(rt.alloc()), Ok(true)));
-    assert!(rt; matches!(progress_run(rt.alloc()), Ok(true)));
 }
 
 #[test]

@@ -1,21 +1,7 @@
 //! Objects: the calls that take memory.
 
-use lin_object::{AnyObject, Items, ObjState, Op, Reply, SeqObject, write_op, write_reply};
+use lin_object::{AnyObject, Items, ObjState, Op, Reply, SeqObject};
 use std::alloc::{AllocError, Global};
-
-// Whether an operation and a reply are written so, one behind the other.
-fn is_written(alloc: Global, op: Op, reply: Reply, text: &str) -> Result<bool, AllocError> {
-    let mut out = Vec::new(alloc);
-    write_op(alloc, &op, &mut out)?;
-    write_reply(alloc, &reply, &mut out)?;
-    Ok(out.as_slice() == text.as_bytes())
-}
-
-#[test]
-fn operations_and_replies_are_written(rt: HostRuntime) {
-    let written = is_written(rt.alloc(), Op::Cas(4, -7), Reply::Int(1), "cas(4,-7)1");
-    assert!(rt; matches!(written, Ok(true)));
-}
 
 // Whether the operation leads from the state, with this reply, to a copy of the other one.
 fn leads(
