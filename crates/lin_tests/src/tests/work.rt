@@ -52,28 +52,21 @@ fn takes_a_search(alloc: Global, kind: Kind, events: &[Event]) -> Result<bool, A
     Ok(matches!(before, Decision::Stopped) && matches!(decision, Decision::Found(_)))
 }
 
+// Whether that is so of a call, and after it one that asks for what it left.
+fn search_takes_work(alloc: Global, kind: Kind, first: Op, second: Op, other: Reply) -> bool {
+    let events = one_after_the_other(first, Reply::Okay, second, other);
+    matches!(takes_a_search(alloc, kind, &events), Ok(true))
+}
+
 #[test]
 fn a_first_search_takes_work(rt: HostRuntime) {
-    let register = one_after_the_other(Op::Write(1), Reply::Okay, Op::Read, Reply::Int(1));
-    assert!(rt;
-        matches!(
-            takes_a_search(rt.alloc(), Kind::Register, &register),
-            Ok(true)
-        )
-    );
-    let counter = one_after_the_other(Op::Add(1), Reply::Okay, Op::Get, Reply::Int(1));
-    assert!(rt;
-        matches!(
-            takes_a_search(rt.alloc(), Kind::Counter, &counter),
-            Ok(true)
-        )
-    );
-    let queue = one_after_the_other(Op::Enqueue(1), Reply::Okay, Op::Dequeue, Reply::Int(1));
-    assert!(rt; matches!(takes_a_search(rt.alloc(), Kind::Queue, &queue), Ok(true)));
-    let stack = one_after_the_other(Op::Push(1), Reply::Okay, Op::Pop, Reply::Int(1));
-    assert!(rt; matches!(takes_a_search(rt.alloc(), Kind::Stack, &stack), Ok(true)));
-    let mutex = one_after_the_other(Op::Lock, Reply::Okay, Op::Unlock, Reply::Okay);
-    assert!(rt; matches!(takes_a_search(rt.alloc(), Kind::Mutex, &mutex), Ok(true)));
+    let alloc = rt.alloc();
+    let one = Reply::Int(1);
+    assert!(rt; search_takes_work(alloc, Kind::Register, Op::Write(1), Op::Read, one));
+    assert!(rt; search_takes_work(alloc, Kind::Counter, Op::Add(1), Op::Get, one));
+    assert!(rt; search_takes_work(alloc, Kind::Queue, Op::Enqueue(1), Op::Dequeue, one));
+    assert!(rt; search_takes_work(alloc, Kind::Stack, Op::Push(1), Op::Pop, one));
+    assert!(rt; search_takes_work(alloc, Kind::Mutex, Op::Lock, Op::Unlock, Reply::Okay));
 }
 
 // A map and a set are searched key by key: two calls on one key take two lifts.
