@@ -1,25 +1,13 @@
 //! A core is found where there is no order, and nowhere else.
 
 use super::searches::Event::{Call, Return};
-use super::searches::{Event, Part, READ_OF_NO_WRITTEN_VALUE, READ_OF_THE_LAST_VALUE, posed_by};
+use super::searches::{Event, Part, posed_by, writes_and_a_read_of};
 use lin_core::{Window, core_of, suffix_core_of_calls};
 use lin_decide::Ladder;
 use lin_effort::Work;
 use lin_object::{Kind, Op, Reply};
 use lin_search::NoStop;
 use std::alloc::{AllocError, Global};
-
-// Two writes one after the other, a third at the same time, and a read of the first.
-const READ_OF_AN_OVERWRITTEN_VALUE: [Event; 8] = [
-    Call(3, Op::Write(3)),
-    Call(1, Op::Write(1)),
-    Return(1, Reply::Okay),
-    Call(1, Op::Write(2)),
-    Return(2, Reply::Okay),
-    Call(2, Op::Read),
-    Return(3, Reply::Int(1)),
-    Return(0, Reply::Okay),
-];
 
 // A write, and two changes of the value that it wrote, one after the other.
 const VALUE_THAT_IS_CHANGED_TWICE: [Event; 6] = [
@@ -39,14 +27,6 @@ fn calls_in_core(alloc: Global, problem: &Part) -> Result<Option<usize>, AllocEr
         Some(core) => Ok(Some(core.calls.len())),
         None => Ok(None),
     }
-}
-
-#[test]
-fn core_has_the_calls_that_alone_have_no_order(rt: HostRuntime) {
-    let problem = posed_by(rt.alloc(), Kind::Register, &READ_OF_AN_OVERWRITTEN_VALUE);
-    assert!(rt; matches!(calls_in_core(rt.alloc(), &problem), Ok(Some(2))));
-    let problem = posed_by(rt.alloc(), Kind::Register, &READ_OF_NO_WRITTEN_VALUE);
-    assert!(rt; matches!(calls_in_core(rt.alloc(), &problem), Ok(Some(1))));
 }
 
 // With which event the core of the problem begins; none where it begins at the start, or none is found.
@@ -90,6 +70,6 @@ fn core_begins_at_an_event(rt: HostRuntime) {
 
 #[test]
 fn history_with_an_order_has_no_core(rt: HostRuntime) {
-    let problem = posed_by(rt.alloc(), Kind::Register, &READ_OF_THE_LAST_VALUE);
+    let problem = writes_and_a_read_of(rt.alloc(), 3);
     assert!(rt; matches!(calls_in_core(rt.alloc(), &problem), Ok(None)));
 }

@@ -1,7 +1,7 @@
 //! Cuts: into which tasks a search is cut.
 
-use super::searches::{Part, READ_OF_NO_WRITTEN_VALUE, posed_by};
-use lin_object::{AnyObject, Kind};
+use super::searches::{Part, writes_and_a_read_of};
+use lin_object::AnyObject;
 use lin_workers::{Task, cut};
 use std::alloc::{AllocError, Global};
 
@@ -49,6 +49,6 @@ fn are_cuts(alloc: Global, problem: &Part) -> Result<bool, AllocError> {
 
 #[test]
 fn a_cut_is_at_the_first_level_that_is_wide_enough_or_else_the_widest(rt: HostRuntime) {
-    let problem = posed_by(rt.alloc(), Kind::Register, &READ_OF_NO_WRITTEN_VALUE);
+    let problem = writes_and_a_read_of(rt.alloc(), 9);
     assert!(rt; matches!(are_cuts(rt.alloc(), &problem), Ok(true)));
 }

@@ -1,11 +1,10 @@
-//! Searches: their limits and stops, the memo, entries, and searches that must agree.
+//! Searches: their limits and stops, the memo and entries.
 
 ghost use Rattle.std.specs.Prelude.{◌≡◌, ◌++◌, ◌∷◌, [], ◌<◌, IfSome};
 
 use super::fakes::{Countdown, Forgetful};
-use super::random::random_history;
-use lin_history::{History, Order, Placed, Problem, WholeOrder, verify};
-use lin_object::{AnyObject, Kind, ObjState, Op, Reply, SeqObject, start_state};
+use lin_history::{Order, Problem};
+use lin_object::{AnyObject, Kind, Op, Reply, start_state};
 use lin_search::{
     Config, Entries, Longest, Memo, NoStop, Noted, Outcome, OwnMemo, Refutation, Stop, longest_run,
     search, search_alone,
@@ -26,43 +25,7 @@ pub(super) enum Event {
 
 use Event::{Call, Return};
 
-// Three writes that overlap one another, and after them a read of what nobody wrote.
-pub(super) const READ_OF_NO_WRITTEN_VALUE: [Event; 8] = [
-    Call(1, Op::Write(1)),
-    Call(2, Op::Write(2)),
-    Call(3, Op::Write(3)),
-    Return(0, Reply::Okay),
-    Return(1, Reply::Okay),
-    Return(2, Reply::Okay),
-    Call(4, Op::Read),
-    Return(3, Reply::Int(9)),
-];
-
-// The same with a read of the last write's value.
-pub(super) const READ_OF_THE_LAST_VALUE: [Event; 8] = [
-    Call(1, Op::Write(1)),
-    Call(2, Op::Write(2)),
-    Call(3, Op::Write(3)),
-    Return(0, Reply::Okay),
-    Return(1, Reply::Okay),
-    Return(2, Reply::Okay),
-    Call(4, Op::Read),
-    Return(3, Reply::Int(3)),
-];
-
-// The same with a read of yet another value that nobody wrote.
-pub(super) const READ_OF_ANOTHER_VALUE: [Event; 8] = [
-    Call(1, Op::Write(1)),
-    Call(2, Op::Write(2)),
-    Call(3, Op::Write(3)),
-    Return(0, Reply::Okay),
-    Return(1, Reply::Okay),
-    Return(2, Reply::Okay),
-    Call(4, Op::Read),
-    Return(3, Reply::Int(8)),
-];
-
-// The same with writes of one value, which is not read.
+// Three writes of one value that overlap one another, and after them a read of what nobody wrote.
 const WRITES_OF_ONE_VALUE: [Event; 8] = [
     Call(1, Op::Write(1)),
     Call(2, Op::Write(1)),
@@ -100,6 +63,21 @@ pub(super) fn posed_by(alloc: Global, kind: Kind, events: &[Event]) -> Part {
     problem
 }
 
+// Three writes that overlap one another, of 1, 2 and 3, and after them a read of this value.
+pub(super) fn writes_and_a_read_of(alloc: Global, value: i64) -> Part {
+    let events = [
+        Call(1, Op::Write(1)),
+        Call(2, Op::Write(2)),
+        Call(3, Op::Write(3)),
+        Return(0, Reply::Okay),
+        Return(1, Reply::Okay),
+        Return(2, Reply::Okay),
+        Call(4, Op::Read),
+        Return(3, Reply::Int(value)),
+    ];
+    posed_by(alloc, Kind::Register, &events)
+}
+
 pub(super) const THREE_MORE: Longest = Longest {
     more: 3,
     first: Some(0),
@@ -114,10 +92,10 @@ fn finds_four_in_turn(alloc: Global, problem: &Part) -> Result<bool, AllocError>
 
 #[test]
 fn a_search_by_itself_finds_or_counts(rt: HostRuntime) {
-    let found = posed_by(rt.alloc(), Kind::Register, &READ_OF_THE_LAST_VALUE);
+    let found = writes_and_a_read_of(rt.alloc(), 3);
     assert!(rt; matches!(finds_four_in_turn(rt.alloc(), &found), Ok(true)));
     // The root, and each of the 3 + 6 + 3 sets of writes with the value of its last.
-    let refuted = posed_by(rt.alloc(), Kind::Register, &READ_OF_NO_WRITTEN_VALUE);
+    let refuted = writes_and_a_read_of(rt.alloc(), 9);
     let wanted = (Outcome::Refuted(THREE_MORE), 13);
     assert!(rt; matches!(search_alone(rt.alloc(), &refuted), Ok(told) if told == wanted));
 }
@@ -173,7 +151,7 @@ fn needs(alloc: Global, problem: &Part, limit: u64, count: u64) -> Result<bool, 
 
 #[test]
 fn a_search_ends_at_its_limit(rt: HostRuntime) {
-    let problem = posed_by(rt.alloc(), Kind::Register, &READ_OF_NO_WRITTEN_VALUE);
+    let problem = writes_and_a_read_of(rt.alloc(), 9);
     assert!(rt; matches!(needs(rt.alloc(), &problem, 15, 13), Ok(true)));
     let early = stored_within(rt.alloc(), &problem, 3, &Outcome::Undecided);
     assert!(rt; matches!(early, Ok(Some(2))));
@@ -210,7 +188,7 @@ fn goes_on_over(alloc: Global, problem: &Part, memo: &mut Forgetful) -> Result<b
 
 #[test]
 fn no_answer_to_what_it_notes_ends_a_search(rt: HostRuntime) {
-    let problem = posed_by(rt.alloc(), Kind::Register, &READ_OF_NO_WRITTEN_VALUE);
+    let problem = writes_and_a_read_of(rt.alloc(), 9);
     let mut busy = Forgetful { is_full: false };
     assert!(rt; matches!(goes_on_over(rt.alloc(), &problem, &mut busy), Ok(true)));
     let mut full = Forgetful { is_full: true };
@@ -278,7 +256,7 @@ fn is_scouted(alloc: Global, problem: &Part, directions: u64) -> bool {
 
 #[test]
 fn a_scout_refutes_in_any_direction(rt: HostRuntime) {
-    let problem = posed_by(rt.alloc(), Kind::Register, &READ_OF_NO_WRITTEN_VALUE);
+    let problem = writes_and_a_read_of(rt.alloc(), 9);
     assert!(rt; is_scouted(rt.alloc(), &problem, 0));
     assert!(rt; is_scouted(rt.alloc(), &problem, u64::MAX));
     assert!(rt; is_scouted(rt.alloc(), &problem, 1) && is_scouted(rt.alloc(), &problem, 2));
@@ -293,38 +271,15 @@ fn is_undecided_first(alloc: Global, problem: &Part) -> Result<bool, AllocError>
 
 #[test]
 fn the_limit_comes_before_the_stop(rt: HostRuntime) {
-    let problem = posed_by(rt.alloc(), Kind::Register, &READ_OF_NO_WRITTEN_VALUE);
+    let problem = writes_and_a_read_of(rt.alloc(), 9);
     assert!(rt; matches!(is_undecided_first(rt.alloc(), &problem), Ok(true)));
 }
 
 #[test]
 fn a_search_is_stopped_and_taken_up(rt: HostRuntime) {
-    let problem = posed_by(rt.alloc(), Kind::Register, &READ_OF_NO_WRITTEN_VALUE);
+    let problem = writes_and_a_read_of(rt.alloc(), 9);
     assert!(rt; matches!(is_stopped(rt.alloc(), &problem), Ok(true)));
     assert!(rt; matches!(is_taken_up(rt.alloc(), &problem), Ok(true)));
-}
-
-// Whether the configuration is that of the second of three writes alone.
-fn is_after_the_second(config: &Config<AnyObject>) -> bool {
-    config.has(1) && !config.has(0) && *config.state() == ObjState::Register(2)
-}
-
-// Whether the second call leads from the root to that configuration.
-fn second_leads_on(alloc: Global, problem: &Part) -> Result<bool, AllocError> {
-    if problem.len() < 2 {
-        return Ok(false);
-    }
-    let root = Config::root(alloc, problem)?;
-    match root.child(alloc, problem, 1)? {
-        Some(child) => Ok(is_after_the_second(&child)),
-        None => Ok(false),
-    }
-}
-
-#[test]
-fn one_call_leads_to_the_next_configuration(rt: HostRuntime) {
-    let problem = posed_by(rt.alloc(), Kind::Register, &READ_OF_NO_WRITTEN_VALUE);
-    assert!(rt; matches!(second_leads_on(rt.alloc(), &problem), Ok(true)));
 }
 
 // That the root of the problem is refuted, where it is.
@@ -352,16 +307,6 @@ fn noted(
     }
 }
 
-// What the memo shows of a copy of the problem's root.
-fn told(
-    alloc: Global,
-    memo: &OwnMemo<'_, AnyObject>,
-    problem: &Part,
-) -> Result<Option<Longest>, AllocError> {
-    let root = Config::root(alloc, problem)?;
-    Ok(memo.look(problem, &root.copy(alloc, problem)?))
-}
-
 // Whether the memo refuses the refuted root of another problem, and keeps nothing of it.
 fn refuses_a_stranger(
     alloc: Global,
@@ -371,36 +316,16 @@ fn refuses_a_stranger(
     Ok(noted(alloc, memo, other)? == Some(Noted::Stranger) && memo.count() == 0)
 }
 
-// Whether the memo keeps the root of its problem once, and shows it of no other.
-fn keeps_once(
-    alloc: Global,
-    memo: &mut OwnMemo<'_, AnyObject>,
-    problem: &Part,
-    other: &Part,
-) -> Result<bool, AllocError> {
-    let first = noted(alloc, memo, problem)?;
-    let second = noted(alloc, memo, problem)?;
-    let own = told(alloc, memo, problem)?;
-    let strange = told(alloc, memo, other)?;
-    Ok(
-        (first, second) == (Some(Noted::New), Some(Noted::Known))
-            && (own, strange) == (Some(THREE_MORE), None)
-            && memo.count() == 1,
-    )
-}
-
 // Whether a new memo does so.
-fn a_memo_keeps_once(alloc: Global) -> Result<bool, AllocError> {
-    let problem = posed_by(alloc, Kind::Register, &READ_OF_NO_WRITTEN_VALUE);
-    let other = posed_by(alloc, Kind::Register, &READ_OF_ANOTHER_VALUE);
-    let mut memo = OwnMemo::new(alloc, &problem);
-    let refused = refuses_a_stranger(alloc, &mut memo, &other)?;
-    Ok(refused && keeps_once(alloc, &mut memo, &problem, &other)?)
+fn a_memo_refuses_a_stranger(alloc: Global) -> Result<bool, AllocError> {
+    let problem = writes_and_a_read_of(alloc, 9);
+    let other = writes_and_a_read_of(alloc, 8);
+    refuses_a_stranger(alloc, &mut OwnMemo::new(alloc, &problem), &other)
 }
 
 #[test]
-fn a_memo_keeps_a_configuration_once(rt: HostRuntime) {
-    assert!(rt; matches!(a_memo_keeps_once(rt.alloc()), Ok(true)));
+fn a_memo_keeps_nothing_of_another_problem(rt: HostRuntime) {
+    assert!(rt; matches!(a_memo_refuses_a_stranger(rt.alloc()), Ok(true)));
 }
 
 // The two least minimal calls.
@@ -462,77 +387,9 @@ fn calls_are_minimal_in_their_turn(rt: HostRuntime) {
     assert!(rt; matches!(entries_are_minimal_in_turn(rt.alloc(), &problem), Ok(true)));
 }
 
-// Takes one call of an order more: whether it has a step.
-fn take_step(
-    alloc: Global,
-    problem: &Part,
-    call: usize,
-    state: &mut ObjState,
-    placed: &mut Vec<Placed>,
-) -> Result<bool, AllocError> {
-    if call >= problem.len() {
-        return Ok(false);
-    }
-    let taken = problem.call(call);
-    match AnyObject.step(alloc, state, taken.process, &taken.op)? {
-        Some((next, reply)) => {
-            *state = next;
-            placed.push(Placed { call, reply })?;
-            Ok(true)
-        }
-        None => Ok(false),
-    }
-}
-
-// The calls of the order with the replies of their steps, but those without one.
-fn replayed(alloc: Global, problem: &Part, order: &Order) -> Result<WholeOrder, AllocError> {
-    let mut placed = Vec::new(alloc);
-    let mut state = start_state(alloc, Kind::Register, 0);
-    for call in order.calls() {
-        take_step(alloc, problem, *call, &mut state, &mut placed)?;
-    }
-    Ok(WholeOrder::new(placed))
-}
-
 // What a search answers over a memo that keeps nothing.
 pub(super) fn plainly_searched(alloc: Global, problem: &Part) -> Result<Outcome, AllocError> {
     let root = Config::root(alloc, problem)?;
     let mut memo = Forgetful { is_full: false };
     search(alloc, problem, &root, &mut memo, None, &mut NoStop)
-}
-
-// Whether the verifier takes the order that was found, if one was.
-fn is_taken(
-    alloc: Global,
-    history: &History,
-    problem: &Part,
-    outcome: &Outcome,
-) -> Result<bool, AllocError> {
-    match outcome {
-        Outcome::Found(order) => verify(alloc, history, &replayed(alloc, problem, order)?),
-        Outcome::Refuted(_) | Outcome::Undecided | Outcome::Stopped(_) => Ok(true),
-    }
-}
-
-// Whether a memo of its own makes no difference to what is answered, and the verifier takes what was found.
-fn all_agree(alloc: Global, history: &History, problem: &Part) -> Result<bool, AllocError> {
-    let plain = plainly_searched(alloc, problem)?;
-    let stored = stored_by(alloc, problem, None, &mut NoStop, &plain)?;
-    Ok(stored.is_some() && is_taken(alloc, history, problem, &plain)?)
-}
-
-// The same of the first object of a history.
-fn all_agree_on(alloc: Global, history: &History) -> Result<bool, AllocError> {
-    if history.object_count() == 0 {
-        return Ok(false);
-    }
-    all_agree(alloc, history, &history.problem(alloc, 0)?)
-}
-
-#[test]
-fn searches_and_verifier_agree(rt: HostRuntime) {
-    for seed in 0..200 {
-        let history = random_history(rt.alloc(), Kind::Register, seed);
-        assert!(rt; matches!(all_agree_on(rt.alloc(), &history), Ok(true)));
-    }
 }

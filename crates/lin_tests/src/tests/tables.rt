@@ -4,11 +4,8 @@ ghost use Rattle.std.specs.Prelude.{All, IfOk};
 ghost use Rattle.lin_table.specs.Hand.{IsHandOf};
 
 use super::fakes::Keeping;
-use super::searches::{
-    Part, READ_OF_ANOTHER_VALUE, READ_OF_NO_WRITTEN_VALUE, READ_OF_THE_LAST_VALUE, THREE_MORE,
-    posed_by, refuted_root,
-};
-use lin_object::{AnyObject, Kind};
+use super::searches::{Part, THREE_MORE, refuted_root, writes_and_a_read_of};
+use lin_object::AnyObject;
 use lin_search::{Config, Longest, Memo, NoStop, Noted, Outcome, OwnMemo, search, search_over};
 use lin_table::{Hand, HandsMissing, Shard, SharedMemo, Table};
 use std::alloc::{AllocError, Global};
@@ -29,9 +26,9 @@ struct Problems {
 // The three problems.
 fn three_problems(alloc: Global) -> Problems {
     Problems {
-        own: posed_by(alloc, Kind::Register, &READ_OF_NO_WRITTEN_VALUE),
-        other: posed_by(alloc, Kind::Register, &READ_OF_ANOTHER_VALUE),
-        found: posed_by(alloc, Kind::Register, &READ_OF_THE_LAST_VALUE),
+        own: writes_and_a_read_of(alloc, 9),
+        other: writes_and_a_read_of(alloc, 8),
+        found: writes_and_a_read_of(alloc, 3),
     }
 }
 
@@ -251,40 +248,6 @@ fn knows(
     Ok(refuted && (own, again) == (Some(THREE_MORE), Some(Noted::Known)) && hand.count() == 0)
 }
 
-// Whether one hand refutes the problem, and the other then knows what it stored.
-fn share(
-    alloc: Global,
-    table: &Table<'_, AnyObject>,
-    one: &mut Hand<AnyObject>,
-    other: &mut Hand<AnyObject>,
-    problem: &Part,
-) -> Result<bool, AllocError>
-    requires one { IsHandOf table.now one.old }
-    requires other { IsHandOf table.now other.old }
-    ensures one { IsHandOf table.now one.new }
-    ensures other { IsHandOf table.now other.new }
-{
-    let first = refutes(alloc, table, one, problem, None)?;
-    let known = knows(alloc, table, other, problem)?;
-    Ok(first && known)
-}
-
-// Whether two hands do so with all 13 configurations of the problem.
-fn two_hands_share(alloc: Global, problem: &Part) -> Result<bool, AllocError> {
-    let (table, mut hands) = Table::new(alloc, problem, 16, 2)?;
-    let (Some(mut b), Some(mut a)) = (hands.pop(), hands.pop()) else {
-        return Ok(false);
-    };
-    let shared = share(alloc, &table, &mut a, &mut b, problem)?;
-    Ok(stored_by_both(alloc, table, a, b, 13)? && shared)
-}
-
-#[test]
-fn two_hands_share_what_one_stores(rt: HostRuntime) {
-    let problem = posed_by(rt.alloc(), Kind::Register, &READ_OF_NO_WRITTEN_VALUE);
-    assert!(rt; matches!(two_hands_share(rt.alloc(), &problem), Ok(true)));
-}
-
 // What the table answers to the refuted root of the problem from one hand, and then from the other.
 fn noted_by_both(
     alloc: Global,
@@ -315,7 +278,7 @@ fn one_shard_keeps_once(alloc: Global, problem: &Part) -> Result<bool, AllocErro
 
 #[test]
 fn one_shard_keeps_once_what_two_hands_note(rt: HostRuntime) {
-    let problem = posed_by(rt.alloc(), Kind::Register, &READ_OF_NO_WRITTEN_VALUE);
+    let problem = writes_and_a_read_of(rt.alloc(), 9);
     assert!(rt; matches!(one_shard_keeps_once(rt.alloc(), &problem), Ok(true)));
 }
 
@@ -342,7 +305,7 @@ fn a_table_knows(alloc: Global, problem: &Part) -> Result<bool, AllocError> {
 
 #[test]
 fn a_table_knows_what_the_memo_below_it_has(rt: HostRuntime) {
-    let problem = posed_by(rt.alloc(), Kind::Register, &READ_OF_NO_WRITTEN_VALUE);
+    let problem = writes_and_a_read_of(rt.alloc(), 9);
     assert!(rt; matches!(a_table_knows(rt.alloc(), &problem), Ok(true)));
 }
 
@@ -473,6 +436,6 @@ fn two_threads_search<R: Threads + Sync>(
 
 #[test]
 fn two_threads_search_over_one_table(rt: HostRuntime) {
-    let problem = posed_by(rt.alloc(), Kind::Register, &READ_OF_NO_WRITTEN_VALUE);
+    let problem = writes_and_a_read_of(rt.alloc(), 9);
     assert!(rt; matches!(two_threads_search(&rt, rt.alloc(), &problem), Ok(true)));
 }

@@ -5,10 +5,10 @@ ghost use Rattle.lin_board.specs.Board.{IsSeatOf};
 ghost use Rattle.lin_table.specs.Hand.{IsHandOf};
 
 use super::boards::tallies;
-use super::searches::{Part, READ_OF_NO_WRITTEN_VALUE, posed_by};
+use super::searches::{Part, writes_and_a_read_of};
 use super::tables::{stored, stored_by_both};
 use lin_board::{Board, Seat};
-use lin_object::{AnyObject, Kind};
+use lin_object::AnyObject;
 use lin_search::{Longest, Outcome};
 use lin_table::{Hand, Table};
 use lin_workers::{Done, FreeGate, cut, work};
@@ -127,7 +127,7 @@ fn refute_one_after_the_other(alloc: Global, problem: &Part) -> Result<bool, All
 
 #[test]
 fn a_worker_refutes_each_task_and_another_finds_that(rt: HostRuntime) {
-    let problem = posed_by(rt.alloc(), Kind::Register, &READ_OF_NO_WRITTEN_VALUE);
+    let problem = writes_and_a_read_of(rt.alloc(), 9);
     assert!(rt; matches!(refute_one_after_the_other(rt.alloc(), &problem), Ok(true)));
 }
 
@@ -152,6 +152,6 @@ fn stops_after_the_first(alloc: Global, problem: &Part) -> Result<bool, AllocErr
 
 #[test]
 fn a_worker_stops_after_a_task_that_was_found(rt: HostRuntime) {
-    let problem = posed_by(rt.alloc(), Kind::Register, &READ_OF_NO_WRITTEN_VALUE);
+    let problem = writes_and_a_read_of(rt.alloc(), 9);
     assert!(rt; matches!(stops_after_the_first(rt.alloc(), &problem), Ok(true)));
 }

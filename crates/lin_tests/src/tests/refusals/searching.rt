@@ -1,10 +1,10 @@
 //! Searches whose object or memo is refused memory: at each step and copy, and at each note, in turn.
 
-use super::super::searches::{Part, READ_OF_NO_WRITTEN_VALUE, THREE_MORE, posed_by};
+use super::super::searches::{Part, THREE_MORE, writes_and_a_read_of};
 use super::super::watched::{Watch, Watched, read_of_no_written_value};
 use super::starved::{Attempt, is_refused};
 use lin_history::Problem;
-use lin_object::{AnyObject, Kind, ObjState, Op};
+use lin_object::{AnyObject, ObjState, Op};
 use lin_search::{
     CallSet, Config, Entries, Longest, Memo, NoStop, Noted, Outcome, OwnMemo, search, search_alone,
 };
@@ -108,9 +108,9 @@ fn configs_made(alloc: Global, problem: &Refused) -> Option<usize> {
     let Ok(root) = Config::root(alloc, problem) else {
         return Some(0);
     };
-    let Ok(_copy) = root.copy(alloc, problem) else {
+    if root.copy(alloc, problem).is_err() {
         return Some(1);
-    };
+    }
     if problem.len() == 0 {
         return None;
     }
@@ -200,7 +200,7 @@ const MADE: [(Made, u64); 3] = [(Made::Cut, 20), (Made::Entries, 10), (Made::Sea
 #[test]
 fn a_cut_entries_and_a_search_are_refused_or_made(rt: HostRuntime) {
     for (made, times) in MADE {
-        let problem = posed_by(rt.alloc(), Kind::Register, &READ_OF_NO_WRITTEN_VALUE);
+        let problem = writes_and_a_read_of(rt.alloc(), 9);
         assert!(rt; is_made(rt.alloc(), problem, made, times));
     }
 }
@@ -276,7 +276,7 @@ fn goes_on(alloc: Global, problem: &Part, before: u64) -> Result<bool, AllocErro
 
 #[test]
 fn a_search_goes_on_at_each_note_that_is_refused(rt: HostRuntime) {
-    let problem = posed_by(rt.alloc(), Kind::Register, &READ_OF_NO_WRITTEN_VALUE);
+    let problem = writes_and_a_read_of(rt.alloc(), 9);
     for before in 0..13 {
         assert!(rt; matches!(goes_on(rt.alloc(), &problem, before), Ok(true)));
     }

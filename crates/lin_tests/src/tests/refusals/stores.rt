@@ -2,11 +2,11 @@
 
 ghost use Rattle.lin_table.specs.Hand.{IsHandOf};
 
-use super::super::searches::{Part, READ_OF_NO_WRITTEN_VALUE, posed_by, refuted_root};
+use super::super::searches::{Part, refuted_root, writes_and_a_read_of};
 use super::super::tables::stored;
 use super::starved::{Attempt, Starved, TIMES, is_refused};
 use lin_board::Board;
-use lin_object::{AnyObject, Kind};
+use lin_object::AnyObject;
 use lin_search::{Noted, Refutation};
 use lin_table::{Hand, Shard, Table};
 use std::alloc::{AllocError, Global};
@@ -37,7 +37,7 @@ impl Attempt for Making {
 fn is_made(alloc: Global, board: bool, times: u64) -> bool {
     let mut making = Making {
         alloc,
-        problem: posed_by(alloc, Kind::Register, &READ_OF_NO_WRITTEN_VALUE),
+        problem: writes_and_a_read_of(alloc, 9),
         board,
     };
     is_refused(alloc, &mut making, times)
@@ -151,7 +151,7 @@ fn a_table_is_refused(alloc: Global, problem: &Part) -> Result<bool, AllocError>
 
 #[test]
 fn a_pair_is_refused_or_stored(rt: HostRuntime) {
-    let problem = posed_by(rt.alloc(), Kind::Register, &READ_OF_NO_WRITTEN_VALUE);
+    let problem = writes_and_a_read_of(rt.alloc(), 9);
     assert!(rt; matches!(a_shard_is_refused(rt.alloc(), &problem), Ok(true)));
     assert!(rt; matches!(a_table_is_refused(rt.alloc(), &problem), Ok(true)));
 }
