@@ -136,8 +136,8 @@ fn moments_of(
     let mut backs = vec![in alloc; never; problem.len()]?;
     for event in events {
         let (moments, call, returns) = match event {
-            ProblemEvent::Call(call) => (&mut calls, *call, false),
-            ProblemEvent::Return(call) => (&mut backs, *call, true),
+            ProblemEvent::Call(call) => (&mut calls, *call as usize, false),
+            ProblemEvent::Return(call) => (&mut backs, *call as usize, true),
         };
         if let Some(moment) = moments.get_mut(call) {
             *moment = now;
@@ -220,9 +220,9 @@ impl<'a> Timeline<'a> {
         let end = last.call.place.min(self.events.len());
         for place in (end.saturating_sub(most)..end).rev() {
             match self.events.get(place)? {
-                ProblemEvent::Call(call) => must = self.with_call(must, *call, end),
+                ProblemEvent::Call(call) => must = self.with_call(must, *call as usize, end),
                 ProblemEvent::Return(call) => {
-                    let guess = self.guess_from(Some(*call), get, last, must);
+                    let guess = self.guess_from(Some(*call as usize), get, last, must);
                     if guess.is_some() {
                         return guess;
                     }
@@ -246,18 +246,19 @@ impl<'a> Timeline<'a> {
                 return Ok(None);
             }
             match event {
-                ProblemEvent::Call(call) => rooms.note_call(*call),
-                ProblemEvent::Return(get) => {
-                    let Some(last) = self.find(*get) else {
+                ProblemEvent::Call(call) => rooms.note_call(*call as usize),
+                ProblemEvent::Return(call) => {
+                    let get = *call as usize;
+                    let Some(last) = self.find(get) else {
                         continue;
                     };
                     let mut most = NEAR_EVENTS;
-                    if known < MOST_KNOWN && rooms.is_known(*get, &last) {
+                    if known < MOST_KNOWN && rooms.is_known(get, &last) {
                         known += 1;
                         most = self.events.len();
                     }
                     rooms.note_return(&last);
-                    best = better(best, self.nearest(*get, &last, most));
+                    best = better(best, self.nearest(get, &last, most));
                 }
             }
         }

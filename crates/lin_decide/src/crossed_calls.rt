@@ -51,11 +51,11 @@ pub(crate) fn some_cross(
     for index in 0..events.len() {
         match events[index] {
             ProblemEvent::Call(call) => {
-                if is_needed_before(rows, call, most) {
+                if is_needed_before(rows, call as usize, most) {
                     return Ok(true);
                 }
             }
-            ProblemEvent::Return(call) => most = most_with(rows, call, most),
+            ProblemEvent::Return(call) => most = most_with(rows, call as usize, most),
         }
     }
     Ok(false)

@@ -11,8 +11,8 @@ use std::marker::Model;
 /// Where the entries of a problem's calls are. Contracts see the two lists.
 #[derive(Drop)]
 pub(crate) struct CallEntries {
-    called: Vec<usize>,
-    returned: Vec<Option<usize>>,
+    called: Vec<u16>,
+    returned: Vec<Option<u16>>,
 }
 
 impl Model for CallEntries {
@@ -30,7 +30,7 @@ impl CallEntries {
         calls: usize,
         events: &[ProblemEvent],
     ) -> Result<CallEntries, AllocError>
-        requires room { length events.now < 2 ^ 63 }
+        requires room { length events.now < 2 ^ 16 }
         requires called { (i c : ℕ) → slice_get events.now i ≡ Some (Call c) → c < calls }
         requires returned { (i c : ℕ) → slice_get events.now i ≡ Some (Return c) → c < calls }
         requires once { (i j : ℕ) (e : Event) → slice_get events.now i ≡ Some e
@@ -41,8 +41,8 @@ impl CallEntries {
         let mut returned = vec![in alloc; None; calls]?;
         for place in 0..events.len() {
             match events[place] {
-                ProblemEvent::Call(call) => called[call] = place + 1,
-                ProblemEvent::Return(call) => returned[call] = Some(place + 1),
+                ProblemEvent::Call(call) => called[call as usize] = (place + 1) as u16,
+                ProblemEvent::Return(call) => returned[call as usize] = Some((place + 1) as u16),
             }
         }
         Ok(CallEntries { called, returned })
@@ -53,7 +53,7 @@ impl CallEntries {
         requires { call < length self.now.called }
         ensures { result ≡ slice_index self.now.called call }
     {
-        self.called[call]
+        self.called[call] as usize
     }
 
     /// The return entry of the call; `None` where it is pending.
@@ -61,6 +61,9 @@ impl CallEntries {
         requires { call < length self.now.returned }
         ensures { slice_get self.now.returned call ≡ Some result }
     {
-        self.returned[call]
+        match self.returned[call] {
+            Some(entry) => Some(entry as usize),
+            None => None,
+        }
     }
 }

@@ -13,7 +13,7 @@ ghost use Rattle.lin_search.specs.EntryLinks.{CanTakeOut, CanPutBack, call_of_ev
 
 use crate::call_entries::CallEntries;
 use crate::links::Links;
-use lin_history::{Problem, ProblemEvent};
+use lin_history::{MAX_CALLS_ON_OBJECT, Problem, ProblemEvent};
 use lin_object::SeqObject;
 use std::alloc::{AllocError, Global};
 use std::marker::Model;
@@ -30,7 +30,7 @@ pub struct Entries<'p, O: SeqObject> {
     events: Vec<ProblemEvent>,
     places: CallEntries,
     links: Links,
-    lifted: Vec<usize>,
+    lifted: Vec<u16>,
     left: usize,
 }
 
@@ -67,7 +67,7 @@ fn called_at(event: &ProblemEvent) -> Option<usize>
     ensures { result ≡ call_of_event (Some event.now) }
 {
     match event {
-        ProblemEvent::Call(call) => Some(*call),
+        ProblemEvent::Call(call) => Some(*call as usize),
         ProblemEvent::Return(_) => None,
     }
 }
@@ -115,7 +115,7 @@ fn row_of(
     calls: usize,
     events: &[ProblemEvent],
 ) -> Result<(CallEntries, Links), AllocError>
-    requires room { length events.now < 2 ^ 63 }
+    requires room { length events.now + 2 < 2 ^ 16 }
     requires called { (i c : ℕ) → slice_get events.now i ≡ Some (Call c) → c < calls }
     requires returned { (i c : ℕ) → slice_get events.now i ≡ Some (Return c) → c < calls }
     requires once { (i j : ℕ) (e : Event) → slice_get events.now i ≡ Some e
@@ -134,6 +134,8 @@ impl<'p, O: SeqObject> Entries<'p, O> {
         ensures { IfOk result (λ entries. entries ≡ record { problem = problem.now; lifted = [] }) }
     {
         let lifted = Vec::with_capacity(alloc, problem.len())?;
+        let calls = problem.calls().len();
+        prove!(calls <= MAX_CALLS_ON_OBJECT);
         let events = problem.timeline(alloc)?;
         let (places, links) = row_of(alloc, problem.len(), events.as_slice())?;
         Ok(Entries {
@@ -165,11 +167,13 @@ impl<'p, O: SeqObject> Entries<'p, O> {
           lifted = self.old.lifted ++ call ∷ [];
         } }
     {
+        let calls = self.problem.calls().len();
+        prove!(calls <= MAX_CALLS_ON_OBJECT);
         take_out(&mut self.links, &self.places, call);
         if self.problem.call(call).returned.is_some() {
             self.left -= 1;
         }
-        self.lifted.push_reserved(call);
+        self.lifted.push_reserved(call as u16);
     }
 
     /// Puts the entries of the call in again at their places. Condition: it is the call that was lifted last. It takes

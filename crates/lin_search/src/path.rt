@@ -24,7 +24,7 @@ use std::marker::Model;
 #[derive(Drop)]
 pub struct Frame<O: SeqObject> {
     back: StepBack<O::State>,
-    call: usize,
+    call: u16,
     longest: Longest,
 }
 
@@ -41,7 +41,7 @@ impl<O: SeqObject> Frame<O> {
     pub fn call(&self) -> usize
         ensures { result ≡ self.now.call }
     {
-        self.call
+        self.call as usize
     }
 
     /// What the calls before it show.
@@ -59,7 +59,7 @@ impl<O: SeqObject> Frame<O> {
             → result ≡ record { more = deep.more + 1; first = Some self.now.call } }
         ensures not_longer { deep.more + 1 ≤ self.now.longest.more → result ≡ self.now.longest }
     {
-        self.longest.or_after(self.call, deep)
+        self.longest.or_after(self.call as usize, deep)
     }
 }
 
@@ -73,7 +73,7 @@ fn order_through<O: SeqObject>(
 {
     let mut calls = Vec::new(alloc);
     for frame in frames {
-        calls.push(frame.call)?;
+        calls.push(frame.call as usize)?;
     }
     calls.push(call)?;
     Ok(Order::new(calls))
@@ -143,10 +143,11 @@ impl<'p, O: SeqObject> Path<'p, O> {
         ensures config { IfOk result (λ path. path.config ≡ config) }
         ensures frames { IfOk result (λ path. path.frames.items ≡ []) }
     {
+        let entries = entries_without(alloc, problem, &config)?;
         Ok(Path {
             alloc,
             frames: Vec::with_capacity(alloc, problem.len())?,
-            entries: entries_without(alloc, problem, &config)?,
+            entries,
             config,
         })
     }
@@ -314,10 +315,12 @@ impl<'p, O: SeqObject> Path<'p, O> {
         let Some(back) = self.config.lift(self.alloc, problem, call)? else {
             return Ok(None);
         };
+        let calls = problem.calls().len();
+        prove!(calls <= MAX_CALLS_ON_OBJECT);
         self.entries.lift(call);
         Ok(Some(Frame {
             back,
-            call,
+            call: call as u16,
             longest,
         }))
     }
@@ -347,7 +350,7 @@ impl<'p, O: SeqObject> Path<'p, O> {
         ensures state { IfOk result (λ done. self.new.config.state
             ≡ state_before O.undone frame.back self.old.config.state) }
     {
-        let call = frame.call;
+        let call = frame.call as usize;
         let object = self.entries.problem().object();
         self.entries.unlift(call);
         let mut back = frame.back;
@@ -387,7 +390,7 @@ impl<'p, O: SeqObject> Path<'p, O> {
     {
         let calls = self.entries.problem().calls().len();
         prove!(calls <= MAX_CALLS_ON_OBJECT);
-        let call = frame.call;
+        let call = frame.call as usize;
         let longest = frame.longest_with(deep);
         self.unlift(frame)?;
         Ok(self.after(call, longest))

@@ -65,11 +65,11 @@ fn turn_of(event: &ProblemEvent, returns: bool) -> Turn
 {
     match event {
         ProblemEvent::Call(call) => Turn {
-            call: *call,
+            call: *call as usize,
             counts: !returns,
         },
         ProblemEvent::Return(call) => Turn {
-            call: *call,
+            call: *call as usize,
             counts: returns,
         },
     }

@@ -112,10 +112,10 @@ fn moments_of(alloc: Global, problem: &Problem<AnyObject>) -> Result<Moments, Al
         match event {
             ProblemEvent::Call(_) => count = count.saturating_add(1),
             ProblemEvent::Return(call) => {
-                if let Some(slot) = called.get_mut(*call) {
+                if let Some(slot) = called.get_mut(*call as usize) {
                     *slot = count;
                 }
-                returned.push(*call)?;
+                returned.push(*call as usize)?;
             }
         }
     }

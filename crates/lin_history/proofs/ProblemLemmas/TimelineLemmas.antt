@@ -5,8 +5,9 @@ use Rattle.std.specs.Prelude.{IsSomeAnd, option_map}
 use Rattle.std.specs.List.Sorted.{IsPermutation, IsNonDecreasingBy}
 use Rattle.std.proofs.lemmas.Bool.{cases_lt}
 use Rattle.std.proofs.lemmas.Option.{slice_get-map, slice_get_within, slice_get-get_or, get_or_from_slice_get, same_Some}
+use Rattle.std.proofs.lemmas.List.{length-append, length-map}
 use Rattle.std.proofs.lemmas.List.Edits.{Swapped, swapped_from_swap, length-swap}
-use Rattle.std.proofs.lemmas.List.Sorted.{IsPermutation-keeps, IsPermutation-sym, IsPermutation-trans, IsPermutation-append_comm, IsPermutation-append_right, IsPermutation-append_left, IsPermutation-refl, Contains-permutation}
+use Rattle.std.proofs.lemmas.List.Sorted.{IsPermutation-keeps, IsPermutation-sym, IsPermutation-trans, IsPermutation-append_comm, IsPermutation-append_right, IsPermutation-append_left, IsPermutation-refl, Contains-permutation, length_permutation}
 use Rattle.lin_history.specs.declared.problems.problem.ProblemCall.{ProblemCall}
 use Rattle.lin_history.specs.declared.problems.timeline.Timed.{Timed}
 use Rattle.lin_history.specs.declared.problems.timeline.ProblemEvent.{ProblemEvent}
@@ -244,6 +245,18 @@ sorted_before s i j t u up e f h = elim (cases_lt i j) [
   | inr q ↦ (let low = sorted_low s j i u t up q f e in absurd (omega (arith, low, h)))
 ]
 
+few_returns : {Reply : Type 0} → (n : ℕ) (o : Option (ℕ × Reply)) → length (return_of n o) ≤ 1
+few_returns n None = omega arith
+few_returns n (Some r) = omega arith
+
+few_events : {Op Reply : Type 0} → (n : ℕ) (cs : List (ProblemCall Op Reply)) → length (events_from n cs) ≤ length cs + length cs
+few_events n [] = omega arith
+few_events n (x ∷ xs) =
+    let few = few_returns n x.returned in
+    let rest = few_events (n + 1) xs in
+    let both = length-append (return_of n x.returned) (events_from (n + 1) xs) in
+    omega (arith, few, rest, both)
+
 module _ {State Op Reply : Type 0} (p : Problem State Op Reply) (timed : AreTimed p.calls) (s : List Timed) (up : IsNonDecreasingBy number_at s) (moved : IsPermutation (events_from 0 p.calls) s) where
   from_sorted : (i : ℕ) (t : Timed) → slice_get s i ≡ Some t → Has t (events_from 0 p.calls)
   from_sorted i t e = has_sorted s (events_from 0 p.calls) t (IsPermutation-sym (events_from 0 p.calls) s moved) (has_at s i t e)
@@ -354,6 +367,13 @@ module _ {State Op Reply : Type 0} (p : Problem State Op Reply) (timed : AreTime
       let a = t.2 in let b = u.2 in
       omega (arith, low, a, b)
 
+  few_sorted : length (map event_at s) ≤ length p.calls + length p.calls
+  few_sorted =
+      let few = few_events 0 p.calls in
+      let moves = length_permutation (events_from 0 p.calls) s moved in
+      let bare = length-map s event_at in
+      omega (arith, few, moves, bare)
+
   timeline_sorted : IsTimeline p (map event_at s)
   timeline_sorted = record {
     called = has_called;
@@ -365,6 +385,7 @@ module _ {State Op Reply : Type 0} (p : Problem State Op Reply) (timed : AreTime
     in_order = λ a b i j e f h. calls_rise a b i j (call_at i a e) (call_at j b f) h;
     after_call = λ a i j e f. returns_after a i j (call_at i a e) (return_at j a f);
     precedence = λ a b i j e f. (λ h. comes_before a b i j (return_at i a e) (call_at j b f) h, λ h. stands_before a b i j (return_at i a e) (call_at j b f) h);
+    few = few_sorted;
   }
 
 -- the events of the timeline are those of the calls, sorted by their numbers

@@ -1,5 +1,5 @@
 -- The call and return events of a problem in the order of their numbers.
-use Rattle.std.specs.Prelude.{◌≡◌, ◌↔◌, ℕ, ◌<◌, ◌≤◌, Some, IsSomeAnd, List, length, slice_get}
+use Rattle.std.specs.Prelude.{◌≡◌, ◌↔◌, ℕ, ◌+◌, ◌<◌, ◌≤◌, Some, IsSomeAnd, List, length, slice_get}
 use Rattle.lin_history.specs.declared.problems.timeline.ProblemEvent.{ProblemEvent}
 use Rattle.lin_history.specs.declared.problems.timeline.ProblemEvent.TheVariants.{Call, Return}
 use Rattle.lin_history.specs.Problems.Problem.{Problem}
@@ -12,7 +12,8 @@ HasNumber p (Return c) n = IsSomeAnd (slice_get p.calls c) (λ x. IsSomeAnd x.re
 
 -- The list has the call event of each call and the return event of each completed call, each of them once and nothing
 -- else, in the order of the events' numbers. So calls are called in the order of their own numbers, each returns after it
--- was called, and a return comes before a call exactly where the one call precedes the other.
+-- was called, and a return comes before a call exactly where the one call precedes the other; and there are no more than two
+-- events of each call.
 pub record IsTimeline {State Op Reply : Type 0} (p : Problem State Op Reply) (events : List ProblemEvent) : Type 0 where
   pub called : (c : ℕ) → c < length p.calls → (i : ℕ) × (slice_get events i ≡ Some (Call c))
   pub returned : (c : ℕ) → IsCompleted p c → (i : ℕ) × (slice_get events i ≡ Some (Return c))
@@ -23,3 +24,4 @@ pub record IsTimeline {State Op Reply : Type 0} (p : Problem State Op Reply) (ev
   pub in_order : (a b i j : ℕ) → slice_get events i ≡ Some (Call a) → slice_get events j ≡ Some (Call b) → a < b → i < j
   pub after_call : (a i j : ℕ) → slice_get events i ≡ Some (Call a) → slice_get events j ≡ Some (Return a) → i < j
   pub precedence : (a b i j : ℕ) → slice_get events i ≡ Some (Return a) → slice_get events j ≡ Some (Call b) → i < j ↔ Before p a b
+  pub few : length events ≤ length p.calls + length p.calls

@@ -16,10 +16,10 @@ use std::marker::Model;
 pub struct ProblemCall<P, R> {
     /// The process that made the call.
     pub process: u32,
-    /// What it called.
-    pub op: P,
     /// The number of the call event.
     pub called: u32,
+    /// What it called.
+    pub op: P,
     /// The number of the return event, and the reply; `None` while the call is pending.
     pub returned: Option<(u32, R)>,
 }

@@ -1,22 +1,23 @@
 //! The events of a problem in the order of their numbers.
 
-ghost use Rattle.std.specs.Prelude.{◌≡◌, ◌++◌, map, IfOk, OnOk};
+ghost use Rattle.std.specs.Prelude.{◌≡◌, ◌<◌, ◌≤◌, ◌++◌, length, map, IfOk, OnOk};
 ghost use Rattle.std.specs.List.Sorted.{IsPermutation, IsNonDecreasingBy};
 ghost use Rattle.lin_history.specs.Problems.Problem.{problem_of};
 ghost use Rattle.lin_history.specs.Problems.Timeline.{IsTimeline};
 ghost use Rattle.lin_history.specs.Problems.NumberedEvents.{number_at, event_at, return_of, calls_from, returns_from};
 
+use crate::limits::MAX_CALLS_ON_OBJECT;
 use crate::problems::problem::{Problem, ProblemCall};
 use lin_object::SeqObject;
 use std::alloc::{AllocError, Global};
 
-/// An event of a problem, by the number of its call.
+/// An event of a problem, by the number of its call: a problem has no more than 16,384 of them.
 #[derive(Clone, Copy, PartialEq, Eq, Debug)]
 pub enum ProblemEvent {
     /// The call is called.
-    Call(usize),
+    Call(u16),
     /// The call returns.
-    Return(usize),
+    Return(u16),
 }
 
 // An event with its number.
@@ -28,13 +29,14 @@ struct Timed {
 
 // The call events of the calls, which are in order already.
 fn call_events<P, R>(alloc: Global, calls: &[ProblemCall<P, R>]) -> Result<Vec<Timed>, AllocError>
+    requires { length calls.now ≤ MAX_CALLS_ON_OBJECT }
     ensures { IfOk result (λ timed. timed.items ≡ calls_from 0 calls.now) }
 {
     let mut timed = Vec::with_capacity(alloc, calls.len())?;
     for call in 0..calls.len() {
         timed.push(Timed {
             number: calls[call].called,
-            event: ProblemEvent::Call(call),
+            event: ProblemEvent::Call(call as u16),
         })?;
     }
     Ok(timed)
@@ -46,13 +48,14 @@ fn add_return<P, R>(
     call: usize,
     made: &ProblemCall<P, R>,
 ) -> Result<(), AllocError>
+    requires { call < MAX_CALLS_ON_OBJECT }
     ensures { OnOk result (timed.new.items
         ≡ timed.old.items ++ return_of call made.now.returned) }
 {
     if let Some((number, _)) = &made.returned {
         timed.push(Timed {
             number: *number,
-            event: ProblemEvent::Return(call),
+            event: ProblemEvent::Return(call as u16),
         })?;
     }
     Ok(())
@@ -60,6 +63,7 @@ fn add_return<P, R>(
 
 // Appends the return events of the calls, call by call.
 fn add_returns<P, R>(timed: &mut Vec<Timed>, calls: &[ProblemCall<P, R>]) -> Result<(), AllocError>
+    requires { length calls.now ≤ MAX_CALLS_ON_OBJECT }
     ensures { OnOk result (timed.new.items ≡ timed.old.items ++ returns_from 0 calls.now) }
 {
     for call in 0..calls.len() {

@@ -39,14 +39,14 @@ pub(crate) enum Mark {
 pub struct CallInfo {
     /// The process that made it.
     pub process: u32,
+    /// The number of its call event, from 1.
+    pub called: u32,
     /// The index of its object, in the order of declaration.
     pub object: usize,
     /// Its number among the calls on its object, from 0.
     pub number: usize,
     /// What it called.
     pub op: Op,
-    /// The number of its call event, from 1.
-    pub called: u32,
     /// The number of its return event, and the reply; `None` while it is pending.
     pub returned: Option<(u32, Reply)>,
     // what a builder was told of it; in a history nothing
