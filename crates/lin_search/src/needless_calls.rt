@@ -172,8 +172,13 @@ fn latest_of_one_operation<O: SeqObject>(
 /// They are hints: nothing is promised of the numbers, so who goes by them asks `repeats` or `adds_nothing` again.
 #[derive(Drop)]
 pub struct IdenticalCalls {
-    repeated: Vec<usize>,
-    completed: Vec<usize>,
+    repeated: Vec<u16>,
+    completed: Vec<u16>,
+}
+
+// The number of the call as it is kept: a problem has no more calls than such numbers.
+fn kept(call: usize) -> u16 {
+    usize::min(call, u16::MAX as usize) as u16
 }
 
 impl IdenticalCalls {
@@ -200,14 +205,14 @@ impl IdenticalCalls {
             keep_open(problem, &mut completed, made.called);
             if made.returned.is_some() {
                 let earlier = latest_repeated(problem, completed.as_slice(), call);
-                identical.repeated.push(earlier)?;
-                identical.completed.push(call)?;
+                identical.repeated.push(kept(earlier))?;
+                identical.completed.push(kept(call))?;
                 bring_in_sight(&mut completed, call)?;
             } else {
                 let earlier = latest_repeated(problem, pending.as_slice(), call);
-                identical.repeated.push(earlier)?;
+                identical.repeated.push(kept(earlier))?;
                 let earlier = latest_of_one_operation(problem, completed.as_slice(), call);
-                identical.completed.push(earlier)?;
+                identical.completed.push(kept(earlier))?;
                 bring_in_sight(&mut pending, call)?;
             }
         }
@@ -216,11 +221,11 @@ impl IdenticalCalls {
 
     /// A call that this one may repeat.
     pub fn repeated_by(&self, call: usize) -> Option<usize> {
-        self.repeated.get(call).copied()
+        Some(*self.repeated.get(call)? as usize)
     }
 
     /// A completed call of the operation of this one, which is pending.
     pub fn completed_before(&self, call: usize) -> Option<usize> {
-        self.completed.get(call).copied()
+        Some(*self.completed.get(call)? as usize)
     }
 }
