@@ -40,7 +40,8 @@
 //!   there are more runs than lifts may be made, or if the stop answered. No clause says which calls it passes over. The search
 //!   itself is generic in the object and in its rules (`Rules`, one impl for each kind): they are told of each lift and of each
 //!   call that is put back, and say of a call that it begins no completion, or that it begins none by the state it leads to. It
-//!   keeps by itself to what holds of all kinds, the repeated calls.
+//!   keeps by itself to what holds of all kinds, the repeated calls. What it refutes it puts to a set (`RefutedSet`), from which a
+//!   later search of the same problem goes on.
 //! - `some_came_too_early` and `some_was_taken_twice` answer exactly whether an item of a queue or a stack that starts empty is
 //!   *impossible* so; then there is no linearization. `are_in_vain` answers yes only if there is none: where what is told of values
 //!   shows it, a push of a stack crosses a call, or two acquires of a mutex exclude each other.
@@ -158,6 +159,7 @@ mod sum_tree;
 mod values;
 
 pub use counters::rows::{SumLimit, SumRows};
+pub use first::refuted_set::RefutedSet;
 pub use in_vain::are_in_vain;
 pub use items::impossible_items::some_came_too_early;
 pub use items::late_pushes::LateRows;

@@ -19,16 +19,20 @@ ghost use Rattle.lin_history.specs.Problems.Problem.{Problem as ProblemOf};
 ghost use Rattle.lin_history.specs.Problems.AnyProblem.{any_problem};
 ghost use Rattle.lin_history.specs.Problems.Linearizations.{IsLinearization};
 ghost use Rattle.lin_ahead.specs.Behind.{IsRightAhead};
+ghost use Rattle.lin_ahead.specs.First.FirstProgress.{AreRefuted};
+ghost use Rattle.lin_decide.specs.Begun.{IsBegunOf};
+ghost use Rattle.lin_fewer.specs.Knowledge.{AreJudged};
 ghost use Rattle.lin_effort.specs.Decision.{IsDecisionOf};
 ghost use Rattle.lin_search.specs.Told.{IsRightOf};
 
+use crate::begun::Begun;
 use crate::keys::key_search::search_by_key;
 use crate::shown::shows_none;
-use lin_ahead::{KnownAhead, held_until, known_ahead, search_first};
+use lin_ahead::{KnownAhead, RefutedSet, held_until, known_ahead, search_first};
 use lin_effort::efforts::{bound, lifts_within, may_take_steps};
 use lin_effort::{Decide, Decision, Effort, Keys, Meter, Work};
 use lin_fewer::{
-    ItemRules, SumRules, has_many_pending, is_refuted_with_any_adds, least_linearization,
+    ItemRules, Judged, SumRules, has_many_pending, is_refuted_with_any_adds, least_linearization,
     shows_linearization,
 };
 use lin_history::{Order, Problem};
@@ -78,35 +82,41 @@ fn told_by_key<S: Stop>(
 fn told_in_steps<S: Stop>(
     alloc: Global,
     problem: &Problem<AnyObject>,
+    judged: &mut Judged<AnyObject>,
     steps: u64,
     stop: &mut S,
 ) -> Result<Told, AllocError>
-    ensures { IfOk result (IsRightOf (any_problem problem.now)) }
+    requires { AreJudged (any_problem problem.now) judged.old }
+    ensures judged { AreJudged (any_problem problem.now) judged.new }
+    ensures told { IfOk result (IsRightOf (any_problem problem.now)) }
 {
     if has_items(problem) {
         let rules = ItemRules::of(alloc, problem)?;
-        return least_linearization(alloc, problem, &rules, steps, stop);
+        return least_linearization(alloc, problem, &rules, judged, steps, stop);
     }
     let rules = SumRules::of(alloc, problem)?;
-    least_linearization(alloc, problem, &rules, steps, stop)
+    least_linearization(alloc, problem, &rules, judged, steps, stop)
 }
 
 // Whether such a search finds in so many steps that there is an order.
 fn shows_order_in_steps<S: Stop>(
     alloc: Global,
     problem: &Problem<AnyObject>,
+    judged: &mut Judged<AnyObject>,
     steps: u64,
     stop: &mut S,
 ) -> Result<bool, AllocError>
-    ensures { IfOk result (λ shown. IsTrue shown
+    requires { AreJudged (any_problem problem.now) judged.old }
+    ensures judged { AreJudged (any_problem problem.now) judged.new }
+    ensures shown { IfOk result (λ shown. IsTrue shown
         → (l : List ℕ) × IsLinearization (any_problem problem.now) l) }
 {
     if has_items(problem) {
         let rules = ItemRules::of(alloc, problem)?;
-        return shows_linearization(alloc, problem, &rules, steps, stop);
+        return shows_linearization(alloc, problem, &rules, judged, steps, stop);
     }
     let rules = SumRules::of(alloc, problem)?;
-    shows_linearization(alloc, problem, &rules, steps, stop)
+    shows_linearization(alloc, problem, &rules, judged, steps, stop)
 }
 
 // What a search tells that keeps what it refuted: key by key before it, where the effort says so.
@@ -134,30 +144,51 @@ fn told_in_order<S: Stop>(
     alloc: Global,
     problem: &Problem<AnyObject>,
     known: &Option<KnownAhead>,
-    keys: Keys,
-    lifts: u64,
+    refuted: &mut RefutedSet<AnyObject>,
+    effort: &Effort,
+    stop: &mut S,
+) -> Result<Told, AllocError>
+    requires known { IfSome known.now (IsRightAhead (any_problem problem.now)) }
+    requires refuted { AreRefuted (any_problem problem.now) refuted.old }
+    ensures refuted { AreRefuted (any_problem problem.now) refuted.new }
+    ensures told { IfOk result (IsRightOf (any_problem problem.now)) }
+{
+    let Some(ahead) = known else {
+        return told_in_full(alloc, problem, effort.keys, effort.lifts, stop);
+    };
+    if is_set(problem) {
+        match told_in_full(alloc, problem, Keys::Never, effort.lifts, stop)? {
+            Told::Nothing => {}
+            told => return Ok(told),
+        }
+    }
+    search_first(alloc, problem, ahead, refuted, effort.lifts, stop)
+}
+
+// The same, where no other such search goes before or behind it, and none goes key by key.
+fn told_once_in_order<S: Stop>(
+    alloc: Global,
+    problem: &Problem<AnyObject>,
+    known: &Option<KnownAhead>,
+    effort: &Effort,
     stop: &mut S,
 ) -> Result<Told, AllocError>
     requires { IfSome known.now (IsRightAhead (any_problem problem.now)) }
     ensures { IfOk result (IsRightOf (any_problem problem.now)) }
 {
-    let Some(ahead) = known else {
-        return told_in_full(alloc, problem, keys, lifts, stop);
+    let effort = Effort {
+        keys: Keys::Never,
+        ..*effort
     };
-    if is_set(problem) {
-        match told_in_full(alloc, problem, Keys::Never, lifts, stop)? {
-            Told::Nothing => {}
-            told => return Ok(told),
-        }
-    }
-    search_first(alloc, problem, ahead, lifts, stop)
+    let mut refuted = RefutedSet::new(alloc);
+    told_in_order(alloc, problem, known, &mut refuted, &effort, stop)
 }
 
 // Whether the problem has no linearization, by what shows without a search, or by a search that goes by the order of the calls.
 fn has_none_in_order<S: Stop>(
     alloc: Global,
     problem: &Problem<AnyObject>,
-    lifts: u64,
+    effort: &Effort,
     stop: &mut S,
 ) -> Result<bool, AllocError>
     ensures { IfOk result (λ none. IsTrue none
@@ -167,7 +198,7 @@ fn has_none_in_order<S: Stop>(
     if shows_none(alloc, problem, &known)? {
         return Ok(true);
     }
-    match told_in_order(alloc, problem, &known, Keys::Never, lifts, stop)? {
+    match told_once_in_order(alloc, problem, &known, effort, stop)? {
         Told::Refuted => Ok(true),
         Told::Found(_) | Told::Nothing => Ok(false),
     }
@@ -177,11 +208,11 @@ fn has_none_in_order<S: Stop>(
 fn order_of<S: Stop>(
     alloc: Global,
     problem: &Problem<AnyObject>,
-    lifts: u64,
+    effort: &Effort,
     stop: &mut S,
 ) -> Result<Option<Order>, AllocError> {
     let known = known_ahead(alloc, problem)?;
-    match told_in_order(alloc, problem, &known, Keys::Never, lifts, stop)? {
+    match told_once_in_order(alloc, problem, &known, effort, stop)? {
         Told::Found(order) => Ok(Some(order)),
         Told::Refuted | Told::Nothing => Ok(None),
     }
@@ -230,8 +261,8 @@ impl<'a, S: Stop> Ladder<'a, S> {
 
     // How many steps a search makes that tries pending calls only between completed ones, of the parts of a problem with many of them: none
     // where that is no good bet.
-    fn steps_by_blocks(&self, problem: &Problem<AnyObject>, effort: &Effort, lifts: u64) -> u64 {
-        let steps = lifts.saturating_mul(effort.steps_for_a_lift);
+    fn steps_by_blocks(&self, problem: &Problem<AnyObject>, effort: &Effort) -> u64 {
+        let steps = effort.lifts.saturating_mul(effort.steps_for_a_lift);
         if self.has_many_pending && may_take_steps(problem, steps) {
             steps
         } else {
@@ -244,74 +275,88 @@ impl<'a, S: Stop> Ladder<'a, S> {
         &mut self,
         alloc: Global,
         problem: &Problem<AnyObject>,
+        judged: &mut Judged<AnyObject>,
         steps: u64,
     ) -> Result<Told, AllocError>
-        ensures { IfOk result (IsRightOf (any_problem problem.now)) }
+        requires { AreJudged (any_problem problem.now) judged.old }
+        ensures judged { AreJudged (any_problem problem.now) judged.new }
+        ensures told { IfOk result (IsRightOf (any_problem problem.now)) }
     {
         self.meter.take_each(Work::STEP);
-        let told = told_in_steps(alloc, problem, steps, &mut self.meter)?;
+        let told = told_in_steps(alloc, problem, judged, steps, &mut self.meter)?;
         self.meter.take_each(Work::LIFT);
         Ok(told)
     }
 
-    // What such a search tells, with as many steps as the effort has for so many lifts.
+    // What such a search tells, with as many steps as the effort has for its lifts.
     fn told_by_blocks(
         &mut self,
         alloc: Global,
         problem: &Problem<AnyObject>,
+        judged: &mut Judged<AnyObject>,
         effort: &Effort,
-        lifts: u64,
     ) -> Result<Told, AllocError>
-        ensures { IfOk result (IsRightOf (any_problem problem.now)) }
+        requires { AreJudged (any_problem problem.now) judged.old }
+        ensures judged { AreJudged (any_problem problem.now) judged.new }
+        ensures told { IfOk result (IsRightOf (any_problem problem.now)) }
     {
-        let steps = self.steps_by_blocks(problem, effort, lifts);
+        let steps = self.steps_by_blocks(problem, effort);
         if steps == 0 {
             return Ok(Told::Nothing);
         }
-        self.told_in_steps(alloc, problem, steps)
+        self.told_in_steps(alloc, problem, judged, steps)
     }
 
-    // What a search tells that goes by the order of the calls, with so many lifts: a first search asks before each call that it tries.
+    // What a search tells that goes by the order of the calls: a first search asks before each call that it tries.
     fn told_in_order(
         &mut self,
         alloc: Global,
         problem: &Problem<AnyObject>,
         known: &Option<KnownAhead>,
+        refuted: &mut RefutedSet<AnyObject>,
         effort: &Effort,
-        lifts: u64,
     ) -> Result<Told, AllocError>
-        requires { IfSome known.now (IsRightAhead (any_problem problem.now)) }
-        ensures { IfOk result (IsRightOf (any_problem problem.now)) }
+        requires known { IfSome known.now (IsRightAhead (any_problem problem.now)) }
+        requires refuted { AreRefuted (any_problem problem.now) refuted.old }
+        ensures refuted { AreRefuted (any_problem problem.now) refuted.new }
+        ensures told { IfOk result (IsRightOf (any_problem problem.now)) }
     {
-        let keys = effort.keys;
         if known.is_some() {
             self.meter.take_each(Work::TRY);
         }
-        let told = told_in_order(alloc, problem, known, keys, lifts, &mut self.meter)?;
+        let told = told_in_order(alloc, problem, known, refuted, effort, &mut self.meter)?;
         self.meter.take_each(Work::LIFT);
         Ok(told)
     }
 
-    // What one round tells, with so many lifts for each search. Of a counter that by blocks goes first.
+    // What one round tells, with the effort's lifts for each search. Of a counter that by blocks goes first.
     fn round(
         &mut self,
         alloc: Global,
         problem: &Problem<AnyObject>,
         known: &Option<KnownAhead>,
+        begun: &mut Begun,
         effort: &Effort,
-        lifts: u64,
     ) -> Result<Told, AllocError>
-        requires { IfSome known.now (IsRightAhead (any_problem problem.now)) }
-        ensures { IfOk result (IsRightOf (any_problem problem.now)) }
+        requires known { IfSome known.now (IsRightAhead (any_problem problem.now)) }
+        requires begun { IsBegunOf (any_problem problem.now) begun.old }
+        ensures begun { IsBegunOf (any_problem problem.now) begun.new }
+        ensures told { IfOk result (IsRightOf (any_problem problem.now)) }
     {
         if is_counter(problem) {
-            return match self.told_by_blocks(alloc, problem, effort, lifts)? {
-                Told::Nothing => self.told_in_order(alloc, problem, known, effort, lifts),
+            return match self.told_by_blocks(alloc, problem, &mut begun.judged, effort)? {
+                Told::Nothing => self.told_in_order(
+                    alloc,
+                    problem,
+                    known,
+                    &mut begun.refuted,
+                    effort,
+                ),
                 told => Ok(told),
             };
         }
-        match self.told_in_order(alloc, problem, known, effort, lifts)? {
-            Told::Nothing => self.told_by_blocks(alloc, problem, effort, lifts),
+        match self.told_in_order(alloc, problem, known, &mut begun.refuted, effort)? {
+            Told::Nothing => self.told_by_blocks(alloc, problem, &mut begun.judged, effort),
             told => Ok(told),
         }
     }
@@ -336,7 +381,7 @@ impl<'a, S: Stop> Ladder<'a, S> {
         let Some(rest) = without_lost(alloc, problem)? else {
             return Ok(false);
         };
-        has_none_in_order(alloc, &rest, effort.lifts, &mut self.meter)
+        has_none_in_order(alloc, &rest, effort, &mut self.meter)
     }
 
     // Whether an order of what is left of a queue or a stack without lost items, by a guess of this way, shows one of the whole.
@@ -353,7 +398,7 @@ impl<'a, S: Stop> Ladder<'a, S> {
         let Some(left) = Remainder::of(alloc, problem, way)? else {
             return Ok(false);
         };
-        match order_of(alloc, left.rest(), effort.lifts, &mut self.meter)? {
+        match order_of(alloc, left.rest(), effort, &mut self.meter)? {
             Some(order) => left.shows_order(alloc, problem, order.calls()),
             None => Ok(false),
         }
@@ -381,8 +426,11 @@ impl<'a, S: Stop> Ladder<'a, S> {
         &mut self,
         alloc: Global,
         problem: &Problem<AnyObject>,
+        judged: &mut Judged<AnyObject>,
     ) -> Result<bool, AllocError>
-        ensures { IfOk result (λ shown. IsTrue shown
+        requires { AreJudged (any_problem problem.now) judged.old }
+        ensures judged { AreJudged (any_problem problem.now) judged.new }
+        ensures shown { IfOk result (λ shown. IsTrue shown
             → (l : List ℕ) × IsLinearization (any_problem problem.now) l) }
     {
         if !self.has_many_pending {
@@ -390,7 +438,7 @@ impl<'a, S: Stop> Ladder<'a, S> {
         }
         self.meter.take_each(Work::STEP);
         let steps = steps_to_show(problem.len());
-        let shown = shows_order_in_steps(alloc, problem, steps, &mut self.meter)?;
+        let shown = shows_order_in_steps(alloc, problem, judged, steps, &mut self.meter)?;
         self.meter.take_each(Work::LIFT);
         Ok(shown)
     }
@@ -401,13 +449,16 @@ impl<'a, S: Stop> Ladder<'a, S> {
         &mut self,
         alloc: Global,
         problem: &Problem<AnyObject>,
+        begun: &mut Begun,
     ) -> Result<Told, AllocError>
-        ensures { IfOk result (IsRightOf (any_problem problem.now)) }
+        requires { IsBegunOf (any_problem problem.now) begun.old }
+        ensures begun { IsBegunOf (any_problem problem.now) begun.new }
+        ensures told { IfOk result (IsRightOf (any_problem problem.now)) }
     {
         if !self.has_many_pending || !may_take_steps(problem, steps_to_show(problem.len())) {
             return Ok(Told::Nothing);
         }
-        self.told_in_steps(alloc, problem, u64::MAX)
+        self.told_in_steps(alloc, problem, &mut begun.judged, u64::MAX)
     }
 
     /// Whether it shows that a problem with pending calls has a linearization, though not which is the least: of a queue or a stack from an
@@ -416,9 +467,12 @@ impl<'a, S: Stop> Ladder<'a, S> {
         &mut self,
         alloc: Global,
         problem: &Problem<AnyObject>,
+        begun: &mut Begun,
         effort: &Effort,
     ) -> Result<bool, AllocError>
-        ensures { IfOk result (λ shown. IsTrue shown
+        requires { IsBegunOf (any_problem problem.now) begun.old }
+        ensures begun { IsBegunOf (any_problem problem.now) begun.new }
+        ensures shown { IfOk result (λ shown. IsTrue shown
             → (l : List ℕ) × IsLinearization (any_problem problem.now) l) }
     {
         if !self.has_pending || !self.goes_on(Work::of_rows(problem.len())) {
@@ -427,7 +481,7 @@ impl<'a, S: Stop> Ladder<'a, S> {
         if self.shows_order_by_rest(alloc, problem, effort)? {
             return Ok(true);
         }
-        self.shows_order_by_blocks(alloc, problem)
+        self.shows_order_by_blocks(alloc, problem, &mut begun.judged)
     }
 
     // What rounds tell, each of which goes several times as far as the one before.
@@ -436,10 +490,13 @@ impl<'a, S: Stop> Ladder<'a, S> {
         alloc: Global,
         problem: &Problem<AnyObject>,
         known: &Option<KnownAhead>,
+        begun: &mut Begun,
         effort: &Effort,
     ) -> Result<Told, AllocError>
-        requires { IfSome known.now (IsRightAhead (any_problem problem.now)) }
-        ensures { IfOk result (IsRightOf (any_problem problem.now)) }
+        requires known { IfSome known.now (IsRightAhead (any_problem problem.now)) }
+        requires begun { IsBegunOf (any_problem problem.now) begun.old }
+        ensures begun { IsBegunOf (any_problem problem.now) begun.new }
+        ensures told { IfOk result (IsRightOf (any_problem problem.now)) }
     {
         let mut wanted = effort.lifts;
         for round in 0..effort.rounds_for(known.is_some()) {
@@ -447,7 +504,11 @@ impl<'a, S: Stop> Ladder<'a, S> {
                 return Ok(Told::Nothing);
             }
             let most = lifts_within(self.meter.left());
-            match self.round(alloc, problem, known, effort, wanted.min(most))? {
+            let reach = Effort {
+                lifts: wanted.min(most),
+                ..*effort
+            };
+            match self.round(alloc, problem, known, begun, &reach)? {
                 Told::Nothing => {}
                 told => return Ok(told),
             }
@@ -504,15 +565,18 @@ impl<'a, S: Stop> Ladder<'a, S> {
         &mut self,
         alloc: Global,
         problem: &Problem<AnyObject>,
+        begun: &mut Begun,
         effort: &Effort,
     ) -> Result<Told, AllocError>
-        ensures { IfOk result (IsRightOf (any_problem problem.now)) }
+        requires { IsBegunOf (any_problem problem.now) begun.old }
+        ensures begun { IsBegunOf (any_problem problem.now) begun.new }
+        ensures told { IfOk result (IsRightOf (any_problem problem.now)) }
     {
         let known = known_ahead(alloc, problem)?;
         if self.shows_none(alloc, problem, &known, effort)? {
             return Ok(Told::Refuted);
         }
-        self.rounds(alloc, problem, &known, effort)
+        self.rounds(alloc, problem, &known, begun, effort)
     }
 
     // What is told.
@@ -520,9 +584,12 @@ impl<'a, S: Stop> Ladder<'a, S> {
         &mut self,
         alloc: Global,
         problem: &Problem<AnyObject>,
+        begun: &mut Begun,
         effort: &Effort,
     ) -> Result<Told, AllocError>
-        ensures { IfOk result (IsRightOf (any_problem problem.now)) }
+        requires { IsBegunOf (any_problem problem.now) begun.old }
+        ensures begun { IsBegunOf (any_problem problem.now) begun.new }
+        ensures told { IfOk result (IsRightOf (any_problem problem.now)) }
     {
         if let Keys::AtFirst(lifts) = effort.keys {
             match told_by_key(alloc, problem, lifts, &mut self.meter)? {
@@ -533,7 +600,32 @@ impl<'a, S: Stop> Ladder<'a, S> {
         if !self.goes_on(Work::of_rows(problem.len())) {
             return Ok(Told::Nothing);
         }
-        self.told_by_all(alloc, problem, effort)
+        self.told_by_all(alloc, problem, begun, effort)
+    }
+
+    /// Decides the problem as `decide` does. It goes on from what was begun, and puts to it what it finds out of configurations.
+    /// `AllocError` where memory was refused.
+    ///
+    /// Condition: what was begun is of this problem.
+    pub fn decide_from(
+        &mut self,
+        alloc: Global,
+        problem: &Problem<AnyObject>,
+        begun: &mut Begun,
+        effort: &Effort,
+    ) -> Result<Decision, AllocError>
+        requires { IsBegunOf (any_problem problem.now) begun.old }
+        ensures begun { IsBegunOf (any_problem problem.now) begun.new }
+        ensures decided { IfOk result (IsDecisionOf (any_problem problem.now)) }
+        ensures stopped { IfOk result (λ decision. decision ≡ Decision.Stopped → self.new.meter.left.looks ≡ 0) }
+        ensures spent { IfOk result (λ decision. decision ≡ Decision.Spent
+            → self.new.meter.left.looks ≡ 0 → ⊥) }
+    {
+        if !self.goes_on(effort.made) {
+            return Ok(Decision::Stopped);
+        }
+        let told = self.told(alloc, problem, begun, effort)?;
+        Ok(decision_of(told, self.meter.has_ended()))
     }
 }
 
@@ -546,11 +638,8 @@ impl<'a, S: Stop> Decide for Ladder<'a, S> {
         problem: &Problem<AnyObject>,
         effort: &Effort,
     ) -> Result<Decision, AllocError> {
-        if !self.goes_on(effort.made) {
-            return Ok(Decision::Stopped);
-        }
-        let told = self.told(alloc, problem, effort)?;
-        Ok(decision_of(told, self.meter.has_ended()))
+        let mut begun = Begun::nothing(alloc);
+        self.decide_from(alloc, problem, &mut begun, effort)
     }
 
     fn goes_on(&mut self, work: Work) -> bool {

@@ -1,6 +1,7 @@
 //! What decides a problem: all ways to an order of it, or to that it has none (this project's own).
 //!
 //! - `ladder`: every way to the answer for one problem, and which of them is gone when.
+//! - `begun`: what searches of one problem found out of its configurations, for later ones.
 //! - `shown`: what shows without a search that there is no linearization.
 //! - `crossed_calls`: two calls of which each would have to come before the other.
 //! - `keys`: maps and sets, part by part: the calls of each key are a problem of their own.
@@ -9,6 +10,8 @@
 //!
 //! - `Found` is the least linearization of the problem; `Refuted` is returned only if there is none. Nothing is told where the effort
 //!   or the work comes to its end, or the stop answers.
+//! - What was found out is not looked for twice: each round, and each later decision of the same problem (`decide_from`), passes over the
+//!   configurations that were refuted, and takes what searches by blocks judged.
 //! - What shows without a search is asked before one: an item that came too early or was taken twice, what was in vain, and calls
 //!   that *cross*: one returned before the other was called, and yet needs it. `some_cross` answers exactly whether there are such.
 //! - In a problem with many pending calls, a search that tells nothing of a part is followed by one that tries pending calls only
@@ -34,10 +37,12 @@
 //!   apart each search of a part would have to tell the watcher, which `lin_decide` does not know. *To change:* a watcher in `Ladder`.
 #![tactic(auto)]
 
+mod begun;
 mod crossed_calls;
 mod keys;
 mod ladder;
 mod shown;
 
+pub use begun::Begun;
 pub use keys::key_search::search_by_key;
 pub use ladder::Ladder;

@@ -44,6 +44,16 @@ HaveCompletions {State} p configs = (k : ℕ) (x : Configuration State) → slic
 abbrev pub HaveNoCompletions : {State Op Reply : Type 0} → Problem State Op Reply → List (Configuration State) → Type 0
 HaveNoCompletions {State} p configs = (k : ℕ) (x : Configuration State) → slice_get configs k ≡ Some x → HasNoCompletion p x.lifted x.state
 
+-- Configurations that are found to have no completion, and to have one.
+pub record Judgements (State : Type 0) : Type 0 where
+  pub refuted : List (Configuration State)
+  pub good : List (Configuration State)
+
+-- They are rightly found so.
+pub record AreJudged {State Op Reply : Type 0} (p : Problem State Op Reply) (judged : Judgements State) : Type 0 where
+  pub none : HaveNoCompletions p judged.refuted
+  pub complete : HaveCompletions p judged.good
+
 -- The set has every call below this one, and no other.
 pub record IsEveryTo {State Op Reply : Type 0} (p : Problem State Op Reply) (set : List Bool) (i : ℕ) : Type 0 where
   pub flags : length set ≡ length p.calls

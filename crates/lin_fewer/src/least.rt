@@ -10,9 +10,11 @@ ghost use Rattle.lin_search.specs.Told.{IsRightOf};
 ghost use Rattle.lin_fewer.specs.Fronts.{IsCalledBy, IsFirstLeft, IsLeastReturn};
 ghost use Rattle.lin_fewer.specs.Nodes.{NoneBegins};
 ghost use Rattle.lin_fewer.specs.Answers.{IsLeastCall, IsVerdictBy};
+ghost use Rattle.lin_fewer.specs.Knowledge.{AreJudged};
 
 use crate::bearing::bears;
 use crate::front::{first_left, is_completed, is_later, least_return};
+use crate::judged::Judged;
 use crate::laws::fewer_law;
 use crate::node::child_of;
 use crate::rules::Rules;
@@ -128,6 +130,7 @@ fn least_order<O: SeqObject, R: Rules<O>, S: Stop>(
     requires reachable { IsReachable (problem_of O.after O.State.eq O.Reply.eq search.old) root.lifted root.state }
     ensures least { IfOk result (λ answer. IfSome answer (λ calls. IsLeast (IsCompletion (problem_of O.after O.State.eq O.Reply.eq search.old) root.lifted
         root.state) calls.items)) }
+    ensures same { search.new ≡ search.old }
     ensures stop { S.follows stop.old stop.new }
 {
     let alloc = search.alloc();
@@ -154,6 +157,32 @@ fn least_order<O: SeqObject, R: Rules<O>, S: Stop>(
     Ok(None)
 }
 
+// What is told by the search.
+fn told_by<O: SeqObject, R: Rules<O>, S: Stop>(
+    search: &mut Search<'_, O, R>,
+    stop: &mut S,
+) -> Result<Told, AllocError>
+    ensures told { IfOk result (IsRightOf (problem_of O.after O.State.eq O.Reply.eq search.old)) }
+    ensures same { search.new ≡ search.old }
+    ensures stop { S.follows stop.old stop.new }
+{
+    let alloc = search.alloc();
+    let problem = search.problem();
+    lawful::<O>();
+    fewer_law(problem);
+    let root = Config::root(alloc, problem)?;
+    let copy = root.copy(alloc, problem)?;
+    match bears(search, stop, copy, 0, 0)? {
+        Verdict::Refuted => return Ok(Told::Refuted),
+        Verdict::Unknown => return Ok(Told::Nothing),
+        Verdict::Completes => {}
+    }
+    match least_order(search, stop, root)? {
+        Some(calls) => Ok(Told::Found(Order::new(calls))),
+        None => Ok(Told::Nothing),
+    }
+}
+
 /// Whether so many calls are pending that `least_linearization` is a good bet: with fewer of them a search in the order of the calls is
 /// as quick.
 pub fn has_many_pending<O: SeqObject>(problem: &Problem<O>) -> bool {
@@ -167,55 +196,55 @@ pub fn has_many_pending<O: SeqObject>(problem: &Problem<O>) -> bool {
 }
 
 /// Whether the problem is found to have a linearization, within so many steps and before the stop answers: which is the least is not
-/// asked. `AllocError` where memory was refused.
+/// asked. It goes on from the configurations that are judged, and puts to them those that it judges. `AllocError` where memory was
+/// refused: they are lost then.
+///
+/// Conditions: the rules are made for the problem, and the configurations are rightly judged in it.
 pub fn shows_linearization<O: SeqObject, R: Rules<O>, S: Stop>(
     alloc: Global,
     problem: &Problem<O>,
     rules: &R,
+    judged: &mut Judged<O>,
     steps: u64,
     stop: &mut S,
 ) -> Result<bool, AllocError>
-    requires { R.suits rules.now problem.now }
+    requires suits { R.suits rules.now problem.now }
+    requires judged { AreJudged (problem_of O.after O.State.eq O.Reply.eq problem.now) judged.old }
+    ensures judged { AreJudged (problem_of O.after O.State.eq O.Reply.eq problem.now) judged.new }
     ensures some { IfOk result (λ yes. IsTrue yes → (l : List ℕ)
         × IsLinearization (problem_of O.after O.State.eq O.Reply.eq problem.now) l) }
     ensures stop { S.follows stop.old stop.new }
 {
     lawful::<O>();
     fewer_law(problem);
-    let mut search = Search::new(alloc, problem, rules, steps)?;
     let root = Config::root(alloc, problem)?;
-    match bears(&mut search, stop, root, 0, 0)? {
-        Verdict::Completes => Ok(true),
-        Verdict::Refuted => Ok(false),
-        Verdict::Unknown => Ok(false),
-    }
+    let mut search = Search::new(alloc, problem, rules, judged.take(alloc), steps)?;
+    let verdict = bears(&mut search, stop, root, 0, 0)?;
+    *judged = search.into_judged();
+    Ok(is_completion(verdict))
 }
 
 /// The least linearization of the problem, in lexicographic order, or that there is none, where that is told within so many steps and
-/// before the stop answers. `AllocError` where memory was refused.
+/// before the stop answers. It goes on from the configurations that are judged, and puts to them those that it judges. `AllocError`
+/// where memory was refused: they are lost then.
+///
+/// Conditions: the rules are made for the problem, and the configurations are rightly judged in it.
 pub fn least_linearization<O: SeqObject, R: Rules<O>, S: Stop>(
     alloc: Global,
     problem: &Problem<O>,
     rules: &R,
+    judged: &mut Judged<O>,
     steps: u64,
     stop: &mut S,
 ) -> Result<Told, AllocError>
-    requires { R.suits rules.now problem.now }
+    requires suits { R.suits rules.now problem.now }
+    requires judged { AreJudged (problem_of O.after O.State.eq O.Reply.eq problem.now) judged.old }
+    ensures judged { AreJudged (problem_of O.after O.State.eq O.Reply.eq problem.now) judged.new }
     ensures told { IfOk result (IsRightOf (problem_of O.after O.State.eq O.Reply.eq problem.now)) }
     ensures stop { S.follows stop.old stop.new }
 {
-    lawful::<O>();
-    fewer_law(problem);
-    let mut search = Search::new(alloc, problem, rules, steps)?;
-    let root = Config::root(alloc, problem)?;
-    let copy = root.copy(alloc, problem)?;
-    match bears(&mut search, stop, copy, 0, 0)? {
-        Verdict::Refuted => return Ok(Told::Refuted),
-        Verdict::Unknown => return Ok(Told::Nothing),
-        Verdict::Completes => {}
-    }
-    match least_order(&mut search, stop, root)? {
-        Some(calls) => Ok(Told::Found(Order::new(calls))),
-        None => Ok(Told::Nothing),
-    }
+    let mut search = Search::new(alloc, problem, rules, judged.take(alloc), steps)?;
+    let told = told_by(&mut search, stop)?;
+    *judged = search.into_judged();
+    Ok(told)
 }

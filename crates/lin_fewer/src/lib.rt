@@ -6,7 +6,7 @@
 //! - `bearing`: whether a configuration has one; `completed_calls` and `pending_calls`: what is tried at a node; `borne`: what is noted
 //!   on the way back.
 //! - `node`: the configurations that a search has open; `states`: those of a block, found by their states; `search`: what it knows;
-//!   `known`: configurations found by keys; `seen` and `verdict`: what is known of one configuration.
+//!   `judged`: what of it later searches are given; `known`: configurations found by keys; `seen` and `verdict`: what is known of one.
 //! - `twins`: pending calls that are identical.
 //! - `sums`: what may be passed over of a counter; `items`: of a queue or a stack.
 //! - `any_adds`: orders of a counter's completed calls, whatever the pending ones add.
@@ -58,7 +58,8 @@
 //!   change:* the proof that a block is covered.
 //! - No longest run is read off it. Of a configuration that is passed over it is known that it has no completion, but not how long
 //!   its continuations are. Longest runs come from prefixes, which ask for linearizations alone.
-//! - It keeps nothing from one turn to the next. Each turn goes twice as far, so what is lost is about as much again.
+//! - What it judged is handed on from one turn to the next (`Judged`), but not the path on which it stopped: that is gone again in
+//!   about as many steps as it has calls. *To change:* a search that is kept with its nodes.
 //! - Its notes are whole sets. A pending call that stays out keeps every word of a set from its own on, so a noted set of 4,000
 //!   calls takes up to 63 words: that is where 79 and 136 megabytes go (registers of 4,000 calls, of which 30 % never return).
 //!   Lists of the pending calls used, beside the first completed call left, would take less. *To change:* `Known`, whose value is a
@@ -76,6 +77,7 @@ mod borne;
 mod completed_calls;
 mod front;
 mod items;
+mod judged;
 mod known;
 mod laws;
 mod least;
@@ -93,6 +95,7 @@ mod waiting;
 
 pub use any_adds::is_refuted_with_any_adds;
 pub use items::ItemRules;
+pub use judged::Judged;
 pub use laws::fewer_law;
 pub use least::{has_many_pending, least_linearization, shows_linearization};
 pub use rules::{NoRules, Rules};

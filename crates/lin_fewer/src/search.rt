@@ -6,9 +6,10 @@ ghost use Rattle.lin_history.specs.Problems.Continuations.{IsCompletion};
 ghost use Rattle.lin_history.specs.Problems.Configurations.{IsReachable};
 ghost use Rattle.lin_search.specs.Answer.{HasNoCompletion};
 ghost use Rattle.lin_fewer.specs.Fewer.{IsNoWorse};
-ghost use Rattle.lin_fewer.specs.Knowledge.{IsBorne, HasEarlier, HasEvery, ArePending, ArePendingTo};
+ghost use Rattle.lin_fewer.specs.Knowledge.{IsBorne, HasEarlier, HasEvery, ArePending, ArePendingTo, AreJudged};
 
 use crate::front::is_completed;
+use crate::judged::Judged;
 use crate::known::Known;
 use crate::laws::fewer_law;
 use crate::rules::Rules;
@@ -116,19 +117,22 @@ fn pending_calls<O: SeqObject>(alloc: Global, problem: &Problem<O>) -> Result<Ca
 }
 
 impl<'p, O: SeqObject, R: Rules<O>> Search<'p, O, R> {
-    /// What is known before the first step, with so many steps left.
+    /// What is known before the first step, with so many steps left, where these configurations are judged already.
     pub(crate) fn new(
         alloc: Global,
         problem: &'p Problem<O>,
         rules: &'p R,
+        judged: Judged<O>,
         steps: u64,
     ) -> Result<Self, AllocError>
-        requires { R.suits rules.now problem.now }
+        requires suits { R.suits rules.now problem.now }
+        requires judged { AreJudged (problem_of O.after O.State.eq O.Reply.eq problem.now) judged }
         ensures { IfOk result (λ search. search ≡ problem.now) }
     {
         let all = every_call(alloc, problem)?;
         let pending = pending_calls(alloc, problem)?;
         let twins = Twins::of(alloc, problem)?;
+        let Judged { refuted, good } = judged;
         Ok(Search {
             alloc,
             problem,
@@ -137,10 +141,18 @@ impl<'p, O: SeqObject, R: Rules<O>> Search<'p, O, R> {
             pending,
             all,
             twins,
-            refuted: Known::new(alloc),
-            good: Known::new(alloc),
+            refuted,
+            good,
             left: steps,
         })
+    }
+
+    /// What it found out of configurations.
+    pub(crate) fn into_judged(self) -> Judged<O>
+        ensures { AreJudged (problem_of O.after O.State.eq O.Reply.eq self.entry) result }
+    {
+        let Search { refuted, good, .. } = self;
+        Judged { refuted, good }
     }
 
     /// What memory is taken from.

@@ -33,11 +33,8 @@ pub(crate) fn look_for_sums<R: AllocGlobal, G: Gate, W: Watcher>(
     let mut stop = UntilUp::new(&setting.bounds);
     let mut ladder = Ladder::new(problem, Work::ANY, &mut stop);
     if let Some(fault) = sums_of_object(setting.rt.alloc(), problem, &mut ladder)? {
-        *known = Known {
-            is_refuted: true,
-            has_order: known.has_order,
-            fault: Sought::Found(fault),
-        };
+        known.is_refuted = true;
+        known.fault = Sought::Found(fault);
     }
     Ok(())
 }
@@ -81,7 +78,7 @@ pub(crate) fn look_for_order<R: AllocGlobal, G: Gate, W: Watcher>(
     let mut stop = UntilUp::new(&setting.bounds);
     let mut ladder = Ladder::new(problem, Work::ANY, &mut stop);
     let effort = ahead(problem.len(), limit);
-    let shown = ladder.shows_order(setting.rt.alloc(), problem, &effort)?;
+    let shown = ladder.shows_order(setting.rt.alloc(), problem, &mut known.begun, &effort)?;
     known.has_order = Some(shown);
     Ok(())
 }
@@ -122,11 +119,8 @@ pub(crate) fn look_for_fault<R: AllocGlobal, G: Gate, W: Watcher>(
     let mut ladder = Ladder::new(problem, Work::ANY, &mut stop);
     match calls_of_object(setting.rt.alloc(), problem, &mut ladder)? {
         Some(fault) => {
-            *known = Known {
-                is_refuted: true,
-                has_order: known.has_order,
-                fault: Sought::Found(fault),
-            };
+            known.is_refuted = true;
+            known.fault = Sought::Found(fault);
         }
         None => known.fault = Sought::InVain,
     }

@@ -52,7 +52,7 @@ pub(crate) fn judge_object<R: AllocGlobal + Threads + Sync, G: Gate, W: Watcher>
 {
     let problem = history.part(setting.rt.alloc(), object, indices)?;
     setting.bounds.watcher().begin(object, problem.len());
-    let mut known = Known::nothing();
+    let mut known = Known::nothing(setting.rt.alloc());
     let (answer, stored) = answer_object(setting, &problem, question, &mut known)?;
     let witness = witness_known(setting.rt.alloc(), history, object, &problem, known.fault)?;
     Ok((answer, Some(stored), witness))

@@ -1,8 +1,11 @@
 //! What is known of an object while it is checked.
 
 ghost use Rattle.std.specs.Prelude.{◌≡◌, IsTrue, None, Some, false, true};
+ghost use Rattle.lin_decide.specs.Begun.{IsBegunOf};
 
 use crate::object_fault::ObjectFault;
+use lin_decide::Begun;
+use std::alloc::Global;
 
 /// Whether it was looked for what lets a reader see that an object has no order.
 #[derive(Drop)]
@@ -39,19 +42,23 @@ pub(crate) struct Known {
     pub(crate) has_order: Option<bool>,
     /// What lets a reader see that.
     pub(crate) fault: Sought,
+    /// What searches for an order found out of its configurations: the next ones go on from there.
+    pub(crate) begun: Begun,
 }
 
 impl Known {
     /// Nothing is known.
-    pub(crate) fn nothing() -> Self
+    pub(crate) fn nothing(alloc: Global) -> Self
         ensures refuted { result.is_refuted ≡ false }
         ensures order { result.has_order ≡ None }
         ensures fault { result.fault ≡ Sought.NotYet }
+        ensures begun { (p : _) → IsBegunOf p result.begun }
     {
         Known {
             is_refuted: false,
             has_order: None,
             fault: Sought::NotYet,
+            begun: Begun::nothing(alloc),
         }
     }
 

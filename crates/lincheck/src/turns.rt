@@ -39,7 +39,7 @@ use crate::known::Known;
 use crate::object_answer::{ObjectAnswer, Question, asks_no_run};
 use crate::object_fault::hint_of;
 use crate::setting::Setting;
-use lin_decide::Ladder;
+use lin_decide::{Begun, Ladder};
 use lin_effort::efforts::{
     Turn, ahead, first_turn, is_small, order, prefixes_at_first, turn_after, work_of_searches,
 };
@@ -70,10 +70,12 @@ fn decided<R: AllocGlobal, G: Gate, W: Watcher>(
 {
     let mut stop = UntilUp::new(&setting.bounds);
     let mut ladder = Ladder::new(problem, work, &mut stop);
-    match ladder.decide(setting.rt.alloc(), problem, effort)? {
+    match ladder.decide_from(setting.rt.alloc(), problem, &mut known.begun, effort)? {
         Decision::Found(order) => Ok(Some(order)),
         Decision::Refuted => {
+            // No order is looked for again, so what was begun takes no more memory.
             known.is_refuted = true;
+            known.begun = Begun::nothing(setting.rt.alloc());
             Ok(None)
         }
         Decision::Spent | Decision::Stopped => Ok(None),
@@ -109,16 +111,18 @@ fn order_by_blocks<R: AllocGlobal, G: Gate, W: Watcher>(
     setting: &Setting<'_, '_, R, G, W>,
     problem: &Problem<AnyObject>,
     work: Work,
-    known: &Known,
+    known: &mut Known,
 ) -> Result<Option<Order>, AllocError>
-    ensures { IfOk result (λ found. IfSome found (IsLeast (IsLinearization (any_problem problem.now)))) }
+    requires { IsKnownOf (any_problem problem.now) known.old }
+    ensures known { IsKnownOf (any_problem problem.now) known.new }
+    ensures order { IfOk result (λ found. IfSome found (IsLeast (IsLinearization (any_problem problem.now)))) }
 {
     if !known.shows_order() || has_items(problem) {
         return Ok(None);
     }
     let mut stop = UntilUp::new(&setting.bounds);
     let mut ladder = Ladder::new(problem, work, &mut stop);
-    match ladder.told_by_blocks_alone(setting.rt.alloc(), problem)? {
+    match ladder.told_by_blocks_alone(setting.rt.alloc(), problem, &mut known.begun)? {
         Told::Found(order) => Ok(Some(order)),
         Told::Refuted | Told::Nothing => Ok(None),
     }
@@ -165,6 +169,27 @@ fn effort_in(turn: Turn, problem: &Problem<AnyObject>) -> Effort {
     }
 }
 
+// The order, if a turn's searches behind the full one find it, where it is not known that there is none.
+fn order_in_turn<R: AllocGlobal, G: Gate, W: Watcher>(
+    setting: &Setting<'_, '_, R, G, W>,
+    problem: &Problem<AnyObject>,
+    turn: Turn,
+    known: &mut Known,
+) -> Result<Option<Order>, AllocError>
+    requires { IsKnownOf (any_problem problem.now) known.old }
+    ensures order { IfOk result (λ found. IfSome found (IsLeast (IsLinearization (any_problem problem.now)))) }
+    ensures known { IsKnownOf (any_problem problem.now) known.new }
+{
+    if known.is_refuted {
+        return Ok(None);
+    }
+    let work = work_of_searches(turn.prefixes);
+    match decided(setting, problem, &effort_in(turn, problem), work, known)? {
+        Some(order) => Ok(Some(order)),
+        None => order_by_blocks(setting, problem, work, known),
+    }
+}
+
 // The answer by searches of prefixes in a turn.
 fn answer_by_prefixes<R: AllocGlobal, G: Gate, W: Watcher>(
     setting: &Setting<'_, '_, R, G, W>,
@@ -179,14 +204,8 @@ fn answer_by_prefixes<R: AllocGlobal, G: Gate, W: Watcher>(
     ensures known { IsKnownOf (any_problem problem.now) known.new }
 {
     setting.bounds.watcher().enter(Way::Prefixes);
-    if !known.is_refuted {
-        let work = work_of_searches(turn.prefixes);
-        if let Some(order) = decided(setting, problem, &effort_in(turn, problem), work, known)? {
-            return Ok(Some(ObjectAnswer::Yes(order)));
-        }
-        if let Some(order) = order_by_blocks(setting, problem, work, known)? {
-            return Ok(Some(ObjectAnswer::Yes(order)));
-        }
+    if let Some(order) = order_in_turn(setting, problem, turn, known)? {
+        return Ok(Some(ObjectAnswer::Yes(order)));
     }
     if !known.is_refuted {
         return Ok(None);

@@ -224,10 +224,10 @@ module _ {State Op Reply : Type 0} {p : Problem State Op Reply} where
   first_calls kept lifts lifted fs here candidate k =
       rw (k.calls.1, with_append (no_calls p) k.calls.0 (calls_of fs), k.calls.2) (first_set kept lifts lifted fs here candidate k)
 
-  pub first_start : AreAlike p p → (kept : List (Configuration State)) (lifts : ℕ) (lifted : List ℕ) (fs : List (Frame State)) (here : Configuration State) (candidate : Option ℕ) → kept ≡ [] → lifts ≡ 0 → fs ≡ [] → here.lifted ≡ no_calls p → p.same_state here.state p.start ≡ true → lifted_set p lifted ≡ here.lifted → IsReachable p here.lifted here.state → (HasEveryCompleted p here.lifted → ⊥) → IsLeastMinimal p here.lifted 0 candidate → IsFirstProgress p kept lifts lifted fs here candidate
-  first_start alike kept lifts lifted fs here candidate empty zero_lifts none root start set reachable open_call least = rw (empty, zero_lifts, none) (record {
+  pub first_start : AreAlike p p → (kept : List (Configuration State)) (lifts : ℕ) (lifted : List ℕ) (fs : List (Frame State)) (here : Configuration State) (candidate : Option ℕ) → AreRefuted p kept → lifts ≡ 0 → fs ≡ [] → here.lifted ≡ no_calls p → p.same_state here.state p.start ≡ true → lifted_set p lifted ≡ here.lifted → IsReachable p here.lifted here.state → (HasEveryCompleted p here.lifted → ⊥) → IsLeastMinimal p here.lifted 0 candidate → IsFirstProgress p kept lifts lifted fs here candidate
+  first_start alike kept lifts lifted fs here candidate are zero_lifts none root start set reachable open_call least = rw (zero_lifts, none) (record {
     alike = alike;
-    refuted = tt;
+    refuted = are;
     root = here.state;
     start = start;
     path = (sym root, refl);

@@ -8,7 +8,7 @@ ghost use Rattle.lin_object.specs.StepBacks.{state_before};
 ghost use Rattle.lin_history.specs.Problems.Configurations.{IsReachable};
 ghost use Rattle.lin_search.specs.CallSet.{lifted_set};
 ghost use Rattle.lin_search.specs.Entries.{IsMinimal, IsLeastMinimal};
-ghost use Rattle.lin_ahead.specs.First.FirstProgress.{BeginsNone, ComesAfter, IsPassed, IsFirstProgress, IsFirstLifted, IsFirstStep, IsFirstVisit, left_to_try};
+ghost use Rattle.lin_ahead.specs.First.FirstProgress.{BeginsNone, ComesAfter, IsPassed, IsFirstProgress, IsFirstLifted, IsFirstStep, IsFirstVisit, AreRefuted, left_to_try};
 ghost use Rattle.lin_search.specs.NextCall.{HasEveryCompleted};
 ghost use Rattle.lin_search.specs.Path.{kept_calls, frame_of, frames_of};
 ghost use Rattle.lin_search.specs.Progress.{bound};
@@ -122,6 +122,8 @@ impl<'p, O: SeqObject, R: Rules<O>> FirstSearch<'p, O, R> {
         ensures right { (p : ProblemParts O O.State O.Op O.Reply) → R.are_right self.old.rules p
             → R.are_right self.new.rules p }
         ensures lifts { IfOk result (λ visit. self.new.lifts ≡ self.old.lifts + 1) }
+        ensures refuted { IfOk result (λ visit. AreRefuted (problem_of O.after O.State.eq O.Reply.eq
+            self.old.path.entries.problem) self.new.refuted) }
         ensures visit { IfOk result (IsFirstVisit (problem_of O.after O.State.eq O.Reply.eq
             self.old.path.entries.problem) self.new.refuted self.new.lifts
             self.new.path.entries.lifted (frames_of O.undone self.new.path.frames.items
@@ -223,6 +225,7 @@ impl<'p, O: SeqObject, R: Rules<O>> FirstSearch<'p, O, R> {
         ensures right { (p : ProblemParts O O.State O.Op O.Reply) → R.are_right self.old.rules p
             → R.are_right self.new.rules p }
         ensures lifts { self.new.lifts ≡ self.old.lifts }
+        ensures refuted { self.new.refuted ≡ self.old.refuted }
         ensures step { IfOk result (IsFirstStep (problem_of O.after O.State.eq O.Reply.eq
             self.old.path.entries.problem) O.undone self.new.refuted self.new.lifts
             self.new.path.entries.lifted self.new.path.frames.items self.new.path.config
@@ -251,6 +254,8 @@ impl<'p, O: SeqObject, R: Rules<O>> FirstSearch<'p, O, R> {
         ensures right { (p : ProblemParts O O.State O.Op O.Reply) → R.are_right self.old.rules p
             → R.are_right self.new.rules p }
         ensures lifts { self.new.lifts ≡ self.old.lifts }
+        ensures refuted { IfOk result (λ on. AreRefuted (problem_of O.after O.State.eq O.Reply.eq
+            self.old.path.entries.problem) self.new.refuted) }
         ensures step { IfOk result (IsFirstStep (problem_of O.after O.State.eq O.Reply.eq
             self.old.path.entries.problem) O.undone self.new.refuted self.new.lifts
             self.new.path.entries.lifted self.new.path.frames.items self.new.path.config
@@ -281,6 +286,8 @@ impl<'p, O: SeqObject, R: Rules<O>> FirstSearch<'p, O, R> {
         ensures right { (p : ProblemParts O O.State O.Op O.Reply) → R.are_right self.old.rules p
             → R.are_right self.new.rules p }
         ensures lifts { self.new.lifts ≡ self.old.lifts }
+        ensures refuted { IfOk result (λ on. AreRefuted (problem_of O.after O.State.eq O.Reply.eq
+            self.old.path.entries.problem) self.new.refuted) }
         ensures step { IfOk result (IsFirstStep (problem_of O.after O.State.eq O.Reply.eq
             self.old.path.entries.problem) O.undone self.new.refuted self.new.lifts
             self.new.path.entries.lifted self.new.path.frames.items self.new.path.config
@@ -316,6 +323,8 @@ impl<'p, O: SeqObject, R: Rules<O>> FirstSearch<'p, O, R> {
             (frames_of O.undone self.new.path.frames.items
             (state_before O.undone frame.back self.new.path.config.state))
             (frame_of O.undone frame self.new.path.config.state) self.new.path.config)) }
+        ensures refuted { IfOk result (λ answer. ForBreak answer (λ told. AreRefuted (problem_of O.after O.State.eq O.Reply.eq
+            self.old.path.entries.problem) self.new.refuted)) }
         ensures told { IfOk result (λ answer. ForBreak answer (IsRightOf (problem_of O.after O.State.eq O.Reply.eq
             self.old.path.entries.problem))) }
         ensures nothing { IfOk result (λ answer. ForBreak answer (λ told. (lifts : ℕ)
@@ -336,6 +345,14 @@ impl<'p, O: SeqObject, R: Rules<O>> FirstSearch<'p, O, R> {
         }
     }
 
+    // What it has refuted.
+    fn into_refuted(self) -> RefutedSet<O>
+        ensures { result ≡ self.entry.refuted }
+    {
+        let FirstSearch { refuted, .. } = self;
+        refuted
+    }
+
     // Searches on from the root, which is not complete, with so many lifts at most.
     fn go<S: Stop>(&mut self, lifts: u64, stop: &mut S) -> Result<Told, AllocError>
         requires right { R.are_right self.old.rules self.old.path.entries.problem }
@@ -349,6 +366,8 @@ impl<'p, O: SeqObject, R: Rules<O>> FirstSearch<'p, O, R> {
         requires lifted { lifted_set (problem_of O.after O.State.eq O.Reply.eq
             self.old.path.entries.problem) self.old.path.entries.lifted
             ≡ self.old.path.config.lifted }
+        ensures refuted { IfOk result (λ told. AreRefuted (problem_of O.after O.State.eq O.Reply.eq
+            self.old.path.entries.problem) self.new.refuted) }
         ensures told { IfOk result (IsRightOf (problem_of O.after O.State.eq O.Reply.eq self.old.path.entries.problem)) }
         ensures nothing { IfOk result (IsToldUnless (IsSpent (problem_of O.after O.State.eq O.Reply.eq
             self.old.path.entries.problem) lifts (S.tells stop.new))) }
@@ -375,17 +394,21 @@ impl<'p, O: SeqObject, R: Rules<O>> FirstSearch<'p, O, R> {
 /// The search from the root by these rules that only asks whether there is a linearization, and for the least one (this
 /// project's own). It makes at most so many lifts. What is told is the least linearization, or that there is none. Nothing is told
 /// only where as many lifts were made and another was to be made, or where the stop answered. It is asked before each step: where a
-/// call is tried, and where the search goes back. `AllocError` where memory was refused.
+/// call is tried, and where the search goes back. What it refutes is put to the configurations that are known to be refuted, so that a
+/// later search goes on from there. `AllocError` where memory was refused: these are lost then.
 ///
-/// Condition: the rules are right for the problem.
+/// Conditions: the rules are right for the problem, and the configurations are refuted in it.
 pub(crate) fn search_by_rules<O: SeqObject, R: Rules<O>, S: Stop>(
     alloc: Global,
     problem: &Problem<O>,
     rules: R,
+    refuted: &mut RefutedSet<O>,
     lifts: u64,
     stop: &mut S,
 ) -> Result<Told, AllocError>
-    requires { R.are_right rules problem.now }
+    requires rules { R.are_right rules problem.now }
+    requires refuted { AreRefuted (problem_of O.after O.State.eq O.Reply.eq problem.now) refuted.old }
+    ensures refuted { AreRefuted (problem_of O.after O.State.eq O.Reply.eq problem.now) refuted.new }
     ensures told { IfOk result (IsRightOf
         (problem_of O.after O.State.eq O.Reply.eq problem.now)) }
     ensures nothing { IfOk result (IsToldUnless (IsSpent
@@ -402,10 +425,12 @@ pub(crate) fn search_by_rules<O: SeqObject, R: Rules<O>, S: Stop>(
     let mut search = FirstSearch {
         alloc,
         path,
-        refuted: RefutedSet::new(alloc),
+        refuted: refuted.take(alloc),
         rules,
         identical,
         lifts: 0,
     };
-    search.go(lifts, stop)
+    let told = search.go(lifts, stop)?;
+    *refuted = search.into_refuted();
+    Ok(told)
 }

@@ -7,10 +7,11 @@ use lin_object::SeqObject;
 use lin_search::Config;
 use std::alloc::{AllocError, Global};
 use std::marker::Model;
+use std::mem;
 
-// Refuted configurations, of which nothing more is known. Contracts see them in order of storing.
+/// Configurations of one problem that first searches refuted, of which nothing more is known. Contracts see them in order of storing.
 #[derive(Drop)]
-pub(crate) struct RefutedSet<O: SeqObject> {
+pub struct RefutedSet<O: SeqObject> {
     configs: IndexSet<Config<O>>,
 }
 
@@ -24,13 +25,21 @@ impl<O: SeqObject> Model for RefutedSet<O> {
 }
 
 impl<O: SeqObject> RefutedSet<O> {
-    // None. It takes no memory.
-    pub(crate) fn new(alloc: Global) -> Self
+    /// None. It takes no memory.
+    pub fn new(alloc: Global) -> Self
         ensures { result ≡ [] }
     {
         RefutedSet {
             configs: IndexSet::new(alloc),
         }
+    }
+
+    // All of them; none are left.
+    pub(crate) fn take(&mut self, alloc: Global) -> Self
+        ensures all { result ≡ self.old }
+        ensures left { self.new ≡ [] }
+    {
+        mem::replace(self, RefutedSet::new(alloc))
     }
 
     // Whether the configuration is there. Where none is, it is not hashed: that takes as long as its state is large.

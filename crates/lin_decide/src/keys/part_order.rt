@@ -8,9 +8,9 @@ ghost use Rattle.lin_decide.specs.Keys.PartOrder.{IsNamed, IsPartOrder, IsSpentO
 ghost use Rattle.lin_effort.specs.Lifts.{lifts_on_key};
 ghost use Rattle.lin_parts.specs.Parts.{AreSomeCalls};
 
-use lin_ahead::{known_ahead, search_first};
+use lin_ahead::{RefutedSet, known_ahead, search_first};
 use lin_effort::efforts::{STEPS_FOR_A_LIFT, ahead, lifts_at_once, lifts_on_key};
-use lin_fewer::{NoRules, has_many_pending, least_linearization};
+use lin_fewer::{Judged, NoRules, has_many_pending, least_linearization};
 use lin_history::{Order, Problem};
 use lin_object::{AnyObject, ObjState};
 use lin_parts::{fill, own_names, part_of};
@@ -29,7 +29,14 @@ fn told_at_first<S: Stop>(
 {
     let lifts = ahead(part.len(), limit).lifts;
     match known_ahead(alloc, part)? {
-        Some(known) => search_first(alloc, part, &known, lifts, stop),
+        Some(known) => search_first(
+            alloc,
+            part,
+            &known,
+            &mut RefutedSet::new(alloc),
+            lifts,
+            stop,
+        ),
         None => Ok(Told::Nothing),
     }
 }
@@ -48,7 +55,15 @@ fn told_by_blocks<S: Stop>(
         return Ok(Told::Nothing);
     }
     let steps = STEPS_FOR_A_LIFT.saturating_mul(lifts);
-    least_linearization(alloc, part, &NoRules, steps, &mut AtTimes::new(stop))
+    let mut judged = Judged::none(alloc);
+    least_linearization(
+        alloc,
+        part,
+        &NoRules,
+        &mut judged,
+        steps,
+        &mut AtTimes::new(stop),
+    )
 }
 
 // What these two tell: a first search where something is known ahead, and where that tells nothing, one by blocks.

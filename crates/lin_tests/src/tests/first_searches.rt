@@ -3,7 +3,7 @@
 use super::random::random_history;
 use super::searches::Event::{Call, Return};
 use super::searches::{Event, Part, plainly_searched, posed_by};
-use lin_ahead::{known_ahead, search_first};
+use lin_ahead::{RefutedSet, known_ahead, search_first};
 use lin_object::{Kind, Op, Reply};
 use lin_search::{NoStop, Outcome, Told};
 use std::alloc::{AllocError, Global};
@@ -22,7 +22,14 @@ fn first_is_as_plain(alloc: Global, problem: &Part) -> Result<bool, AllocError> 
     let Some(ahead) = known_ahead(alloc, problem)? else {
         return Ok(false);
     };
-    let first = search_first(alloc, problem, &ahead, 1_000_000, &mut NoStop)?;
+    let first = search_first(
+        alloc,
+        problem,
+        &ahead,
+        &mut RefutedSet::new(alloc),
+        1_000_000,
+        &mut NoStop,
+    )?;
     Ok(is_as_plain(&first, &plainly_searched(alloc, problem)?))
 }
 
@@ -68,7 +75,11 @@ const GET_OF_MORE_THAN_WAS_ADDED: [Event; 8] = [
 // What a first search of so many lifts answers, where something is known ahead.
 fn first_told(alloc: Global, problem: &Part, lifts: u64) -> Result<Option<Told>, AllocError> {
     match known_ahead(alloc, problem)? {
-        Some(ahead) => Ok(Some(search_first(alloc, problem, &ahead, lifts, &mut NoStop)?)),
+        Some(ahead) => {
+            let mut refuted = RefutedSet::new(alloc);
+            let told = search_first(alloc, problem, &ahead, &mut refuted, lifts, &mut NoStop)?;
+            Ok(Some(told))
+        }
         None => Ok(None),
     }
 }

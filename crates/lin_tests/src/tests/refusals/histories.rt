@@ -6,7 +6,7 @@ ghost use Rattle.lin_history.specs.Problems.Linearizations.{IsLinearization};
 
 use super::checking::are_calls;
 use super::starved::{Attempt, Starved, TIMES, is_refused};
-use lin_ahead::{known_ahead, search_first};
+use lin_ahead::{RefutedSet, known_ahead, search_first};
 use lin_history::{
     BuildFault, Builder, History, Order, Placed, Problem, ProblemFault, WholeOrder, join, verify,
 };
@@ -250,7 +250,8 @@ fn first_order(alloc: Global, history: &History) -> Result<Option<Order>, AllocE
     let Some(ahead) = known_ahead(alloc, &problem)? else {
         return Ok(None);
     };
-    match search_first(alloc, &problem, &ahead, 100, &mut NoStop)? {
+    let mut refuted = RefutedSet::new(alloc);
+    match search_first(alloc, &problem, &ahead, &mut refuted, 100, &mut NoStop)? {
         Told::Found(order) => Ok(Some(order)),
         Told::Refuted | Told::Nothing => Ok(None),
     }

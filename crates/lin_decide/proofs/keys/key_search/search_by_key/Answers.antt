@@ -1,4 +1,4 @@
-use Rattle.std.proofs.Common.{◌≡◌, inr, rules, subst, sym}
+use Rattle.std.proofs.Common.{◌≡◌, inr, subst, sym}
 use Rattle.std.proofs.lemmas.Result.{IfOk-weaker}
 use Rattle.lin_decide.specs.declared.keys.orders_told.OrdersTold.TheVariants.{Nothing}
 use Rattle.lin_decide.specs.Keys.PartOrder.{AreToldUnless}

@@ -1,5 +1,5 @@
 use Rattle.lin_history.specs.Problems.AnyProblem.{any_problem}
 use Rattle.lin_decide.proofs.ladder.LadderDecide.decide.Goals as goal
 
-pub returns-clause-decided : goal.returns-clause-decided
-returns-clause-decided g c = c.decision_of.ensures.decided (any_problem c.args.problem.now) c.in_ok-told.ensures
+pub decide_from-requires : goal.decide_from-requires
+decide_from-requires g c = c.nothing-begun.ensures (any_problem c.args.problem.now)

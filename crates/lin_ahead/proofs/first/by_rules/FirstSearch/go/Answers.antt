@@ -16,3 +16,7 @@ returns-in-Continue-3-clause-stop g c = g.met.S.Stop.chained _ _ _ c.loop-self.i
 
 pub returns-in-Break-3-clause-stop : goal.returns-in-Break-3-clause-stop
 returns-in-Break-3-clause-stop g c = g.met.S.Stop.chained _ _ _ c.loop-self.invariant.stop c.lift_next-2.ensures.stop
+
+pub returns-in-Continue-3-clause-refuted : goal.returns-in-Continue-3-clause-refuted
+returns-in-Continue-3-clause-refuted g c =
+    rw c.loop-self.invariant.problem at (c.in_ok-_frame.ensures.lifted _ c.in-Continue-3.is).progress.refuted

@@ -32,3 +32,10 @@ returns-clause-step g c =
     let items = ap (λ v. v.items) c.leave.ensures.frames in
     let back = first_back _ _ _ _ _ (frame_of g.O.SeqObject.undone c.in-Some.frame c.args.self.now.path.config.state) _ split c.requires.progress _ _ _ _ kept (rw c.pop.ensures.entries at c.leave.ensures.last) (rw c.pop.ensures.entries at c.in_ok-next.ensures.lifted) state (rw c.pop.ensures.entries at c.in_ok-next.ensures.candidate) in
     (rw (frames_same g.O.SeqObject.undone _ _ _ _ items state, c.leave.ensures.lifts) back.0, rw items (left_less g.O.SeqObject.undone _ _ _ _ _ _ _ back.1))
+
+pub returns-clause-refuted : goal.returns-clause-refuted
+returns-clause-refuted g c =
+    let lifted = rw (c.config.ensures, c.pop.ensures.config) at c.in_ok-refuted.ensures.lifted in
+    let same = rw (c.config.ensures, c.pop.ensures.config) at c.in_ok-refuted.ensures.state in
+    let refuted : IsRefuted (problem_of g.O.SeqObject.after g.O.State.PartialEq.eq g.O.Reply.PartialEq.eq c.args.self.now.path.entries.problem) c.in_ok-refuted.refuted.lifted c.in_ok-refuted.refuted.state = refuted_same c.requires.progress.alike c.args.self.now.path.config c.in_ok-refuted.refuted lifted same (first_refuted _ _ _ _ _ c.requires.progress) in
+    refuted_kept _ _ _ c.in_ok-add.ensures (rw c.leave.ensures.refuted c.requires.progress.refuted) refuted
