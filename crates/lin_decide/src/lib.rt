@@ -10,8 +10,6 @@
 //!
 //! - `Found` is the least linearization of the problem; `Refuted` is returned only if there is none. Nothing is told where the effort
 //!   or the work comes to its end, or the stop answers.
-//! - What was found out is not looked for twice: each round, and each later decision of the same problem (`decide_from`), passes over the
-//!   configurations that were refuted, and takes what searches by blocks judged.
 //! - What shows without a search is asked before one: an item that came too early or was taken twice, what was in vain, and calls
 //!   that *cross*: one returned before the other was called, and yet needs it. `some_cross` answers exactly whether there are such.
 //! - In a problem with many pending calls, a search that tells nothing of a part is followed by one that tries pending calls only
@@ -31,6 +29,9 @@
 //!
 //! Why it is so:
 //!
+//! - What was found out is not looked for twice: each round, and each later decision of the same problem (`decide_from`), passes over the
+//!   configurations that were refuted, and takes what searches by blocks judged. The contracts say that what is handed on is right, not
+//!   that it is used: two cases of `lin_tests` are not answered within their limits without it.
 //! - Crossing calls are looked for in each problem before a search, and not within it. Otherwise a queue with two exchanged results
 //!   would make a first search go through all orders between them.
 //! - `--progress` counts the search by blocks as searches of prefixes. It is tried between two searches of one part, so to tell it

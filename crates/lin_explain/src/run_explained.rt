@@ -22,7 +22,7 @@ fn order_of(alloc: Global, history: &History, run: &[Placed]) -> Result<Order, A
 {
     let mut numbers = Vec::new(alloc);
     for placed in run {
-        numbers.push(history.call(placed.call).number)?;
+        numbers.push(history.call(placed.call).number as usize)?;
     }
     Ok(Order::new(numbers))
 }
@@ -72,7 +72,11 @@ fn replies_of(
 {
     let mut replies = recorded_replies(alloc, calls)?;
     for placed in run {
-        set_reply(&mut replies, history.call(placed.call).number, placed.reply);
+        set_reply(
+            &mut replies,
+            history.call(placed.call).number as usize,
+            placed.reply,
+        );
     }
     Ok(replies)
 }

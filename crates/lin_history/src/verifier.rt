@@ -139,10 +139,11 @@ fn replays(alloc: Global, history: &History, placed: &[Placed]) -> Result<bool, 
     let mut states = start_states(alloc, history)?;
     for one in placed {
         let call = history.call(one.call);
-        let Some(next) = state_after(alloc, &states[call.object], call, one.reply)? else {
+        let object = call.object as usize;
+        let Some(next) = state_after(alloc, &states[object], call, one.reply)? else {
             return Ok(false);
         };
-        states[call.object] = next;
+        states[object] = next;
     }
     Ok(true)
 }

@@ -72,7 +72,7 @@ pub(crate) fn look_for_order<R: AllocGlobal, G: Gate, W: Watcher>(
         return Ok(());
     }
     if is_refuted_with_any_adds(setting, problem)? {
-        known.is_refuted = true;
+        known.refute(setting.rt.alloc());
         return Ok(());
     }
     let mut stop = UntilUp::new(&setting.bounds);
@@ -119,7 +119,7 @@ pub(crate) fn look_for_fault<R: AllocGlobal, G: Gate, W: Watcher>(
     let mut ladder = Ladder::new(problem, Work::ANY, &mut stop);
     match calls_of_object(setting.rt.alloc(), problem, &mut ladder)? {
         Some(fault) => {
-            known.is_refuted = true;
+            known.refute(setting.rt.alloc());
             known.fault = Sought::Found(fault);
         }
         None => known.fault = Sought::InVain,

@@ -2,6 +2,8 @@
 
 ghost use Rattle.std.specs.Prelude.{◌≡◌, IsTrue, None, Some, false, true};
 ghost use Rattle.lin_decide.specs.Begun.{IsBegunOf};
+ghost use Rattle.lincheck.specs.Known.{IsKnownOf};
+ghost use Rattle.lincheck.specs.ObjectAnswer.{HasNoOrder};
 
 use crate::object_fault::ObjectFault;
 use lin_decide::Begun;
@@ -60,6 +62,14 @@ impl Known {
             fault: Sought::NotYet,
             begun: Begun::nothing(alloc),
         }
+    }
+
+    /// Notes that it has no linearization. No order is looked for again, so what was begun takes no more memory.
+    pub(crate) fn refute(&mut self, alloc: Global)
+        ensures { (p : _) → HasNoOrder p → IsKnownOf p self.old → IsKnownOf p self.new }
+    {
+        self.is_refuted = true;
+        self.begun = Begun::nothing(alloc);
     }
 
     /// Whether it showed that it has a linearization.

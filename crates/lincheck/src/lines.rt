@@ -58,7 +58,7 @@ fn write_call(
         (slice_get history.now.calls placed.now.call)) }
 {
     let call = history.call(placed.call);
-    let object = history.object(call.object);
+    let object = history.object(call.object as usize);
     push_number(out, place as u64)?;
     write_space(out)?;
     push_call(out, call.process, object.name, &call.op)?;
@@ -74,7 +74,7 @@ fn write_dropped(out: &mut String, history: &History, index: usize) -> Result<()
         → string_bytes out.new ≡ string_bytes out.old ++ dropped_line history.now c) }
 {
     let call = history.call(index);
-    let object = history.object(call.object);
+    let object = history.object(call.object as usize);
     write_text(out, "dropped ")?;
     push_call(out, call.process, object.name, &call.op)?;
     write_text(out, "\n")
@@ -186,7 +186,7 @@ fn calls_on(history: &History, object: usize) -> usize
 {
     let mut count = 0;
     for index in 0..history.call_count() {
-        if history.call(index).object == object {
+        if history.call(index).object as usize == object {
             count += 1;
         }
     }

@@ -39,7 +39,7 @@ use crate::known::Known;
 use crate::object_answer::{ObjectAnswer, Question, asks_no_run};
 use crate::object_fault::hint_of;
 use crate::setting::Setting;
-use lin_decide::{Begun, Ladder};
+use lin_decide::Ladder;
 use lin_effort::efforts::{
     Turn, ahead, first_turn, is_small, order, prefixes_at_first, turn_after, work_of_searches,
 };
@@ -73,9 +73,7 @@ fn decided<R: AllocGlobal, G: Gate, W: Watcher>(
     match ladder.decide_from(setting.rt.alloc(), problem, &mut known.begun, effort)? {
         Decision::Found(order) => Ok(Some(order)),
         Decision::Refuted => {
-            // No order is looked for again, so what was begun takes no more memory.
-            known.is_refuted = true;
-            known.begun = Begun::nothing(setting.rt.alloc());
+            known.refute(setting.rt.alloc());
             Ok(None)
         }
         Decision::Spent | Decision::Stopped => Ok(None),

@@ -4,7 +4,7 @@ use Rattle.std.proofs.lemmas.Bool.{eq-eqb, eqb-true}
 use Rattle.std.proofs.lemmas.Bool.Decides.{eqb_tells}
 use Rattle.std.proofs.lemmas.List.{map-append, map-set, length-set}
 use Rattle.std.proofs.lemmas.Option.{slice_get_within, slice_get-map}
-use Rattle.lin_history.specs.declared.limits.TheConstants.{MAX_CALLS, MAX_CALLS_ON_OBJECT}
+use Rattle.lin_history.specs.declared.limits.TheConstants.{MAX_OBJECTS, MAX_CALLS, MAX_CALLS_ON_OBJECT}
 use Rattle.lin_object.specs.declared.op.Op.{Op}
 use Rattle.lin_object.specs.declared.reply.Reply.{Reply}
 use Rattle.lin_history.specs.declared.recorder.history.CallInfo.{CallInfo}
@@ -111,8 +111,8 @@ count-call made p object number called op q =
     ap (λ ms. length (filter (is_made_on q) ms)) (map-append made_view made (new ∷ [])) ∙ length_filter-push (is_made_on q) (map made_view made) (made_view new)
 
 module _ (objects : List DeclaredObject) (made : List CallInfo) (events : ℕ) (last : ℕ → Option ℕ) (counts : List ℕ) (kept : IsBuilderState objects made events last counts) where
-  pub kept-object : (o : DeclaredObject) → is_name o.name ≡ true → IsBuilderState (objects ++ o ∷ []) made events last (counts ++ 0 ∷ [])
-  kept-object o valid =
+  pub kept-object : (o : DeclaredObject) → is_name o.name ≡ true → length objects < MAX_OBJECTS → IsBuilderState (objects ++ o ∷ []) made events last (counts ++ 0 ∷ [])
+  kept-object o valid few =
       let was = kept.recording in
       record {
         recording = (was.0, adds-object (recorded objects made events) o.name o.kind o.start was.0 was.1);
@@ -124,6 +124,7 @@ module _ (objects : List DeclaredObject) (made : List CallInfo) (events : ℕ) (
               sym new.1 ∙ sym (subst (λ k. count_made_on k (map made_view made) ≡ 0) same (count-undeclared made (length objects) was.1.declared)))
         ];
         each = (let e = kept.each in omega (arith, e, length-append counts (0 ∷ []), length-append objects (o ∷ [])));
+        room = omega (arith, few, length-append objects (o ∷ []));
         few = kept.few;
         limited = kept.limited;
         events_are = kept.events_are;
@@ -138,6 +139,7 @@ module _ (objects : List DeclaredObject) (made : List CallInfo) (events : ℕ) (
         last_known = λ i c there is_last. others c.process (λ own. busy i c there is_last own) ∙ kept.last_known i c there is_last;
         counted = kept.counted;
         each = kept.each;
+        room = kept.room;
         few = kept.few;
         limited = kept.limited;
         events_are = kept.events_are;
@@ -206,6 +208,7 @@ module _ (objects : List DeclaredObject) (made : List CallInfo) (events : ℕ) (
           last_known = last-call known;
           counted = counted-call counted;
           each = length-set counts object (number + 1) ∙ each;
+          room = kept.room;
           few = omega (arith, more, room);
           limited = limited-call counted room_on;
           events_are = (let more_left = length_filter-push has_no_reply made new in let were = kept.events_are in omega (arith, more, more_left, were));
@@ -274,6 +277,7 @@ module _ (objects : List DeclaredObject) (made : List CallInfo) (events : ℕ) (
             last_known = last-end;
             counted = λ q n at. kept.counted q n at ∙ sym (count-end q);
             each = kept.each;
+            room = kept.room;
             few = (let few = kept.few in omega (arith, few, same));
             limited = λ q. (let count = count-end q in let old = kept.limited q in omega (arith, count, old));
             events_are = (let were = kept.events_are in omega (arith, balance, same, were));

@@ -7,9 +7,10 @@ use Rattle.std.proofs.Common.{get_or, IsSomeAnd}
 use Rattle.lin_object.specs.declared.op.Op.{Op}
 use Rattle.lin_object.specs.declared.reply.Reply.{Reply}
 use Rattle.lin_history.specs.declared.recorder.history.CallInfo.{CallInfo}
+use Rattle.lin_history.specs.declared.limits.TheConstants.{MAX_CALLS_ON_OBJECT}
 use Rattle.lin_history.specs.Recorder.Events.{Call}
 use Rattle.lin_history.specs.Recorder.RecordedHistory.{is_on}
-use Rattle.lin_history.specs.Recorder.Views.{call_view, count_on, AreFinished}
+use Rattle.lin_history.specs.Recorder.Views.{call_view, count_on, AreFinished, AreWithinLimit}
 use Rattle.lin_history.proofs.ListLemmas.{slice_get-set, length_filter-push}
 use Rattle.lin_history.proofs.RecorderLemmas.BuilderLemmas.{false_from}
 use Rattle.lin_history.specs.declared.recorder.history.Mark.TheVariants.{Unmarked}
@@ -46,12 +47,12 @@ module _ {A : Type 0} where
   take_more (y ∷ xs) zero x e = let same : y ≡ x = cc in ap (λ (z : A). z ∷ []) same
   take_more (y ∷ xs) (suc n) x e = ap (λ (zs : List A). y ∷ zs) (take_more xs n x e)
 
-  count_below : (p : A → Bool) (n : ℕ) (xs : List A) → length (filter p (take n xs)) ≤ n
-  count_below p zero xs = omega arith
-  count_below p (suc n) [] = omega arith
-  count_below p (suc n) (x ∷ xs) =
-      let rest = count_below p n xs in
-      elim (p x) as (λ b. length (cond b (x ∷ filter p (take n xs)) (filter p (take n xs))) ≤ suc n) [ true ↦ omega (arith, rest) | false ↦ omega (arith, rest) ]
+  count_taken : (p : A → Bool) (n : ℕ) (xs : List A) → length (filter p (take n xs)) ≤ length (filter p xs)
+  count_taken p zero xs = omega arith
+  count_taken p (suc n) [] = omega arith
+  count_taken p (suc n) (x ∷ xs) =
+      let rest = count_taken p n xs in
+      elim (p x) as (λ b. length (cond b (x ∷ filter p (take n xs)) (filter p (take n xs))) ≤ length (cond b (x ∷ filter p xs) (filter p xs))) [ true ↦ omega (arith, rest) | false ↦ rest ]
 
   map_taken : {B : Type 0} (f : A → B) (n : ℕ) (xs : List A) → map f (take n xs) ≡ take n (map f xs)
   map_taken f zero xs = refl
@@ -88,13 +89,6 @@ numbering_within seen calls counts n is within = there (slice_get calls n) refl 
         none_past (x ∷ xs) zero e less = absurd (cc)
         none_past (x ∷ xs) (suc i) e less = none_past xs i e (omega (arith, less))
     there (Some c) e less = is.below n c e
-
-pub numbering_few : (seen : List (Call Op Reply)) (calls : List CallInfo) (counts : List ℕ) (n : ℕ) → IsNumbering seen calls counts n → n < length calls
-    → (object : ℕ) (k : ℕ) → slice_get counts object ≡ Some k → k < length calls
-numbering_few seen calls counts n is within object k there =
-    let counted = is.counted object k there in
-    let few = count_below (is_on object) n seen in
-    omega (arith, counted, few, within)
 
 module _ (seen : List (Call Op Reply)) (calls : List CallInfo) (counts : List ℕ) (n : ℕ) (is : IsNumbering seen calls counts n) (c : CallInfo) (k : ℕ)
     (there : slice_get calls n ≡ Some c) (count : slice_get counts c.object ≡ Some k) where
@@ -148,6 +142,28 @@ module _ (seen : List (Call Op Reply)) (calls : List CallInfo) (counts : List �
     counted = counted_next;
     below = below_next;
   }
+
+  -- its number is below the limit
+  room_here : AreWithinLimit seen → k < MAX_CALLS_ON_OBJECT
+  room_here limited =
+      let was = is.counted c.object k count in
+      let now : count_on c.object (take (n + 1) seen) ≡ count_on c.object (take n seen) + 1 = rw (eq-eqb c.object c.object refl) at (count_more c.object) in
+      let some = count_taken (is_on c.object) (n + 1) seen in
+      let all = limited c.object in
+      omega (arith, was, now, some, all)
+
+-- the number that the call of the index gets is below the limit
+pub numbering_room : (seen : List (Call Op Reply)) (calls : List CallInfo) (counts : List ℕ) (n : ℕ) → IsNumbering seen calls counts n → AreWithinLimit seen
+    → IfSome (slice_get calls n) (λ c. IfSome (slice_get counts c.object) (λ k. k < MAX_CALLS_ON_OBJECT))
+numbering_room seen calls counts n is limited = at (slice_get calls n) refl
+  where
+    with_count : (c : CallInfo) → slice_get calls n ≡ Some c → (o : _) → slice_get counts c.object ≡ o → IfSome o (λ k. k < MAX_CALLS_ON_OBJECT)
+    with_count c there None e = tt
+    with_count c there (Some k) e = room_here seen calls counts n is c k there e limited
+
+    at : (o : _) → slice_get calls n ≡ o → IfSome o (λ c. IfSome (slice_get counts c.object) (λ k. k < MAX_CALLS_ON_OBJECT))
+    at None e = tt
+    at (Some c) e = with_count c e (slice_get counts c.object) refl
 
 -- by what numbering one call leaves
 pub numbering_next : (seen : List (Call Op Reply)) (calls calls' : List CallInfo) (counts counts' : List ℕ) (n : ℕ) → IsNumbering seen calls counts n → n < length calls

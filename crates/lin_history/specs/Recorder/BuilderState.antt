@@ -2,7 +2,7 @@
 use Rattle.std.specs.Prelude.{◌≡◌, ℕ, ◌+◌, ◌≤◌, Bool, true, not, Option, Some, None, is_none, is_some, List, [], ◌∷◌, map, length, slice_get, filter, find}
 use Rattle.lin_object.specs.declared.op.Op.{Op}
 use Rattle.lin_object.specs.declared.reply.Reply.{Reply}
-use Rattle.lin_history.specs.declared.limits.TheConstants.{MAX_CALLS, MAX_CALLS_ON_OBJECT}
+use Rattle.lin_history.specs.declared.limits.TheConstants.{MAX_OBJECTS, MAX_CALLS, MAX_CALLS_ON_OBJECT}
 use Rattle.lin_history.specs.declared.recorder.history.CallInfo.{CallInfo}
 use Rattle.lin_history.specs.declared.recorder.history.Mark.{Mark}
 use Rattle.lin_history.specs.declared.recorder.history.Mark.TheVariants.{Unmarked, Failed, Ended}
@@ -61,12 +61,13 @@ abbrev pub AreNamed : List DeclaredObject → Type 0
 AreNamed objects = (i : ℕ) (o : DeclaredObject) → slice_get objects i ≡ Some o → is_name o.name ≡ true
 
 -- What holds of all that a builder keeps: the last call of each process, how many calls were made on each object, and that
--- each object has a name.
+-- the objects are few and each has a name.
 pub record IsBuilderState (objects : List DeclaredObject) (calls : List CallInfo) (events : ℕ) (last : ℕ → Option ℕ) (counts : List ℕ) : Type 0 where
   pub recording : IsRecording (recorded objects calls events)
   pub last_known : KnowsLast last calls
   pub counted : AreCounts counts calls
   pub each : length counts ≡ length objects
+  pub room : length objects ≤ MAX_OBJECTS
   pub few : length calls ≤ MAX_CALLS
   pub limited : AreMadeWithinLimit calls
   -- each call has an event, and one more where it has returned

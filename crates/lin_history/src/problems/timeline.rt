@@ -11,7 +11,7 @@ use crate::problems::problem::{Problem, ProblemCall};
 use lin_object::SeqObject;
 use std::alloc::{AllocError, Global};
 
-/// An event of a problem, by the number of its call: a problem has no more than 16,384 of them.
+/// An event of a problem, by the number of its call: a problem has no more than 16,384 calls.
 #[derive(Clone, Copy, PartialEq, Eq, Debug)]
 pub enum ProblemEvent {
     /// The call is called.

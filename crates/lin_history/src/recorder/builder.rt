@@ -1,14 +1,14 @@
 //! The builder: it accepts exactly the events with which a history stays well-formed.
 
-ghost use Rattle.std.specs.Prelude.{◌≡◌, ◌≢◌, ℕ, ◌<◌, ◌+◌, ◌^◌, ◌++◌, ◌∷◌, [], ◌||◌, nat_le, Some, None, nat_eq, length, map, option_map, option_and_then, filter, find, position, bytes_eq, slice_get, slice_set, is_some, true, false, OnOk, OnErr, IfOk, IfErr, IfSome, IfNone, IsTrue, IsFalse, IsSomeAnd};
+ghost use Rattle.std.specs.Prelude.{◌≡◌, ◌≢◌, ℕ, ◌<◌, ◌≤◌, ◌+◌, ◌^◌, ◌++◌, ◌∷◌, [], ◌||◌, nat_le, Some, None, nat_eq, length, map, option_map, option_and_then, filter, find, position, bytes_eq, slice_get, slice_set, is_some, true, false, OnOk, OnErr, IfOk, IfErr, IfSome, IfNone, IsTrue, IsFalse, IsSomeAnd};
 ghost use Rattle.indexmap.specs.IndexMap.{get};
 ghost use Rattle.lin_history.specs.Refusals.{first_that_holds};
 ghost use Rattle.lin_history.specs.Recorder.Events.{calls, returns_, fails, ends, is_kept, calls_of};
 ghost use Rattle.lin_history.specs.Recorder.Names.{is_name};
 ghost use Rattle.lin_history.specs.Recorder.Recording.{is_pending, is_unknown, is_last_of, count_made_on, index_named, kind_named, declaration_refusals, end_refusals};
 ghost use Rattle.lin_history.specs.Recorder.Found.{IsFound};
-ghost use Rattle.lin_history.specs.Recorder.Views.{object_view, call_view, AreFinished};
-ghost use Rattle.lin_history.specs.Recorder.BuilderState.{recorded, made_view, name_refusals, process_refusals, pending_refusals, KnowsLast, AreCounts, IsPendingOn};
+ghost use Rattle.lin_history.specs.Recorder.Views.{object_view, call_view, AreFinished, AreWithinLimit};
+ghost use Rattle.lin_history.specs.Recorder.BuilderState.{recorded, made_view, name_refusals, process_refusals, pending_refusals, KnowsLast, AreCounts, AreMadeWithinLimit, IsPendingOn};
 
 use crate::limits::{MAX_CALLS, MAX_CALLS_ON_OBJECT, MAX_OBJECTS};
 use crate::recorder::fault::BuildFault;
@@ -95,6 +95,7 @@ fn declaration_fault(objects: &IndexMap<String, Declaration>, name: &str) -> Opt
     ensures valid { IfNone result (is_name name.now ≡ true) }
     ensures absent { IfNone result (index_named
         (recorded (map object_view objects.now.entries) [] 0) name.now ≡ None) }
+    ensures room { IfNone result (length objects.now.entries < MAX_OBJECTS) }
 {
     if !is_name(name) {
         Some(BuildFault::BadName)
@@ -236,7 +237,7 @@ fn find_pending(
     if has_ended(&calls[call]) {
         return Err(BuildFault::ProcessEnded(process));
     }
-    if calls[call].object != object {
+    if calls[call].object as usize != object {
         return Err(BuildFault::OtherObject(process));
     }
     Ok(call)
@@ -283,6 +284,8 @@ fn put(
 // The call that comes next: its number is how many calls its object has, and its event is the next.
 fn next_call(counts: &[usize], events: u32, process: u32, object: usize, op: Op) -> CallInfo
     requires within { object < length counts.now }
+    requires declared { length counts.now ≤ MAX_OBJECTS }
+    requires room { IfSome (slice_get counts.now object) (λ count. count < MAX_CALLS_ON_OBJECT) }
     requires few { events + 1 < 2 ^ 32 }
     ensures number { slice_get counts.now object ≡ Some result.number }
     ensures call { result ≡ record {
@@ -295,10 +298,10 @@ fn next_call(counts: &[usize], events: u32, process: u32, object: usize, op: Op)
       mark = Mark.Unmarked;
     } }
 {
-    let number = counts[object];
+    let number = counts[object] as u16;
     CallInfo {
         process,
-        object,
+        object: object as u16,
         number,
         op,
         called: events + 1,
@@ -332,7 +335,7 @@ fn add(
     // Before the push: where that fails, the process has no pending call and this names none.
     last.insert(call.process, calls.len())?;
     calls.push(call)?;
-    counts[call.object] = call.number + 1;
+    counts[call.object as usize] = call.number as usize + 1;
     *events = call.called;
     Ok(())
 }
@@ -374,17 +377,17 @@ fn clear(counts: &mut [usize])
 // history it is pending or completed.
 fn number_call(calls: &mut [CallInfo], counts: &mut [usize], call: usize)
     requires within { IsSomeAnd (slice_get calls.old call) (λ c. c.object < length counts.old) }
-    requires few { (object : ℕ) (n : ℕ) → slice_get counts.old object ≡ Some n
-        → n < length calls.old }
+    requires room { IfSome (slice_get calls.old call) (λ c. IfSome
+        (slice_get counts.old c.object) (λ n. n < MAX_CALLS_ON_OBJECT)) }
     ensures { IfSome (slice_get calls.old call) (λ c. IfSome (slice_get counts.old c.object)
         (λ n. (calls.new ≡ slice_set calls.old call (record c
         { number = n; mark = Mark.Unmarked }))
         × (counts.new ≡ slice_set counts.old c.object (n + 1)))) }
 {
-    let object = calls[call].object;
+    let object = calls[call].object as usize;
     let mark = Mark::Unmarked;
     calls[call] = CallInfo {
-        number: counts[object],
+        number: counts[object] as u16,
         mark,
         ..calls[call]
     };
@@ -393,8 +396,9 @@ fn number_call(calls: &mut [CallInfo], counts: &mut [usize], call: usize)
 
 // Numbers the calls on each object from 0. The counts have room for it, and are lost.
 fn number_calls(calls: &mut [CallInfo], counts: &mut [usize])
-    requires { (i : ℕ) (c : CallInfo) → slice_get calls.old i ≡ Some c
+    requires counted { (i : ℕ) (c : CallInfo) → slice_get calls.old i ≡ Some c
         → c.object < length counts.old }
+    requires limited { AreWithinLimit (map call_view calls.old) }
     ensures same { map call_view calls.new ≡ map call_view calls.old }
     ensures numbered { AreFinished calls.new }
 {
@@ -415,8 +419,9 @@ fn without_failed(calls: Vec<CallInfo>) -> Vec<CallInfo>
 
 // The calls that did not fail, with their numbers. It takes no memory.
 fn kept_calls(calls: Vec<CallInfo>, counts: Vec<usize>) -> Vec<CallInfo>
-    requires { (i : ℕ) (c : CallInfo) → slice_get calls.items i ≡ Some c
+    requires counted { (i : ℕ) (c : CallInfo) → slice_get calls.items i ≡ Some c
         → c.object < length counts.items }
+    requires limited { AreMadeWithinLimit calls.items }
     ensures kept { map call_view result.items ≡ calls_of (map made_view calls.items) }
     ensures numbered { AreFinished result.items }
 {

@@ -41,10 +41,10 @@ pub struct CallInfo {
     pub process: u32,
     /// The number of its call event, from 1.
     pub called: u32,
-    /// The index of its object, in the order of declaration.
-    pub object: usize,
-    /// Its number among the calls on its object, from 0.
-    pub number: usize,
+    /// The index of its object, in the order of declaration: below 1,024.
+    pub object: u16,
+    /// Its number among the calls on its object, from 0: below 16,384.
+    pub number: u16,
     /// What it called.
     pub op: Op,
     /// The number of its return event, and the reply; `None` while it is pending.

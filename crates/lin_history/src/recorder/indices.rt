@@ -16,7 +16,7 @@ pub(crate) fn indices_on(
 {
     let mut indices = Vec::new(alloc);
     for index in 0..history.call_count() {
-        if history.call(index).object == object {
+        if history.call(index).object as usize == object {
             indices.push(index)?;
         }
     }
@@ -61,7 +61,11 @@ pub(crate) fn indices_of_all(
 {
     let mut lists = empty_lists(alloc, history.object_count())?;
     for index in 0..history.call_count() {
-        add_index(lists.as_mut_slice(), history.call(index).object, index)?;
+        add_index(
+            lists.as_mut_slice(),
+            history.call(index).object as usize,
+            index,
+        )?;
     }
     Ok(lists)
 }

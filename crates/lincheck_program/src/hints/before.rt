@@ -39,7 +39,7 @@ impl Before {
     fn calls_on(&self, name: Option<&str>) -> usize {
         let mut count = 0usize;
         for index in 0..self.history.call_count() {
-            let object = self.history.call(index).object;
+            let object = self.history.call(index).object as usize;
             if Some(self.history.object(object).name) == name {
                 count = count.saturating_add(1);
             }

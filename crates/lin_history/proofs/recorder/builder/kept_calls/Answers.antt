@@ -1,12 +1,16 @@
 use Rattle.std.proofs.Common.{◌≡◌, length, map, drop, ap, ◌∙◌}
 use Rattle.lin_history.specs.Recorder.Views.{call_view}
 use Rattle.lin_history.proofs.RecorderLemmas.IndexLemmas.{written_over}
-use Rattle.lin_history.proofs.RecorderLemmas.KeptLemmas.{kept_seen, kept_below}
+use Rattle.lin_history.proofs.RecorderLemmas.KeptLemmas.{kept_seen, kept_below, kept_limited}
 use Rattle.lin_history.proofs.recorder.builder.kept_calls.Goals as goal
 
-pub number_calls-requires : goal.number_calls-requires
-number_calls-requires c =
-    rw (c.as_mut_slice.ensures.value, c.as_mut_slice-2.ensures.value, c.without_failed-kept.ensures) (kept_below c.args.calls.items _ c.requires)
+pub number_calls-requires-clause-counted : goal.number_calls-requires-clause-counted
+number_calls-requires-clause-counted c =
+    rw (c.as_mut_slice.ensures.value, c.as_mut_slice-2.ensures.value, c.without_failed-kept.ensures) (kept_below c.args.calls.items _ c.requires.counted)
+
+pub number_calls-requires-clause-limited : goal.number_calls-requires-clause-limited
+number_calls-requires-clause-limited c =
+    rw (c.as_mut_slice.ensures.value, c.without_failed-kept.ensures, kept_seen c.args.calls.items) (kept_limited c.args.calls.items c.requires.limited)
 
 pub returns-clause-kept : goal.returns-clause-kept
 returns-clause-kept c =

@@ -5,8 +5,8 @@ use Rattle.lin_history.specs.Recorder.BuilderState.{recorded}
 use Rattle.lin_history.proofs.RecorderLemmas.KeptLemmas.{is_history, kept_limited, made_below}
 use Rattle.lin_history.proofs.recorder.builder.Builder.finish.Goals as goal
 
-pub kept_calls-requires : goal.kept_calls-requires
-kept_calls-requires c = made_below _ c.self.inside.calls.items _ _ _ c.self.invariant
+pub kept_calls-requires-clause-counted : goal.kept_calls-requires-clause-counted
+kept_calls-requires-clause-counted c = made_below _ c.self.inside.calls.items _ _ _ c.self.invariant
 
 pub new-requires-clause-history : goal.new-requires-clause-history
 new-requires-clause-history c =
