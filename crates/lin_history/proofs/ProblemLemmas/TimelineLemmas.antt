@@ -1,13 +1,13 @@
--- The events of a problem, sorted by their numbers, are its timeline.
-use Rattle.std.proofs.Common.{append_assoc, ◌≡◌, ◌≢◌, ℕ, zero, suc, ◌+◌, ◌<◌, ◌≤◌, Option, Some, None, IsSome, List, [], ◌∷◌, ◌++◌, length, map, get_or, ◌⊎◌, inl, inr, refl, sym, ap, subst, ◌∙◌, arith}
+-- The events of a problem in the order of their numbers are its timeline.
+use Rattle.std.proofs.Common.{◌≡◌, ◌≢◌, ℕ, zero, suc, ◌+◌, ◌<◌, ◌≤◌, Option, Some, None, IsSome, List, [], ◌∷◌, ◌++◌, length, map, get_or, ◌⊎◌, inl, inr, refl, sym, ap, subst, ◌∙◌, arith}
 use Rattle.std.specs.List.{slice_get, swap, Contains}
 use Rattle.std.specs.Prelude.{IsSomeAnd, option_map}
 use Rattle.std.specs.List.Sorted.{IsPermutation, IsNonDecreasingBy}
 use Rattle.std.proofs.lemmas.Bool.{cases_lt}
 use Rattle.std.proofs.lemmas.Option.{slice_get-map, slice_get_within, slice_get-get_or, get_or_from_slice_get, same_Some}
-use Rattle.std.proofs.lemmas.List.{length-append, length-map}
+use Rattle.std.proofs.lemmas.List.{append-nil, length-append, length-map}
 use Rattle.std.proofs.lemmas.List.Edits.{Swapped, swapped_from_swap, length-swap}
-use Rattle.std.proofs.lemmas.List.Sorted.{IsPermutation-keeps, IsPermutation-sym, IsPermutation-trans, IsPermutation-append_comm, IsPermutation-append_right, IsPermutation-append_left, IsPermutation-refl, Contains-permutation, length_permutation}
+use Rattle.std.proofs.lemmas.List.Sorted.{IsPermutation-keeps, IsPermutation-sym, Contains-permutation, length_permutation}
 use Rattle.lin_history.specs.declared.problems.problem.ProblemCall.{ProblemCall}
 use Rattle.lin_history.specs.declared.problems.timeline.Timed.{Timed}
 use Rattle.lin_history.specs.declared.problems.timeline.ProblemEvent.{ProblemEvent}
@@ -16,7 +16,7 @@ use Rattle.lin_history.specs.Problems.ProblemParts.{AreTimed}
 use Rattle.lin_history.specs.Problems.Problem.{Problem}
 use Rattle.lin_history.specs.Problems.Precedence.{Before, IsCompleted}
 use Rattle.lin_history.specs.Problems.Timeline.{IsTimeline, HasNumber}
-use Rattle.lin_history.specs.Problems.NumberedEvents.{number_at, event_at, return_of, calls_from, returns_from}
+use Rattle.lin_history.specs.Problems.NumberedEvents.{number_at, event_at, return_of, events_of_call, events_from, AreMerged}
 use Rattle.lin_history.specs.OptionLemmas.{some_and, and_some, some_is}
 use Rattle.lin_history.specs.Problems.EventLemmas.{call_of, call_or_return, same_call, same_return}
 
@@ -117,15 +117,6 @@ once_apart : (l : List Timed) → AllApart l → Once l
 once_apart l k i j d h m e = apart_places l i j (get_or l i d) (get_or l j d) k (slice_get-get_or l i d h) (slice_get-get_or l j d m) e
 
 -- ---- the events, call by call
-
--- The events of this call.
-abbrev events_of_call : {Op Reply : Type 0} → ℕ → ProblemCall Op Reply → List Timed
-events_of_call call x = (record { number = x.called; event = Call call }) ∷ return_of call x.returned
-
--- The events of the calls, of which the first has this number.
-abbrev events_from : {Op Reply : Type 0} → ℕ → List (ProblemCall Op Reply) → List Timed
-events_from call [] = []
-events_from call (x ∷ xs) = events_of_call call x ++ events_from (call + 1) xs
 
 module _ {Reply : Type 0} where
   -- the return event in the list is that of the reply
@@ -388,31 +379,8 @@ module _ {State Op Reply : Type 0} (p : Problem State Op Reply) (timed : AreTime
     few = few_sorted;
   }
 
--- the events of the timeline are those of the calls, sorted by their numbers
-pub timeline_of : {State Op Reply : Type 0} (p : Problem State Op Reply) (calls : List (ProblemCall Op Reply)) (l s : List Timed) (events : List ProblemEvent) → AreTimed p.calls → calls ≡ p.calls → l ≡ events_from 0 calls → IsNonDecreasingBy number_at s → IsPermutation l s → events ≡ map event_at s → IsTimeline p events
-timeline_of {Op = Op} {Reply = Reply} p calls l s events timed e f up moved g = rw g (timeline_sorted p timed s up (let P : List Timed → Type 0 = λ k. IsPermutation k s in subst P (f ∙ ap (λ (c : List (ProblemCall Op Reply)). events_from 0 c) e) moved))
-
--- ---- the calls before the returns
-
--- A list in front of two others changes its place with the first of them.
-exchange : (r c q : List Timed) → IsPermutation (r ++ (c ++ q)) (c ++ (r ++ q))
-exchange r c q =
-    let moved : IsPermutation ((r ++ c) ++ q) ((c ++ r) ++ q) = IsPermutation-append_left q (r ++ c) (c ++ r) (IsPermutation-append_comm r c) in
-    subst (λ l. IsPermutation l (c ++ (r ++ q))) (append_assoc r c q) (subst (λ l. IsPermutation ((r ++ c) ++ q) l) (append_assoc c r q) moved)
-
--- The events call by call are the call events and then the return events, in another order.
-pub apart_events : {Op Reply : Type 0} → (n : ℕ) (cs : List (ProblemCall Op Reply)) → IsPermutation (events_from n cs) (calls_from n cs ++ returns_from n cs)
-apart_events n [] = IsPermutation-refl []
-apart_events n (x ∷ xs) =
-    let head : List Timed = (record { number = x.called; event = Call n }) ∷ [] in
-    let r = return_of n x.returned in
-    let c = calls_from (n + 1) xs in
-    let q = returns_from (n + 1) xs in
-    let inner : IsPermutation (r ++ events_from (n + 1) xs) (r ++ (c ++ q)) = IsPermutation-append_right r (events_from (n + 1) xs) (c ++ q) (apart_events (n + 1) xs) in
-    IsPermutation-append_right head (r ++ events_from (n + 1) xs) (c ++ (r ++ q)) (IsPermutation-trans (r ++ events_from (n + 1) xs) (r ++ (c ++ q)) (c ++ (r ++ q)) inner (exchange r c q))
-
--- the calls, and then the returns, sorted by their numbers, are the timeline
-pub timeline_of_apart : {State Op Reply : Type 0} (p : Problem State Op Reply) (calls : List (ProblemCall Op Reply)) (k l s : List Timed) (events : List ProblemEvent) → AreTimed p.calls → calls ≡ p.calls → k ≡ calls_from 0 calls → l ≡ k ++ returns_from 0 calls → IsNonDecreasingBy number_at s → IsPermutation l s → events ≡ map event_at s → IsTimeline p events
-timeline_of_apart p calls k l s events timed e first f up moved g =
-    let both : IsPermutation (calls_from 0 calls ++ returns_from 0 calls) s = subst (λ (m : List Timed). IsPermutation (m ++ returns_from 0 calls) s) first (subst (λ m. IsPermutation m s) f moved) in
-    timeline_of p calls (events_from 0 calls) s events timed e refl up (IsPermutation-trans (events_from 0 calls) (calls_from 0 calls ++ returns_from 0 calls) s (apart_events 0 calls) both) g
+-- the events of the calls, in the order of their numbers, are the timeline
+pub timeline_of : {State Op Reply : Type 0} (p : Problem State Op Reply) (calls : List (ProblemCall Op Reply)) (high : ℕ) (events : List ProblemEvent) → AreTimed p.calls → calls ≡ p.calls → AreMerged (events_from 0 calls) high events [] → IsTimeline p events
+timeline_of {Op = Op} {Reply = Reply} p calls high events timed e merged =
+    let moved : IsPermutation (events_from 0 calls) merged.rows = subst (λ l. IsPermutation (events_from 0 calls) l) (append-nil merged.rows) merged.moved in
+    rw merged.same (timeline_sorted p timed merged.rows merged.sorted (subst (λ (c : List (ProblemCall Op Reply)). IsPermutation (events_from 0 c) merged.rows) e moved))

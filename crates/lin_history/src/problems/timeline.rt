@@ -1,15 +1,22 @@
 //! The events of a problem in the order of their numbers.
 
-ghost use Rattle.std.specs.Prelude.{◌≡◌, ◌<◌, ◌≤◌, ◌++◌, length, map, IfOk, OnOk};
-ghost use Rattle.std.specs.List.Sorted.{IsPermutation, IsNonDecreasingBy};
+ghost use Rattle.std.specs.Prelude.{◌≡◌, ℕ, ◌+◌, ◌<◌, ◌≤◌, [], ◌++◌, Some, List, length, IfOk, OnOk, IfSome, OnSome, IfNone, refl};
+ghost use Rattle.std.specs.List.{All};
+ghost use Rattle.std.specs.List.Sorted.{IsPermutation};
+ghost use Rattle.std.specs.BinaryHeap.{IsHeap, KeepsHeap, heap_items, heap_len};
+ghost use Rattle.std.specs.Cmp.{partial_equiv_from_equiv, partial_order_from_agreeing_total, eq_by_cmp_equiv, back_total, on_total, nat_cmp_total};
+ghost use Rattle.std.specs.Ordering.{eq_by_cmp};
 ghost use Rattle.lin_history.specs.Problems.Problem.{problem_of};
+ghost use Rattle.lin_history.specs.Problems.ProblemParts.{AreTimed};
 ghost use Rattle.lin_history.specs.Problems.Timeline.{IsTimeline};
-ghost use Rattle.lin_history.specs.Problems.NumberedEvents.{number_at, event_at, return_of, calls_from, returns_from};
+ghost use Rattle.lin_history.specs.Problems.NumberedEvents.{number_at, first_by_number, return_of, events_of_call, events_from, TakesFirst, AreMerged, AreMergedUpTo};
 
 use crate::limits::MAX_CALLS_ON_OBJECT;
 use crate::problems::problem::{Problem, ProblemCall};
 use lin_object::SeqObject;
 use std::alloc::{AllocError, Global};
+use std::cmp::Ordering;
+use std::collections::BinaryHeap;
 
 /// An event of a problem, by the number of its call: a problem has no more than 16,384 calls.
 #[derive(Clone, Copy, PartialEq, Eq, Debug)]
@@ -20,40 +27,129 @@ pub enum ProblemEvent {
     Return(u16),
 }
 
-// An event with its number.
+// An event with its number. Two are compared by their numbers alone.
 #[derive(Clone, Copy)]
 struct Timed {
     number: u32,
     event: ProblemEvent,
 }
 
-// The call events of the calls, which are in order already.
-fn call_events<P, R>(alloc: Global, calls: &[ProblemCall<P, R>]) -> Result<Vec<Timed>, AllocError>
-    requires { length calls.now ≤ MAX_CALLS_ON_OBJECT }
-    ensures { IfOk result (λ timed. timed.items ≡ calls_from 0 calls.now) }
-{
-    let mut timed = Vec::with_capacity(alloc, calls.len())?;
-    for call in 0..calls.len() {
-        timed.push(Timed {
-            number: calls[call].called,
-            event: ProblemEvent::Call(call as u16),
-        })?;
+impl PartialEq for Timed {
+    ghost eq = { eq_by_cmp first_by_number };
+
+    ghost laws = { partial_equiv_from_equiv (eq_by_cmp_equiv (back_total (on_total number_at nat_cmp_total))) };
+
+    fn eq(&self, other: &Self) -> bool {
+        self.cmp(other).is_eq()
     }
-    Ok(timed)
 }
 
-// Appends the return event of the call, if it has one.
+impl Eq for Timed {
+    ghost laws = { eq_by_cmp_equiv (back_total (on_total number_at nat_cmp_total)) };
+}
+
+impl PartialOrd for Timed {
+    ghost partial_cmp = { λ x y. Some (first_by_number x y) };
+
+    ghost laws = { partial_order_from_agreeing_total first_by_number (back_total (on_total number_at nat_cmp_total)) (λ x y. refl) (λ x y. refl) };
+
+    fn partial_cmp(&self, other: &Self) -> Option<Ordering> {
+        Some(self.cmp(other))
+    }
+}
+
+// The greater of two is the one with the lesser number, so that a heap gives it first.
+impl Ord for Timed {
+    ghost cmp = { first_by_number };
+
+    ghost total = { back_total (on_total number_at nat_cmp_total) };
+
+    ghost matches_partial_cmp = { λ x y. refl };
+
+    ghost matches_eq = { λ x y. refl };
+
+    fn cmp(&self, other: &Self) -> Ordering {
+        other.number.cmp(&self.number)
+    }
+}
+
+// Takes out the event with the least number.
+fn take_first(later: &mut BinaryHeap<Timed>) -> Option<Timed>
+    requires { IsHeap first_by_number (heap_items later.old) }
+    ensures first { IfSome result (λ first. TakesFirst (heap_items later.old) first
+        (heap_items later.new)) }
+    ensures len { OnSome result (heap_len later.new + 1 ≡ heap_len later.old) }
+    ensures none { IfNone result ((heap_items later.old ≡ []) × (heap_items later.new ≡ [])) }
+{
+    later.pop()
+}
+
+// Takes out the event with the least number, if that is less than this number.
+fn take_before(later: &mut BinaryHeap<Timed>, number: u32) -> Option<Timed>
+    requires { IsHeap first_by_number (heap_items later.old) }
+    ensures first { IfSome result (λ first. (first.number < number)
+        × TakesFirst (heap_items later.old) first (heap_items later.new)) }
+    ensures len { OnSome result (heap_len later.new + 1 ≡ heap_len later.old) }
+    ensures none { IfNone result ((heap_items later.new ≡ heap_items later.old)
+        × All (λ t. number ≤ t.number) (heap_items later.old)) }
+{
+    let Some(first) = later.peek() else {
+        return None;
+    };
+    if number <= first.number {
+        return None;
+    }
+    take_first(later)
+}
+
+// Appends the events with numbers less than this one, in order.
+fn take_out_before(
+    later: &mut BinaryHeap<Timed>,
+    number: u32,
+    events: &mut Vec<ProblemEvent>,
+) -> Result<(), AllocError>
+    requires { IsHeap first_by_number (heap_items later.old) }
+    ensures { OnOk result ((all : List Timed) →
+        AreMergedUpTo all number events.old.items (heap_items later.old) →
+        AreMergedUpTo all number events.new.items (heap_items later.new)
+        × All (λ t. number ≤ t.number) (heap_items later.new)) }
+{
+    while let Some(first) = take_before(later, number) {
+        events.push(first.event)?;
+    }
+    Ok(())
+}
+
+// Appends all events that are left, in order.
+fn take_out_rest(
+    later: &mut BinaryHeap<Timed>,
+    events: &mut Vec<ProblemEvent>,
+) -> Result<(), AllocError>
+    requires { IsHeap first_by_number (heap_items later.old) }
+    ensures { OnOk result ((all : List Timed) (low : ℕ) →
+        AreMerged all low events.old.items (heap_items later.old) →
+        (high : ℕ) × AreMerged all high events.new.items []) }
+{
+    while let Some(first) = take_first(later) {
+        events.push(first.event)?;
+    }
+    Ok(())
+}
+
+// Puts in the return event of the call, if it has one.
 fn add_return<P, R>(
-    timed: &mut Vec<Timed>,
+    later: &mut BinaryHeap<Timed>,
     call: usize,
     made: &ProblemCall<P, R>,
 ) -> Result<(), AllocError>
     requires { call < MAX_CALLS_ON_OBJECT }
-    ensures { OnOk result (timed.new.items
-        ≡ timed.old.items ++ return_of call made.now.returned) }
+    ensures moved { OnOk result (IsPermutation
+        (return_of call made.now.returned ++ heap_items later.old) (heap_items later.new)) }
+    ensures heap { OnOk result (KeepsHeap first_by_number
+        (heap_items later.old) (heap_items later.new)) }
 {
     if let Some((number, _)) = &made.returned {
-        timed.push(Timed {
+        later.push(Timed {
             number: *number,
             event: ProblemEvent::Return(call as u16),
         })?;
@@ -61,44 +157,49 @@ fn add_return<P, R>(
     Ok(())
 }
 
-// Appends the return events of the calls, call by call.
-fn add_returns<P, R>(timed: &mut Vec<Timed>, calls: &[ProblemCall<P, R>]) -> Result<(), AllocError>
-    requires { length calls.now ≤ MAX_CALLS_ON_OBJECT }
-    ensures { OnOk result (timed.new.items ≡ timed.old.items ++ returns_from 0 calls.now) }
+// Appends the returns before the call event of the call, and this event, and puts in its return event.
+fn add_call<P, R>(
+    later: &mut BinaryHeap<Timed>,
+    call: usize,
+    made: &ProblemCall<P, R>,
+    events: &mut Vec<ProblemEvent>,
+) -> Result<(), AllocError>
+    requires within { call < MAX_CALLS_ON_OBJECT }
+    requires returned { IfSome made.now.returned (λ r. made.now.called < r.0) }
+    requires heap { IsHeap first_by_number (heap_items later.old) }
+    ensures { OnOk result ((all : List Timed) →
+        AreMergedUpTo all made.now.called events.old.items (heap_items later.old) →
+        AreMerged (all ++ events_of_call call made.now) made.now.called events.new.items
+        (heap_items later.new)) }
 {
+    take_out_before(later, made.called, events)?;
+    events.push(ProblemEvent::Call(call as u16))?;
+    add_return(later, call, made)
+}
+
+// The events of the calls in the order of their numbers.
+fn merged<P, R>(alloc: Global, calls: &[ProblemCall<P, R>]) -> Result<Vec<ProblemEvent>, AllocError>
+    requires timed { AreTimed calls.now }
+    requires few { length calls.now ≤ MAX_CALLS_ON_OBJECT }
+    ensures { IfOk result (λ events. (high : ℕ)
+        × AreMerged (events_from 0 calls.now) high events.items []) }
+{
+    let mut events = Vec::with_capacity(alloc, calls.len() * 2)?;
+    let mut later = BinaryHeap::new(alloc);
     for call in 0..calls.len() {
-        add_return(timed, call, &calls[call])?;
+        add_call(&mut later, call, &calls[call], &mut events)?;
     }
-    Ok(())
-}
-
-// Orders the events by their numbers. The sort takes the calls, which come first and are in order, as one run.
-fn sort_by_number(timed: &mut Vec<Timed>) -> Result<(), AllocError>
-    ensures sorted { OnOk result (IsNonDecreasingBy number_at timed.new.items) }
-    ensures permutation { IsPermutation timed.old.items timed.new.items }
-{
-    timed.sort_by_key(|one| one.number)?;
-    Ok(())
-}
-
-// The events without their numbers.
-fn without_numbers(alloc: Global, timed: &[Timed]) -> Result<Vec<ProblemEvent>, AllocError>
-    ensures { IfOk result (λ events. events.items ≡ map event_at timed.now) }
-{
-    timed.iter().map(|one| one.event).collect(alloc)
+    take_out_rest(&mut later, &mut events)?;
+    Ok(events)
 }
 
 impl<O: SeqObject> Problem<O> {
-    /// The call and return events in the order of their numbers. It sorts the returns and merges them with the calls, which are in
-    /// order: for n events it takes O(n log n). `AllocError` where memory was refused.
+    /// The call and return events in the order of their numbers. The calls are in order; the returns of calls that are open stand
+    /// in a heap. For n calls, of which c are open at once, it takes O(n log c). `AllocError` where memory was refused.
     pub fn timeline(&self, alloc: Global) -> Result<Vec<ProblemEvent>, AllocError>
         ensures { IfOk result (λ events. IsTimeline
             (problem_of O.after O.State.eq O.Reply.eq self.now) events.items) }
     {
-        let calls = self.calls();
-        let mut timed = call_events(alloc, calls)?;
-        add_returns(&mut timed, calls)?;
-        sort_by_number(&mut timed)?;
-        without_numbers(alloc, timed.as_slice())
+        merged(alloc, self.calls())
     }
 }
