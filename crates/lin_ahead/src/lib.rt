@@ -149,6 +149,7 @@ mod counters;
 mod first;
 mod in_vain;
 mod items;
+mod kept;
 mod look_ahead;
 mod mutexes;
 mod queues;

@@ -1,5 +1,6 @@
 //! Calls in an order in which a search is to lift them.
 
+use crate::kept::kept;
 use lin_object::SeqObject;
 use lin_search::Config;
 use std::alloc::{AllocError, Global};
@@ -8,20 +9,17 @@ use std::alloc::{AllocError, Global};
 // that could be passed over is not.
 #[derive(Drop)]
 pub(crate) struct CallsInTurn {
-    order: Vec<usize>,
-    places: Vec<usize>,
+    order: Vec<u16>,
+    places: Vec<u16>,
     first: usize,
 }
 
 // The place in the order of each of so many calls; one behind all, where a call has none.
-fn places_in(alloc: Global, order: &[usize], calls: usize) -> Result<Vec<usize>, AllocError> {
-    let mut places = Vec::with_capacity(alloc, calls)?;
-    for _ in 0..calls {
-        places.push(order.len())?;
-    }
+fn places_in(alloc: Global, order: &[u16], calls: usize) -> Result<Vec<u16>, AllocError> {
+    let mut places = vec![in alloc; kept(order.len()); calls]?;
     for place in 0..order.len() {
-        if let Some(slot) = places.get_mut(order[place]) {
-            *slot = place;
+        if let Some(slot) = places.get_mut(order[place] as usize) {
+            *slot = kept(place);
         }
     }
     Ok(places)
@@ -29,7 +27,7 @@ fn places_in(alloc: Global, order: &[usize], calls: usize) -> Result<Vec<usize>,
 
 impl CallsInTurn {
     // Those in the order, of so many calls, none of which is lifted.
-    pub(crate) fn new(alloc: Global, order: Vec<usize>, calls: usize) -> Result<Self, AllocError> {
+    pub(crate) fn new(alloc: Global, order: Vec<u16>, calls: usize) -> Result<Self, AllocError> {
         let places = places_in(alloc, order.as_slice(), calls)?;
         Ok(CallsInTurn {
             order,
@@ -41,7 +39,7 @@ impl CallsInTurn {
     // Goes on to the first call that the configuration does not have.
     pub(crate) fn lifted<O: SeqObject>(&mut self, config: &Config<O>) {
         for place in self.first..self.order.len() {
-            if !config.has(self.order[place]) {
+            if !config.has(self.order[place] as usize) {
                 self.first = place;
                 return;
             }
@@ -52,7 +50,7 @@ impl CallsInTurn {
     // Goes back to the call, which was taken out again.
     pub(crate) fn unlifted(&mut self, call: usize) {
         if let Some(place) = self.places.get(call) {
-            self.first = self.first.min(*place);
+            self.first = self.first.min(*place as usize);
         }
     }
 
@@ -63,6 +61,6 @@ impl CallsInTurn {
 
     // The call that is so many behind the first that is not lifted.
     pub(crate) fn ahead(&self, count: usize) -> Option<usize> {
-        self.order.get(self.first.saturating_add(count)).copied()
+        Some(*self.order.get(self.first.saturating_add(count))? as usize)
     }
 }

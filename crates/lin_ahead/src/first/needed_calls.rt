@@ -7,6 +7,7 @@ ghost use Rattle.lin_ahead.specs.Behind.{NeedsBehind, AreOtherNeeds};
 
 use crate::first::calls_in_turn::CallsInTurn;
 use crate::items::item_calls::BEYOND;
+use crate::kept::kept;
 use crate::sight::CALLS_IN_SIGHT;
 use lin_history::{NeedRows, Problem};
 use lin_object::SeqObject;
@@ -17,7 +18,7 @@ use std::alloc::{AllocError, Global};
 #[derive(Clone, Copy, Drop)]
 struct Needed {
     by: u64,
-    call: usize,
+    call: u16,
 }
 
 // The calls that may be needed, by these numbers, in the order of the numbers. Those that are not are left out, so that little
@@ -26,7 +27,10 @@ fn in_order(alloc: Global, by: &[u64]) -> Result<Vec<Needed>, AllocError> {
     let mut order = Vec::with_capacity(alloc, by.len())?;
     for call in 0..by.len() {
         if by[call] < BEYOND {
-            order.push(Needed { by: by[call], call })?;
+            order.push(Needed {
+                by: by[call],
+                call: kept(call),
+            })?;
         }
     }
     order.sort_by_key(|one| one.by)?;

@@ -4,6 +4,7 @@
 use crate::first::calls_in_turn::CallsInTurn;
 use crate::items::item_calls::BEYOND;
 use crate::items::late_pushes::{LateRows, popped_from};
+use crate::kept::kept;
 use lin_history::Problem;
 use lin_object::SeqObject;
 use lin_search::Config;
@@ -57,7 +58,7 @@ fn by_returns<O: SeqObject>(
 fn in_turn(alloc: Global, returned: &[Returned], calls: usize) -> Result<CallsInTurn, AllocError> {
     let mut order = Vec::with_capacity(alloc, returned.len())?;
     for one in returned {
-        order.push(one.call)?;
+        order.push(kept(one.call))?;
     }
     CallsInTurn::new(alloc, order, calls)
 }

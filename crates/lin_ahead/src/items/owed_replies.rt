@@ -6,6 +6,7 @@ ghost use Rattle.lin_ahead.specs.First.FirstProgress.{BeginsNone};
 ghost use Rattle.lin_ahead.specs.Items.Owed.{IsPendingAnswer, HasReply, IsOwed, AreOwed};
 
 use crate::first::calls_in_turn::CallsInTurn;
+use crate::kept::kept;
 use crate::sight::CALLS_IN_SIGHT;
 use lin_history::Problem;
 use lin_object::{SeqObject, lawful};
@@ -17,7 +18,7 @@ fn owed_in_turn(alloc: Global, owed: &[bool]) -> Result<CallsInTurn, AllocError>
     let mut order = Vec::new(alloc);
     for call in 0..owed.len() {
         if owed[call] {
-            order.push(call)?;
+            order.push(kept(call))?;
         }
     }
     CallsInTurn::new(alloc, order, owed.len())

@@ -7,6 +7,7 @@ use crate::items::each_item::told_of;
 use crate::items::item_calls::BEYOND;
 use crate::items::rows::ItemsAhead;
 use crate::items::takers::{After, Wanting, is_left};
+use crate::kept::kept;
 use crate::sight::{CALLS_IN_SIGHT, MORE_IN_SIGHT};
 use indexmap::IndexMap;
 use lin_history::ProblemCall;
@@ -314,7 +315,7 @@ fn by_returns(
     returned.sort_by_key(|one| one.event)?;
     let mut order = Vec::with_capacity(alloc, returned.len())?;
     for one in &returned {
-        order.push(one.call)?;
+        order.push(kept(one.call))?;
     }
     CallsInTurn::new(alloc, order, flags.len())
 }

@@ -13,6 +13,7 @@ ghost use Rattle.lin_laws.specs.InTurn.{AreInTurn};
 
 use crate::first::calls_in_turn::CallsInTurn;
 use crate::first::rules::Rules;
+use crate::kept::kept;
 use crate::mutexes::rows::MutexAhead;
 use crate::mutexes::sections::section_of;
 use lin_history::{Problem, ProblemCall};
@@ -105,7 +106,7 @@ impl MutexRules {
     ) -> Result<Self, AllocError> {
         let mut acquires = Vec::with_capacity(alloc, ahead.sections.len())?;
         for section in &ahead.sections {
-            acquires.push(section.acquire)?;
+            acquires.push(kept(section.acquire))?;
         }
         Ok(MutexRules {
             acquires: CallsInTurn::new(alloc, acquires, problem.len())?,

@@ -3,6 +3,7 @@
 
 use crate::first::calls_in_turn::CallsInTurn;
 use crate::items::calls::item_taken;
+use crate::kept::kept;
 use crate::queues::item_rows::{ItemRow, rows_by_call};
 use crate::queues::slots::SlotHints;
 use crate::sight::CALLS_IN_SIGHT;
@@ -126,7 +127,7 @@ impl InnerHints {
         } else {
             (rows, calls.len())
         };
-        let order: Vec<usize> = inner.iter().map(|one| one.call).collect(alloc)?;
+        let order: Vec<u16> = inner.iter().map(|one| kept(one.call)).collect(alloc)?;
         Ok(InnerHints {
             turn: CallsInTurn::new(alloc, order, count)?,
             rows: rows_by_call(alloc, calls, rows, false)?,

@@ -6,6 +6,7 @@ ghost use Rattle.indexmap.specs.IndexMap.{index_of};
 ghost use Rattle.lin_ahead.specs.Values.PossibleOwners.{breaks};
 ghost use Rattle.lin_ahead.specs.Values.Writers.{low_by, IsFinder, IsSince};
 
+use crate::kept::kept;
 use crate::sight::MORE_IN_SIGHT;
 use crate::values::shown_values::value_found;
 use crate::values::writers::low_of;
@@ -68,18 +69,18 @@ fn shown_by(call: &ProblemCall<Op, Reply>) -> Shown {
 pub(crate) fn others_before(
     alloc: Global,
     calls: &[ProblemCall<Op, Reply>],
-) -> Result<Vec<usize>, AllocError> {
+) -> Result<Vec<u16>, AllocError> {
     let mut others = Vec::with_capacity(alloc, calls.len())?;
     let mut value = None;
     let mut other = 0;
     let mut last = 0;
     for call in 0..calls.len() {
         match shown_by(&calls[call]) {
-            Shown::Nothing => others.push(call)?,
+            Shown::Nothing => others.push(kept(call))?,
             Shown::Change => {
                 value = None;
                 last = call + 1;
-                others.push(call)?;
+                others.push(kept(call))?;
             }
             Shown::Only(own) => {
                 if value != Some(own) {
@@ -87,7 +88,7 @@ pub(crate) fn others_before(
                     other = last;
                 }
                 last = call + 1;
-                others.push(other)?;
+                others.push(kept(other))?;
             }
         }
     }
@@ -160,7 +161,7 @@ fn broken_at(calls: &[ProblemCall<Op, Reply>], finder: &Finder, call: usize) -> 
 // was called by the event; 0 where there is none in sight. A hint.
 fn last_to_ask(
     calls: &[ProblemCall<Op, Reply>],
-    others: &[usize],
+    others: &[u16],
     finder: &Finder,
     next: usize,
     event: u64,
@@ -178,7 +179,7 @@ fn last_to_ask(
                 }
                 call
             } else {
-                others.get(call).copied().unwrap_or(0)
+                others.get(call).copied().unwrap_or(0) as usize
             },
             _ => return call,
         }
@@ -189,7 +190,7 @@ fn last_to_ask(
 // Looks on for a call that breaks the value which the finder found, as far as to the calls that were called by the event.
 fn look_further(
     calls: &[ProblemCall<Op, Reply>],
-    others: &[usize],
+    others: &[u16],
     finder: &Finder,
     next: usize,
     event: u64,
@@ -208,7 +209,7 @@ fn look_further(
 #[inline(always)]
 pub(crate) fn look_on(
     calls: &[ProblemCall<Op, Reply>],
-    others: &[usize],
+    others: &[u16],
     finder: &Finder,
     sought: Sought,
     event: u64,

@@ -1,52 +1,43 @@
 //! The completed calls that are not lifted, in the order of their returns. It is a hint.
 
-use crate::values::call_values::CallValues;
+use crate::kept::kept;
+use crate::values::call_values::{CallValues, returned_at};
 use std::alloc::{AllocError, Global};
 
 // A ring of the calls with a head behind all calls. A call that is taken out keeps its two neighbours, so that it can be put back,
 // last out first in. A pending call is its own neighbour.
 #[derive(Drop)]
 pub(crate) struct CallsLeft {
-    next: Vec<usize>,
-    last: Vec<usize>,
+    next: Vec<u16>,
+    last: Vec<u16>,
     head: usize,
 }
 
-// A call, and when it returned.
-#[derive(Clone, Copy, Drop)]
-struct Returned {
-    event: u64,
-    call: usize,
-}
-
 // The completed calls, in the order of their returns.
-fn by_returns(alloc: Global, calls: &[CallValues]) -> Result<Vec<Returned>, AllocError> {
+fn by_returns(alloc: Global, calls: &[CallValues]) -> Result<Vec<u16>, AllocError> {
     let mut returned = Vec::with_capacity(alloc, calls.len())?;
     for call in 0..calls.len() {
         if calls[call].is_completed() {
-            returned.push(Returned {
-                event: calls[call].returned,
-                call,
-            })?;
+            returned.push(kept(call))?;
         }
     }
-    returned.sort_by_key(|one| one.event)?;
+    returned.sort_by_key(|call| returned_at(calls, *call as usize))?;
     Ok(returned)
 }
 
 // So many numbers, from 0 on.
-fn numbers_to(alloc: Global, count: usize) -> Result<Vec<usize>, AllocError> {
+fn numbers_to(alloc: Global, count: usize) -> Result<Vec<u16>, AllocError> {
     let mut row = Vec::with_capacity(alloc, count)?;
     for number in 0..count {
-        row.push(number)?;
+        row.push(kept(number))?;
     }
     Ok(row)
 }
 
 // Writes the number at the place, if there is such a place.
-fn put(row: &mut Vec<usize>, place: usize, number: usize) {
+fn put(row: &mut Vec<u16>, place: usize, number: usize) {
     if let Some(slot) = row.get_mut(place) {
-        *slot = number;
+        *slot = kept(number);
     }
 }
 
@@ -61,8 +52,9 @@ impl CallsLeft {
         };
         let mut at = head;
         for one in &by_returns(alloc, calls)? {
-            left.join(at, one.call);
-            at = one.call;
+            let call = *one as usize;
+            left.join(at, call);
+            at = call;
         }
         left.join(at, head);
         Ok(left)
@@ -80,7 +72,7 @@ impl CallsLeft {
             self.last.get(call).copied(),
             self.next.get(call).copied(),
         ) {
-            self.join(last, next);
+            self.join(last as usize, next as usize);
         }
     }
 
@@ -90,14 +82,14 @@ impl CallsLeft {
             self.last.get(call).copied(),
             self.next.get(call).copied(),
         ) {
-            self.join(last, call);
-            self.join(call, next);
+            self.join(last as usize, call);
+            self.join(call, next as usize);
         }
     }
 
     // The call that returned next after this one.
     pub(crate) fn after(&self, call: usize) -> Option<usize> {
-        let next = *self.next.get(call)?;
+        let next = *self.next.get(call)? as usize;
         if next < self.head { Some(next) } else { None }
     }
 

@@ -1,8 +1,8 @@
 //! The calls that one call alone may own, its cluster, and which clusters cross once a call has changed the state. It is a hint.
 
-use crate::items::item_calls::BEYOND;
+use crate::kept::kept;
 use crate::sight::CALLS_IN_SIGHT;
-use crate::values::call_values::CallValues;
+use crate::values::call_values::{BEHIND_ALL, CallValues};
 use crate::values::due::Due;
 use crate::values::last_breaks::LastBreaks;
 use crate::values::owners::Owners;
@@ -11,35 +11,27 @@ use crate::values::taken_values::sole_owner;
 use std::alloc::{AllocError, Global};
 
 // How many events behind the first return of a call that is left they may be called.
-const EVENTS_AHEAD: u64 = 400;
+const EVENTS_AHEAD: u32 = 400;
 
 /// Calls that one call alone may own: the one that returned first, and the one that was called last.
 #[derive(Clone, Copy)]
 pub(crate) struct Cluster {
+    by: u32,
+    from: u32,
     /// The one call.
-    pub owner: usize,
+    pub owner: u16,
     /// The call that returned first.
-    pub first: usize,
-    by: u64,
+    pub first: u16,
     /// The call that was called last.
-    pub last: usize,
-    from: u64,
+    pub last: u16,
 }
 
 // A cluster by its place in the order of first returns, and another one: of those up to a place the two whose last call was called
 // last.
 #[derive(Clone, Copy)]
 struct Tops {
-    most: usize,
-    next: usize,
-}
-
-// A call that may write a value, and when it was called.
-#[derive(Clone, Copy)]
-struct Written {
-    value: i64,
-    called: u64,
-    call: usize,
+    most: u16,
+    next: u16,
 }
 
 /// The clusters of the calls whose owner is known, in the order of their first returns.
@@ -53,36 +45,38 @@ pub(crate) struct Clusters {
 #[derive(Drop)]
 pub(crate) struct Crossings {
     clusters: Clusters,
-    written: Vec<Written>,
+    // The calls that may write values, by their values, and of each in the order of their calls.
+    written: Vec<u16>,
     breaks: LastBreaks,
 }
 
 impl Cluster {
     // No call.
     fn none(owner: usize) -> Self {
+        let owner = kept(owner);
         Cluster {
+            by: BEHIND_ALL,
+            from: 0,
             owner,
             first: owner,
-            by: BEYOND,
             last: owner,
-            from: 0,
         }
     }
 
     // Whether there is a call.
     fn has_any(&self) -> bool {
-        self.by < BEYOND
+        self.by < BEHIND_ALL
     }
 
     /// With a completed call more.
     pub(crate) fn with(&self, call: usize, values: &CallValues) -> Self {
         let mut cluster = *self;
         if values.returned < cluster.by {
-            cluster.first = call;
+            cluster.first = kept(call);
             cluster.by = values.returned;
         }
         if values.called >= cluster.from {
-            cluster.last = call;
+            cluster.last = kept(call);
             cluster.from = values.called;
         }
         cluster
@@ -90,10 +84,10 @@ impl Cluster {
 
     /// With the owner itself; but it is not both the first call and the last.
     pub(crate) fn with_owner(&self, calls: &[CallValues]) -> Self {
-        let Some(values) = calls.get(self.owner) else {
+        let Some(values) = calls.get(self.owner as usize) else {
             return *self;
         };
-        let mut cluster = self.with(self.owner, values);
+        let mut cluster = self.with(self.owner as usize, values);
         if cluster.first == self.owner && cluster.last == self.owner {
             cluster.last = self.last;
             cluster.from = self.from;
@@ -140,8 +134,8 @@ fn clusters_in_order(
 }
 
 // When the last call of the cluster at the place was called.
-fn from_at(rows: &[Cluster], place: usize) -> u64 {
-    match rows.get(place) {
+fn from_at(rows: &[Cluster], place: u16) -> u32 {
+    match rows.get(place as usize) {
         Some(cluster) => cluster.from,
         None => 0,
     }
@@ -152,36 +146,44 @@ fn tops_of(alloc: Global, rows: &[Cluster]) -> Result<Vec<Tops>, AllocError> {
     let mut tops = Vec::with_capacity(alloc, rows.len())?;
     let mut top = Tops {
         most: 0,
-        next: rows.len(),
+        next: kept(rows.len()),
     };
     for place in 0..rows.len() {
         if place > 0 && rows[place].from > from_at(rows, top.most) {
             top = Tops {
-                most: place,
+                most: kept(place),
                 next: top.most,
             };
         } else if place > 0 && rows[place].from > from_at(rows, top.next) {
-            top.next = place;
+            top.next = kept(place);
         }
         tops.push(top)?;
     }
     Ok(tops)
 }
 
+// The value that the call may write.
+fn written_at(calls: &[CallValues], call: u16) -> Option<i64> {
+    calls.get(call as usize)?.written()
+}
+
+// When the call was called; 0 where there is no such call.
+fn called_at(calls: &[CallValues], call: u16) -> u32 {
+    match calls.get(call as usize) {
+        Some(values) => values.called,
+        None => 0,
+    }
+}
+
 // The calls that may write values, by their values, and of each in the order of their calls.
-fn written_by_value(alloc: Global, calls: &[CallValues]) -> Result<Vec<Written>, AllocError> {
+fn written_by_value(alloc: Global, calls: &[CallValues]) -> Result<Vec<u16>, AllocError> {
     let mut rows = Vec::new(alloc);
     for call in 0..calls.len() {
-        let called = calls[call].called;
-        if let Some(value) = calls[call].written {
-            rows.push(Written {
-                value,
-                called,
-                call,
-            })?;
+        if calls[call].writes() {
+            rows.push(kept(call))?;
         }
     }
-    rows.sort_by_key(|one| one.value)?;
+    rows.sort_by_key(|call| written_at(calls, *call).unwrap_or(0))?;
     Ok(rows)
 }
 
@@ -219,50 +221,51 @@ impl Clusters {
     }
 
     /// Of the clusters of other owners whose first call returned before the event, the one whose last call was called last.
-    pub(crate) fn other_before(&self, event: u64, owner: usize) -> Option<Cluster> {
+    pub(crate) fn other_before(&self, event: u32, owner: usize) -> Option<Cluster> {
         let count = self.rows.as_slice().partition_point(|one| one.by < event);
         let top = *self.tops.get(count.checked_sub(1)?)?;
-        let most = *self.rows.get(top.most)?;
-        if most.owner != owner {
+        let most = *self.rows.get(top.most as usize)?;
+        if most.owner as usize != owner {
             Some(most)
         } else {
-            self.rows.get(top.next).copied()
+            self.rows.get(top.next as usize).copied()
         }
     }
 
     /// A cluster that crosses this one.
     pub(crate) fn crossing(&self, cluster: &Cluster) -> Option<Crossing> {
-        let other = self.other_before(cluster.from, cluster.owner)?;
+        let other = self.other_before(cluster.from, cluster.owner as usize)?;
         if other.from <= cluster.by {
             return None;
         }
         Some(Crossing {
-            writer: cluster.owner,
-            first: cluster.first,
-            last: cluster.last,
-            other: other.owner,
-            early: other.last,
-            late: other.first,
+            writer: cluster.owner as usize,
+            first: cluster.first as usize,
+            last: cluster.last as usize,
+            other: other.owner as usize,
+            early: other.last as usize,
+            late: other.first as usize,
         })
     }
 }
 
 /// A call that comes between the first of the cluster and the last of those left to the owner, and does not leave the value.
 pub(crate) fn parting_of(
+    calls: &[CallValues],
     breaks: &LastBreaks,
     value: i64,
     cluster: &Cluster,
     left: &Cluster,
 ) -> Option<Parting> {
-    let between = breaks.last_before(left.from, value)?;
-    if between.called <= cluster.by {
+    let between = breaks.last_before(calls, left.from, value)?;
+    if calls.get(between)?.called <= cluster.by {
         return None;
     }
     Some(Parting {
-        writer: cluster.owner,
-        first: cluster.first,
-        last: left.last,
-        between: between.call,
+        writer: cluster.owner as usize,
+        first: cluster.first as usize,
+        last: left.last as usize,
+        between,
     })
 }
 
@@ -296,9 +299,14 @@ impl Crossings {
     }
 
     // Where the calls that write the value and are called later than this event begin.
-    fn end_of(&self, value: i64, event: u64) -> usize {
-        self.written.as_slice().partition_point(|one| one.value < value
-            || (one.value == value && one.called <= event))
+    fn end_of(&self, calls: &[CallValues], value: i64, event: u32) -> usize {
+        self.written
+            .as_slice()
+            .partition_point(|call| match written_at(calls, *call) {
+                Some(written) => written < value
+                    || (written == value && called_at(calls, *call) <= event),
+                None => false,
+            })
     }
 
     // How calls that are left to the writer alone would be stranded.
@@ -317,7 +325,7 @@ impl Crossings {
         let cluster = left.with_owner(calls);
         match self.clusters.crossing(&cluster) {
             Some(crossing) => Some(Stranded::Crossed(crossing)),
-            None => match parting_of(&self.breaks, value, &cluster, &left) {
+            None => match parting_of(calls, &self.breaks, value, &cluster, &left) {
                 Some(parting) => Some(Stranded::Parted(parting)),
                 None => None,
             },
@@ -334,14 +342,15 @@ impl Crossings {
     ) -> Option<Stranded> {
         let first = due.first_left()?;
         let event = calls.get(first)?.returned.saturating_add(EVENTS_AHEAD);
-        let end = self.end_of(value, event);
+        let end = self.end_of(calls, value, event);
         for place in (end.saturating_sub(CALLS_IN_SIGHT)..end).rev() {
-            let written = self.written.get(place)?;
-            if written.value != value {
+            let writer = *self.written.get(place)?;
+            if written_at(calls, writer) != Some(value) {
                 return None;
             }
-            if written.call != call && !due.has(written.call) {
-                let stranded = self.stranded_by(calls, due, call, value, written.call);
+            let writer = writer as usize;
+            if writer != call && !due.has(writer) {
+                let stranded = self.stranded_by(calls, due, call, value, writer);
                 if stranded.is_some() {
                     return stranded;
                 }

@@ -1,6 +1,7 @@
 //! Which calls are due: completed calls that are not lifted, while all calls of which one wrote what they found are. All of it is
 //! a hint.
 
+use crate::kept::kept;
 use crate::sight::CALLS_IN_SIGHT;
 use crate::values::call_values::CallValues;
 use crate::values::calls_left::CallsLeft;
@@ -9,27 +10,30 @@ use std::alloc::{AllocError, Global};
 use std::ops::Range;
 
 // So many owners of a call are never all lifted: those of a call are not known.
-const NEVER: usize = usize::MAX;
+const NEVER: u8 = u8::MAX;
 
 // For each call how many of its owners are not lifted, and the calls that it may own.
 #[derive(Drop)]
 pub(crate) struct Due {
-    // How many owners of each call are not lifted.
-    left: Vec<usize>,
+    // How many owners of each call are not lifted: it has no more than 64.
+    left: Vec<u8>,
     // The calls that each call may own, one after another, and for each call where they begin; the end of all is behind that.
-    owned: Vec<usize>,
-    begins: Vec<usize>,
+    owned: Vec<u16>,
+    begins: Vec<u32>,
     is_lifted: Vec<bool>,
     // The calls all of whose owners are lifted, in the order in which that came about, and how many of them are not lifted.
-    due: Vec<usize>,
+    due: Vec<u16>,
     count: usize,
     calls_left: CallsLeft,
 }
 
 // How many owners the call has.
-fn owners_of(calls: &[CallValues], owners: &[Owners], call: usize) -> usize {
+fn owners_of(calls: &[CallValues], owners: &[Owners], call: usize) -> u8 {
     match (calls.get(call), owners.get(call)) {
-        (Some(values), Some(row)) if row.are_told && values.is_completed() => row.calls.len(),
+        (Some(values), Some(row)) if row.are_told && values.is_completed() => usize::min(
+            row.calls.len(),
+            NEVER as usize,
+        ) as u8,
         _ => NEVER,
     }
 }
@@ -39,7 +43,7 @@ fn owners_of_calls(
     alloc: Global,
     calls: &[CallValues],
     owners: &[Owners],
-) -> Result<Vec<usize>, AllocError> {
+) -> Result<Vec<u8>, AllocError> {
     let mut row = Vec::with_capacity(alloc, calls.len())?;
     for call in 0..calls.len() {
         row.push(owners_of(calls, owners, call))?;
@@ -48,8 +52,8 @@ fn owners_of_calls(
 }
 
 // How many calls each of so many calls may own, one place further on.
-fn owned_counts(alloc: Global, owners: &[Owners], calls: usize) -> Result<Vec<usize>, AllocError> {
-    let mut counts = vec![in alloc; 0usize; calls.saturating_add(2)]?;
+fn owned_counts(alloc: Global, owners: &[Owners], calls: usize) -> Result<Vec<u32>, AllocError> {
+    let mut counts = vec![in alloc; 0u32; calls.saturating_add(2)]?;
     for row in owners {
         for owner in row.calls.as_slice() {
             if let Some(slot) = counts.get_mut(owner.saturating_add(2)) {
@@ -61,8 +65,8 @@ fn owned_counts(alloc: Global, owners: &[Owners], calls: usize) -> Result<Vec<us
 }
 
 // Makes sums of the numbers up to each.
-fn sum_up(row: &mut Vec<usize>) {
-    let mut sum: usize = 0;
+fn sum_up(row: &mut Vec<u32>) {
+    let mut sum: u32 = 0;
     for slot in row.iter_mut() {
         sum = sum.saturating_add(*slot);
         *slot = sum;
@@ -70,10 +74,10 @@ fn sum_up(row: &mut Vec<usize>) {
 }
 
 // Writes the call behind those that the owner was found to own so far, and notes that there is one more.
-fn add_owned(owned: &mut Vec<usize>, ends: &mut Vec<usize>, owner: usize, call: usize) {
+fn add_owned(owned: &mut Vec<u16>, ends: &mut Vec<u32>, owner: usize, call: usize) {
     if let Some(end) = ends.get_mut(owner.saturating_add(1)) {
-        if let Some(slot) = owned.get_mut(*end) {
-            *slot = call;
+        if let Some(slot) = owned.get_mut(*end as usize) {
+            *slot = kept(call);
         }
         *end = end.saturating_add(1);
     }
@@ -88,8 +92,8 @@ impl Due {
     ) -> Result<Self, AllocError> {
         let mut begins = owned_counts(alloc, owners, calls.len())?;
         sum_up(&mut begins);
-        let all = begins.last().copied().unwrap_or(0);
-        let mut owned = vec![in alloc; 0usize; all]?;
+        let all = begins.last().copied().unwrap_or(0) as usize;
+        let mut owned = vec![in alloc; 0u16; all]?;
         for call in 0..owners.len() {
             for owner in owners[call].calls.as_slice() {
                 add_owned(&mut owned, &mut begins, *owner, call);
@@ -130,7 +134,7 @@ impl Due {
 
     // Where those begin that the call may own.
     fn begin_of(&self, call: usize) -> usize {
-        self.begins.get(call).copied().unwrap_or(0)
+        self.begins.get(call).copied().unwrap_or(0) as usize
     }
 
     /// The places of the calls that the call may own.
@@ -145,7 +149,7 @@ impl Due {
 
     // Notes that all owners of the call are lifted.
     fn add(&mut self, call: usize) -> Result<(), AllocError> {
-        self.due.push(call)?;
+        self.due.push(kept(call))?;
         if !self.has(call) {
             self.count = self.count.saturating_add(1);
         }
@@ -160,9 +164,14 @@ impl Due {
         }
     }
 
+    // The call at the place.
+    fn owned_at(&self, place: usize) -> Option<usize> {
+        Some(*self.owned.get(place)? as usize)
+    }
+
     // Notes of the call at the place that one of its owners more is lifted.
     fn owner_lifted(&mut self, place: usize) -> Result<(), AllocError> {
-        let Some(call) = self.owned.get(place).copied() else {
+        let Some(call) = self.owned_at(place) else {
             return Ok(());
         };
         if let Some(left) = self.left.get_mut(call) {
@@ -176,7 +185,7 @@ impl Due {
 
     // Takes that note back.
     fn owner_unlifted(&mut self, place: usize) {
-        let Some(call) = self.owned.get(place).copied() else {
+        let Some(call) = self.owned_at(place) else {
             return;
         };
         if self.has_all_owners(call) {
@@ -233,7 +242,7 @@ impl Due {
         for place in 0..CALLS_IN_SIGHT {
             let other = *self
                 .due
-                .get(self.due.len().checked_sub(place.saturating_add(1))?)?;
+                .get(self.due.len().checked_sub(place.saturating_add(1))?)? as usize;
             if other != call && !self.has(other) {
                 return Some(other);
             }
@@ -243,7 +252,7 @@ impl Due {
 
     /// The call at the place that the call may own, where it will be due once the call is lifted.
     pub(crate) fn due_behind(&self, place: usize, call: usize) -> Option<usize> {
-        let owned = *self.owned.get(place)?;
+        let owned = self.owned_at(place)?;
         let left = *self.left.get(owned)?;
         if left == 1 && owned != call && !self.has(owned) {
             Some(owned)
@@ -288,7 +297,7 @@ impl Due {
     // returned before that, and does not leave the value that is there then.
     pub(crate) fn between(&self, calls: &[CallValues], call: usize) -> Option<(usize, usize)> {
         let last = self.last_behind(call)?;
-        let value = calls.get(call)?.written?;
+        let value = calls.get(call)?.written()?;
         let called = calls.get(last)?.called;
         let mut at = self.calls_left.first()?;
         for _ in 0..calls.len() {

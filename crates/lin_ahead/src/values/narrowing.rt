@@ -185,7 +185,13 @@ impl<'a> Hints<'a> {
     // A call that may part it.
     fn parting(&self, writer: usize, call: usize, value: i64) -> Option<Parting> {
         let left = self.cluster_with(writer, call)?;
-        parting_of(self.breaks, value, &left.with_owner(self.values), &left)
+        parting_of(
+            self.values,
+            self.breaks,
+            value,
+            &left.with_owner(self.values),
+            &left,
+        )
     }
 
     // A cluster of which a call returned before this one was called.
@@ -261,13 +267,15 @@ fn is_past_start(
     let Some(cluster) = hints.cluster_before(call) else {
         return false;
     };
-    if !is_forced(rows, cluster.owner, cluster.last) {
+    let owner = cluster.owner as usize;
+    let first = cluster.first as usize;
+    if !is_forced(rows, owner, cluster.last as usize) {
         return false;
     }
-    if !is_of_cluster(rows, cluster.owner, cluster.first) {
+    if !is_of_cluster(rows, owner, first) {
         return false;
     }
-    returned_before(calls, cluster.first, call)
+    returned_before(calls, first, call)
 }
 
 // Whether the start is still an owner of the call.

@@ -85,8 +85,8 @@ pub(crate) fn told_of_register(
     ensures { IfOk result (IsToldOfRegister start.now calls.now) }
 {
     let shown = values_of_calls(alloc, calls)?;
-    let values = values_of_each(alloc, calls)?;
     let mut owners = owners_of_each(alloc, *start, &shown, calls)?;
+    let values = values_of_each(alloc, calls)?;
     narrow(alloc, calls, values.as_slice(), &mut owners)?;
     let rows = owners.as_slice();
     let row = cluster_numbers(alloc, calls, rows)?;

@@ -92,7 +92,7 @@ impl<'a> Rules<AnyObject> for ValueRules<'a> {
     fn looks_at_next(&self, _config: &Config<AnyObject>, call: usize) -> bool {
         let values = self.ahead.values.as_slice();
         match values.get(call) {
-            Some(one) if one.written.is_some() => self.crossings.are_told()
+            Some(one) if one.writes() => self.crossings.are_told()
                 || self.due.has_another(call)
                 || self.due.may_forbid(values, call),
             _ => false,

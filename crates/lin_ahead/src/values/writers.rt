@@ -9,6 +9,7 @@ ghost use Rattle.lin_ahead.specs.Values.Writers.{IsRun, AreRuns};
 ghost use Rattle.lin_ahead.specs.Values.Writers.{low_at, low_by, returned_or_beyond, HaveAllRows, AreInOrder, NoneLater, AreUnder};
 
 use crate::items::item_calls::BEYOND;
+use crate::kept::kept;
 use crate::sight::CALLS_IN_SIGHT;
 use crate::values::breaking_calls::others_before;
 use crate::values::shown_values::value_written;
@@ -47,9 +48,9 @@ pub(crate) struct Writers {
     /// For each value of the map from which key on its rows stand.
     pub lows: Vec<u64>,
     /// For each call one more than the last call before it that may break a value which this one does not break. A hint.
-    pub others: Vec<usize>,
+    pub others: Vec<u16>,
     // For each number of a value the place behind the last of its rows. A hint.
-    ends: Vec<usize>,
+    ends: Vec<u16>,
     /// For each row how many calls up to its own may write its value, as far as they are counted.
     pub runs: Vec<usize>,
 }
@@ -281,11 +282,11 @@ fn number_of(key: u64) -> usize {
 }
 
 // For each of so many numbers the place behind the last of its rows. It is 0 for the number 0, which values without rows have.
-fn ends_of_values(alloc: Global, rows: &[Writer], count: usize) -> Result<Vec<usize>, AllocError> {
-    let mut ends = vec![in alloc; 0usize; count]?;
+fn ends_of_values(alloc: Global, rows: &[Writer], count: usize) -> Result<Vec<u16>, AllocError> {
+    let mut ends = vec![in alloc; 0u16; count]?;
     for place in 0..rows.len() {
         if let Some(slot) = ends.get_mut(number_of(rows[place].key)) {
-            *slot = place + 1;
+            *slot = kept(place + 1);
         }
     }
     Ok(ends)
@@ -316,6 +317,11 @@ impl Writers {
         })
     }
 
+    // The place behind the last row of the value whose rows stand from this key on. A hint.
+    fn end_of(&self, low: u64) -> usize {
+        self.ends.get(number_of(low)).copied().unwrap_or(0) as usize
+    }
+
     /// Whether more calls than are told of may write the value whose rows stand from this key on.
     pub(crate) fn are_too_many(
         &self,
@@ -326,7 +332,7 @@ impl Writers {
         requires { AreRuns calls.now self.now.rows.items self.now.runs.items }
         ensures { IsTrue result → AreTooMany calls.now value }
     {
-        let end = self.ends.get(number_of(low)).copied().unwrap_or(0);
+        let end = self.end_of(low);
         let place = end.saturating_sub(1);
         is_long(
             calls,
@@ -339,7 +345,7 @@ impl Writers {
 
     // Where the rows with greater keys begin, of those of the value whose rows stand from this key on. A hint.
     fn likely_end(&self, low: u64, high: u64) -> usize {
-        let end = self.ends.get(number_of(low)).copied().unwrap_or(0);
+        let end = self.end_of(low);
         match self.rows.get(end.saturating_sub(ROWS_AT_HAND)) {
             Some(row) if row.key > high => self
                 .rows
