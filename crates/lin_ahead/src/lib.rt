@@ -1,7 +1,7 @@
 //! What the calls of a problem show before any search, by the kind of its object, and a first search that goes by it (this project's
 //! own).
 //!
-//! - `sight`: how far hints look.
+//! - `sight`: how far hints look; `kept`: how they keep the numbers of calls.
 //! - `look_ahead`: what is known ahead of a problem; `search_by_kind`: a first search by the rules of its kind; `in_vain`: what shows by
 //!   itself that there is no linearization.
 //! - `first`: the search itself, which knows no kind, and what rules of several kinds share.

@@ -16,7 +16,7 @@ use std::alloc::{AllocError, Global};
 
 /// Between which two heights a completed `get` leaves room for calls that need not come before it. A height is a number counted
 /// in a direction from 2^63 the other way, so that none is negative.
-#[derive(Clone, Copy, Debug)]
+#[derive(Clone, Copy)]
 pub struct SumLimit {
     /// The height at the start, with what all calls add in the direction that returned before this one was called.
     pub least: u128,
@@ -25,7 +25,7 @@ pub struct SumLimit {
 }
 
 /// What is known before any search of each call on a counter, upwards and downwards: the limit of a completed `get`.
-#[derive(Debug, Drop)]
+#[derive(Drop)]
 pub struct SumRows {
     /// Upwards.
     pub up: Vec<Option<SumLimit>>,

@@ -15,7 +15,7 @@ use lin_object::{SeqObject, lawful};
 use lin_search::Config;
 
 /// What is known ahead of each call on a stack or a queue, by which a search finds pushes or enqueues that are too late.
-#[derive(Debug, Drop)]
+#[derive(Drop)]
 pub struct LateRows {
     /// Of a push or an enqueue: the call that takes its item was called at this event or later. 0 of another call.
     pub from: Vec<u64>,
