@@ -220,15 +220,20 @@ impl Clusters {
         })
     }
 
+    // The cluster at the place.
+    fn at(&self, place: u16) -> Option<Cluster> {
+        self.rows.get(place as usize).copied()
+    }
+
     /// Of the clusters of other owners whose first call returned before the event, the one whose last call was called last.
     pub(crate) fn other_before(&self, event: u32, owner: usize) -> Option<Cluster> {
         let count = self.rows.as_slice().partition_point(|one| one.by < event);
         let top = *self.tops.get(count.checked_sub(1)?)?;
-        let most = *self.rows.get(top.most as usize)?;
-        if most.owner as usize != owner {
+        let most = self.at(top.most)?;
+        if most.owner != kept(owner) {
             Some(most)
         } else {
-            self.rows.get(top.next as usize).copied()
+            self.at(top.next)
         }
     }
 
